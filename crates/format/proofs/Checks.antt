@@ -1,0 +1,55 @@
+-- Laws of choices and of lists of checks. Assumes nothing.
+use mathlib.Core.Path.{_≡_, refl}
+use Prim.Native.Nat.{ℕ, zero, suc}
+use native.Mathlib.Omega.{arith}
+use mathlib.Core.Bool.{Bool, true, false}
+use mathlib.Core.List.{List, [], _∷_, _++_}
+use lib.ListN.{getD}
+use lib.Dec.{eqb}
+use borrow.Author.Tests.{eqb-true, eqb-false}
+use Rattle.format.specs.Bytes.{pick, first}
+
+-- ---- choices
+
+-- the one that it cannot have been was not taken
+pub not-first : {A : Type 0} (t : Bool) (x y z : A) → pick t x y ≡ z → (x ≡ z → ⊥) → (t ≡ false) × (y ≡ z)
+not-first true x y z e h = absurd (h e)
+not-first false x y z e h = (refl, e)
+
+pub not-second : {A : Type 0} (t : Bool) (x y z : A) → pick t x y ≡ z → (y ≡ z → ⊥) → (t ≡ true) × (x ≡ z)
+not-second true x y z e h = (refl, e)
+not-second false x y z e h = absurd (h e)
+
+-- ---- checks
+
+-- a check that gives its number where a test holds, or where it fails, was passed
+pub none-refused : (t : Bool) (k : ℕ) → pick t (suc k) 0 ≡ 0 → t ≡ false
+none-refused true k e = absurd (omega arith)
+none-refused false k e = refl
+
+pub none-else : (t : Bool) (k : ℕ) → pick t 0 (suc k) ≡ 0 → t ≡ true
+none-else true k e = refl
+none-else false k e = absurd (omega arith)
+
+first-on : (k : ℕ) (l : List ℕ) (t : Bool) → eqb k 0 ≡ t → pick t (first l) k ≡ 0 → (k ≡ 0) × (first l ≡ 0)
+first-on k l true h e = (eqb-true k 0 h, e)
+first-on k l false h e = absurd (eqb-false k 0 h e)
+
+-- a list of checks that gives no number: the first passes, and so do the rest
+pub first-none : (k : ℕ) (l : List ℕ) → first (k ∷ l) ≡ 0 → (k ≡ 0) × (first l ≡ 0)
+unfolding first
+first-none k l e = first-on k l (eqb k 0) refl e
+
+pub none-of : (l : List ℕ) → first l ≡ 0 → (i : ℕ) → getD l i 0 ≡ 0
+none-of [] e i = refl
+none-of (k ∷ l) e zero = first-none k l e .0
+none-of (k ∷ l) e (suc i) = none-of l (first-none k l e .1) i
+
+-- two lists of checks, one after the other
+pub first-append : (a b : List ℕ) → first (a ++ b) ≡ 0 → (first a ≡ 0) × (first b ≡ 0)
+unfolding first
+first-append [] b e = (refl, e)
+first-append (k ∷ a) b e =
+    let h = first-none k (a ++ b) e in
+    let t = first-append a b (h .1) in
+    (rw (h .0) (t .0), t .1)

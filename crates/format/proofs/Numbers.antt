@@ -1,0 +1,87 @@
+-- Laws of numbers as digits, over any base. Assumes nothing.
+use mathlib.Core.Path.{_≡_, refl, sym, ap, _∙_, subst}
+use Prim.Native.Nat.{ℕ, zero, suc, _+_, _*_, _/_, _%_, _^_, _≤_, _<_}
+use native.Mathlib.Nat.{zero-add, zero-mul, mul-one, add-mul, mul-assoc, pow-zero, pow-succ', mod-lt, mod-one, mod-eq-of-lt, one-le-pow}
+use native.Mathlib.Omega.{arith}
+use mathlib.Core.List.{List, [], _∷_, _++_}
+use lib.Arith.{mod-mul}
+use lib.Bits.{bitOr, or-shifted}
+use lib.ListN.{length, getD}
+use Rattle.format.specs.Numbers.{digits, onto, number, bytesOf, synchsafe, synchsafeRefusal, fromSynchsafe}
+
+-- ---- worked cases
+
+-- document 01, "Numbers and bytes": bit 7 is not cleared
+one-ff : fromSynchsafe (0x00 ∷ 0x00 ∷ 0x01 ∷ 0xFF ∷ []) ≡ 255
+one-ff = refl
+
+all-ff : fromSynchsafe (0xFF ∷ 0xFF ∷ 0xFF ∷ 0xFF ∷ []) ≡ 0x1FFFFFFF
+all-ff = refl
+
+too-large : synchsafeRefusal 268435456 ≡ 24
+too-large = refl
+
+-- 2.3.0, section 3.1: a tag of 257 bytes
+of-257 : fromSynchsafe (0x00 ∷ 0x00 ∷ 0x02 ∷ 0x01 ∷ []) ≡ 257
+of-257 = refl
+
+-- ---- digits
+
+pub length-digits : (base k n : ℕ) → length (digits base k n) ≡ k
+unfolding digits
+length-digits base zero n = refl
+length-digits base (suc k) n = ap suc (length-digits base k n)
+
+module _ (base : ℕ) (pos : 0 < base) where
+  -- each digit is below the base
+  pub digit-below : (k n i : ℕ) → getD (digits base k n) i 0 < base
+  unfolding digits
+  digit-below zero n i = pos
+  digit-below (suc k) n zero = mod-lt (n / base ^ k) pos
+  digit-below (suc k) n (suc i) = digit-below k n i
+
+  -- digits read back, behind what was read before
+  pub onto-digits : (a k n : ℕ) → onto base a (digits base k n) ≡ a * base ^ k + n % base ^ k
+  unfolding onto digits
+  onto-digits a zero n = rw pow-zero (omega (arith, mod-one n))
+  onto-digits a (suc k) n =
+      let p : ℕ = base ^ k in
+      let d : ℕ = n / p % base in
+      let m : n % (base * p) ≡ d * p + n % p = mod-mul n {m = base} {c = p} pos (one-le-pow k base pos) in
+      onto-digits (a * base + d) k n
+      ∙ omega (arith, m, add-mul (a * base) d p, mul-assoc a base p)
+      ∙ ap (λ (x : ℕ). a * x + n % x) (sym (pow-succ' base k))
+
+  pub digits-back : (k n : ℕ) → n < base ^ k → onto base 0 (digits base k n) ≡ n
+  digits-back k n h =
+      let z : 0 * base ^ k ≡ 0 = zero-mul (base ^ k) in
+      onto-digits 0 k n ∙ omega (arith, z, mod-eq-of-lt h)
+
+-- a plain number of k bytes
+pub number-back : (k n : ℕ) → n < 256 ^ k → number (bytesOf k n) ≡ n
+number-back k n h = digits-back 256 (omega arith) k n h
+
+-- ---- synchsafe numbers
+
+-- where no byte has bit 7, or is a sum
+or-sum : (a b c d : ℕ) → b < 128 → c < 128 → d < 128 → bitOr (bitOr (bitOr (a * 2 ^ 21) (b * 2 ^ 14)) (c * 2 ^ 7)) d ≡ ((a * 128 + b) * 128 + c) * 128 + d
+or-sum a b c d hb hc hd =
+    let one : bitOr (a * 2 ^ 21) (b * 2 ^ 14) ≡ (a * 128 + b) * 2 ^ 14 = or-shifted a 21 (b * 2 ^ 14) (omega arith) ∙ omega arith in
+    let two : bitOr ((a * 128 + b) * 2 ^ 14) (c * 2 ^ 7) ≡ ((a * 128 + b) * 128 + c) * 2 ^ 7 =
+    or-shifted (a * 128 + b) 14 (c * 2 ^ 7) (omega arith) ∙ omega arith in
+    ap (λ (x : ℕ). bitOr (bitOr x (c * 2 ^ 7)) d) one
+    ∙ ap (λ (x : ℕ). bitOr x d) two
+    ∙ or-shifted ((a * 128 + b) * 128 + c) 7 d hd
+
+-- every byte of a synchsafe number is below 128
+pub synchsafe-below : (n i : ℕ) → getD (synchsafe n) i 0 < 128
+synchsafe-below n i = digit-below 128 (omega arith) 4 n i
+
+-- decoding what was encoded, below 2^28
+pub synchsafe-back : (n : ℕ) → n < 2 ^ 28 → fromSynchsafe (synchsafe n) ≡ n
+unfolding digits onto
+synchsafe-back n h =
+    let digit : ℕ → ℕ = λ i. getD (synchsafe n) i 0 in
+    let below = synchsafe-below n in
+    let e : onto 128 0 (synchsafe n) ≡ n = digits-back 128 (omega arith) 4 n h in
+    or-sum (digit 0) (digit 1) (digit 2) (digit 3) (below 1) (below 2) (below 3) ∙ omega (arith, e)

@@ -1,0 +1,148 @@
+-- Laws of unsynchronising and resynchronising. Assumes nothing.
+use mathlib.Core.Path.{_≡_, refl, sym, ap, _∙_}
+use Prim.Native.Nat.{ℕ, zero, suc, _+_, _*_, _≤_, _<_}
+use native.Mathlib.Omega.{arith}
+use mathlib.Core.Bool.{Bool, true, false, not, _&&_, _||_}
+use mathlib.Core.List.{List, [], _∷_, _++_, append-nil}
+use lib.ListN.{length, getD}
+use lib.Dec.{eqb, leb}
+use borrow.Author.Tests.{eqb-true, leb-true, leb-false}
+use Rattle.lists.proofs.Bools.{false-not-true, or-false}
+use Rattle.format.specs.Bytes.{onlyIf, zeros}
+use Rattle.format.specs.Unsynch.{resync, resynchronised, guards, unsync, unsynchronised, isOn, NoSync}
+use Rattle.format.specs.declared.Mode.{Mode}
+use Rattle.format.specs.declared.Mode.the-variants.{Off, Crate, Standard}
+
+-- whether the last byte is FF; of no bytes, what was before
+unfoldable pub endsFF : Bool → List ℕ → Bool
+endsFF prev [] = prev
+endsFF prev (x ∷ s) = endsFF (eqb x 255) s
+
+-- ---- there and back
+
+module _ (guard : ℕ → Bool) (zero-guarded : guard 0 ≡ true) where
+  -- one byte: a zero that was put in goes, and a zero that was there stays
+  one : (prev g z : Bool) (x : ℕ) (s more : List ℕ) → guard x ≡ g → eqb x 0 ≡ z
+      → resync prev (onlyIf (prev && guard x) 0 (x ∷ s) ++ more) ≡ x ∷ resync (eqb x 255) (s ++ more)
+  unfolding resync
+  one false g z x s more eg ez = refl
+  one true true z x s more eg ez = rw eg
+  one true false true x s more eg ez = let e : x ≡ 0 = eqb-true x 0 ez in cc
+  one true false false x s more eg ez = rw (eg, ez)
+
+  unsynced : (prev : Bool) (s more : List ℕ) → resync prev (unsync guard prev s ++ more) ≡ s ++ resync (endsFF prev s) more
+  unfolding unsync endsFF resync
+  unsynced prev [] more = refl
+  unsynced prev (x ∷ s) more =
+      one prev (guard x) (eqb x 0) x (unsync guard (eqb x 255) s) more refl refl
+      ∙ ap {B = List ℕ} (λ (l : List ℕ). x ∷ l) (unsynced (eqb x 255) s more)
+
+-- Resynchronising what was unsynchronised gives the bytes back, with more bytes behind them.
+pub back-with-more : (m : Mode) → isOn m ≡ true → (prev : Bool) (s more : List ℕ)
+    → resync prev (unsync (guards m) prev s ++ more) ≡ s ++ resync (endsFF prev s) more
+back-with-more Off on prev s more = absurd (false-not-true on)
+back-with-more Crate on prev s more = unsynced (guards Crate) refl prev s more
+back-with-more Standard on prev s more = unsynced (guards Standard) refl prev s more
+
+pub back : (m : Mode) → isOn m ≡ true → (s : List ℕ) → resynchronised (unsynchronised m s) ≡ s
+unfolding resync
+back m on s = ap (resync false) (sym (append-nil (unsynchronised m s))) ∙ back-with-more m on false s [] ∙ append-nil s
+
+-- ---- lengths
+
+only-if-le : (t : Bool) (x n : ℕ) (l : List ℕ) → length l ≤ n → length (onlyIf t x l) ≤ suc n
+only-if-le true x n l h = omega arith
+only-if-le false x n l h = omega arith
+
+pub resync-shorter : (prev : Bool) (s : List ℕ) → length (resync prev s) ≤ length s
+unfolding resync
+resync-shorter prev [] = omega arith
+resync-shorter prev (x ∷ s) = only-if-le (not (prev && eqb x 0)) x (length s) (resync (eqb x 255) s) (resync-shorter (eqb x 255) s)
+
+only-if-longer : (t : Bool) (x : ℕ) (l : List ℕ) → length l ≤ length (onlyIf t x l)
+only-if-longer true x l = omega arith
+only-if-longer false x l = omega arith
+
+pub unsync-longer : (guard : ℕ → Bool) (prev : Bool) (s : List ℕ) → length s ≤ length (unsync guard prev s)
+unfolding unsync
+unsync-longer guard prev [] = omega arith
+unsync-longer guard prev (x ∷ s) =
+    omega (arith, unsync-longer guard (eqb x 255) s, only-if-longer (prev && guard x) 0 (x ∷ unsync guard (eqb x 255) s))
+
+doubled : (guard : ℕ → Bool) (prev : Bool) (s : List ℕ) → length (unsync guard prev s) ≤ 2 * length s
+unfolding unsync
+doubled guard prev [] = omega arith
+doubled guard prev (x ∷ s) =
+    let u = unsync guard (eqb x 255) s in
+    omega (arith, doubled guard (eqb x 255) s, only-if-le (prev && guard x) 0 (length (x ∷ u)) (x ∷ u) (omega arith))
+
+-- for n at least 1 at most 2n-1 bytes
+pub unsync-length : (m : Mode) (s : List ℕ) → 1 ≤ length s → length (unsynchronised m s) + 1 ≤ 2 * length s
+unfolding unsync
+unsync-length m [] h = absurd (omega arith)
+unsync-length m (x ∷ s) h = omega (arith, doubled (guards m) (eqb x 255) s)
+
+-- ---- parts, and what is off
+
+only-if-append : (t : Bool) (x : ℕ) (l k : List ℕ) → onlyIf t x (l ++ k) ≡ onlyIf t x l ++ k
+only-if-append true x l k = refl
+only-if-append false x l k = refl
+
+pub unsync-append : (guard : ℕ → Bool) (prev : Bool) (a b : List ℕ) → unsync guard prev (a ++ b) ≡ unsync guard prev a ++ unsync guard (endsFF prev a) b
+unfolding unsync endsFF
+unsync-append guard prev [] b = refl
+unsync-append guard prev (x ∷ a) b =
+    ap (λ (l : List ℕ). onlyIf (prev && guard x) 0 (x ∷ l)) (unsync-append guard (eqb x 255) a b)
+    ∙ only-if-append (prev && guard x) 0 (x ∷ unsync guard (eqb x 255) a) (unsync guard (endsFF (eqb x 255) a) b)
+
+pub unsync-off : (prev : Bool) (s : List ℕ) → unsync (guards Off) prev s ≡ s
+unfolding unsync
+unsync-off prev [] = refl
+unsync-off true (x ∷ s) = ap {B = List ℕ} (λ (l : List ℕ). x ∷ l) (unsync-off (eqb x 255) s)
+unsync-off false (x ∷ s) = ap {B = List ℕ} (λ (l : List ℕ). x ∷ l) (unsync-off (eqb x 255) s)
+
+zeros-stay : (k : ℕ) → resync false (zeros k) ≡ zeros k
+unfolding resync
+zeros-stay zero = refl
+zeros-stay (suc k) = ap {B = List ℕ} (λ (l : List ℕ). 0 ∷ l) (zeros-stay k)
+
+-- padding stays padding, at most one byte shorter
+pub padding-back : (prev : Bool) (n : ℕ) → (k : ℕ) × (resync prev (zeros n) ≡ zeros k)
+unfolding resync
+padding-back prev zero = (0, refl)
+padding-back true (suc n) = (n, zeros-stay n)
+padding-back false (suc n) = (suc n, zeros-stay (suc n))
+
+-- ---- standard mode
+
+-- byte by byte: after an FF comes nothing from E0 on
+unfoldable pub Quiet : Bool → List ℕ → Type 0
+Quiet prev [] = Unit {0}
+Quiet prev (x ∷ s) = (prev ≡ true → x < 0xE0) × Quiet (eqb x 255) s
+
+pub quiet-at : (prev : Bool) (s : List ℕ) → Quiet prev s → NoSync s
+unfolding Quiet
+quiet-at prev [] q i e = omega arith
+quiet-at prev (x ∷ []) q zero e = omega arith
+quiet-at prev (x ∷ y ∷ s) q zero e = q .1 .0 (rw e)
+quiet-at prev (x ∷ s) q (suc i) e = quiet-at (eqb x 255) s (q .1) i e
+
+-- what the standard's guard lets pass is below E0
+unguarded : (x : ℕ) → guards Standard x ≡ false → x < 0xE0
+unguarded x e = leb-false 0xE0 x (or-false (eqb x 0) (leb 0xE0 x) e .1)
+
+quiet-next : (prev g : Bool) (x : ℕ) (s : List ℕ) → guards Standard x ≡ g → Quiet (eqb x 255) s → Quiet prev (onlyIf (prev && guards Standard x) 0 (x ∷ s))
+unfolding Quiet
+quiet-next false g x s e q = ((λ h. absurd (false-not-true h)), q)
+quiet-next true true x s e q = rw e ((λ h. omega arith), ((λ h. absurd (false-not-true h)), q))
+quiet-next true false x s e q = rw e ((λ h. unguarded x e), q)
+
+pub standard-quiet : (prev : Bool) (s : List ℕ) → Quiet prev (unsync (guards Standard) prev s)
+unfolding unsync Quiet
+standard-quiet prev [] = tt
+standard-quiet prev (x ∷ s) =
+    quiet-next prev (guards Standard x) x (unsync (guards Standard) (eqb x 255) s) refl (standard-quiet (eqb x 255) s)
+
+-- After standard mode no FF is followed by E0 or above.
+pub standard-no-sync : (s : List ℕ) → NoSync (unsynchronised Standard s)
+standard-no-sync s = quiet-at false (unsynchronised Standard s) (standard-quiet false s)

@@ -1,0 +1,1 @@
+// No code: laws on lists and tables that several crates cite stand in proofs/.

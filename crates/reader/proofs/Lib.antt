@@ -1,0 +1,2 @@
+-- Worked cases of the reader.
+pub mod Cases

@@ -1,0 +1,3 @@
+-- What reading answers, from document 01.
+pub mod Reader
+pub mod Answers

@@ -1,0 +1,3 @@
+-- What writing answers, from document 01.
+pub mod Writer
+pub mod Answers
