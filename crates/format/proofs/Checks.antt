@@ -20,6 +20,11 @@ pub not-second : {A : Type 0} (t : Bool) (x y z : A) → pick t x y ≡ z → (y
 not-second true x y z e h = (refl, e)
 not-second false x y z e h = absurd (h e)
 
+-- what holds of the one that is taken holds of the choice
+pub of-picked : {A : Type 0} (P : A → Type 0) (t : Bool) {x y : A} → (t ≡ true → P x) → (t ≡ false → P y) → P (pick t x y)
+of-picked P true f g = f refl
+of-picked P false f g = g refl
+
 -- ---- checks
 
 -- a check that gives its number where a test holds, or where it fails, was passed

@@ -1,11 +1,24 @@
--- Laws and worked cases of the definitions.
-pub mod Checks
-pub mod Unsynch
-pub mod Numbers
-pub mod Heads
-pub mod Walks
-pub mod ReadBack
-pub mod Text
+-- Worked cases of the definitions, then their laws.
 pub mod Cases
 pub mod Readings
 pub mod Writings
+pub mod Checks
+pub mod Unsynch
+pub mod Numbers
+pub mod Ids
+pub mod Heads
+pub mod Encoded
+pub mod Walks
+pub mod Moves
+pub mod Strict
+pub mod Zeros
+pub mod ReadBack
+pub mod Text
+pub mod Table
+pub mod Popularimeter
+pub mod Chapter
+pub mod Contents
+pub mod Raw
+pub mod Accepted
+pub mod Frames
+pub mod Tags

@@ -1,29 +1,14 @@
 -- Laws of numbers as digits, over any base. Assumes nothing.
-use mathlib.Core.Path.{_≡_, refl, sym, ap, _∙_, subst}
+use mathlib.Core.Path.{_≡_, refl, sym, ap, _∙_}
 use Prim.Native.Nat.{ℕ, zero, suc, _+_, _*_, _/_, _%_, _^_, _≤_, _<_}
-use native.Mathlib.Nat.{zero-add, zero-mul, mul-one, add-mul, mul-assoc, pow-zero, pow-succ', mod-lt, mod-one, mod-eq-of-lt, one-le-pow}
+use native.Mathlib.Nat.{zero-mul, add-mul, mul-assoc, pow-zero, pow-succ', mod-lt, mod-one, mod-eq-of-lt, one-le-pow, pow-suc, div-one, div-div-eq-div-mul}
 use native.Mathlib.Omega.{arith}
-use mathlib.Core.List.{List, [], _∷_, _++_}
-use lib.Arith.{mod-mul}
+use mathlib.Core.List.{List, [], _∷_}
+use lib.Arith.{mod-mul, digits-div, digits-mod}
 use lib.Bits.{bitOr, or-shifted}
 use lib.ListN.{length, getD}
-use Rattle.format.specs.Numbers.{digits, onto, number, bytesOf, synchsafe, synchsafeRefusal, fromSynchsafe}
-
--- ---- worked cases
-
--- document 01, "Numbers and bytes": bit 7 is not cleared
-one-ff : fromSynchsafe (0x00 ∷ 0x00 ∷ 0x01 ∷ 0xFF ∷ []) ≡ 255
-one-ff = refl
-
-all-ff : fromSynchsafe (0xFF ∷ 0xFF ∷ 0xFF ∷ 0xFF ∷ []) ≡ 0x1FFFFFFF
-all-ff = refl
-
-too-large : synchsafeRefusal 268435456 ≡ 24
-too-large = refl
-
--- 2.3.0, section 3.1: a tag of 257 bytes
-of-257 : fromSynchsafe (0x00 ∷ 0x00 ∷ 0x02 ∷ 0x01 ∷ []) ≡ 257
-of-257 = refl
+use Rattle.lists.proofs.Parts.{Each}
+use Rattle.format.specs.Numbers.{digits, onto, number, bytesOf, synchsafe, fromSynchsafe}
 
 -- ---- digits
 
@@ -32,9 +17,12 @@ unfolding digits
 length-digits base zero n = refl
 length-digits base (suc k) n = ap suc (length-digits base k n)
 
+-- each is below the base
+abbrev pub Digits : ℕ → List ℕ → Type 0
+Digits base s = Each (λ (x : ℕ). x < base) 0 s
+
 module _ (base : ℕ) (pos : 0 < base) where
-  -- each digit is below the base
-  pub digit-below : (k n i : ℕ) → getD (digits base k n) i 0 < base
+  pub digit-below : (k n : ℕ) → Digits base (digits base k n)
   unfolding digits
   digit-below zero n i = pos
   digit-below (suc k) n zero = mod-lt (n / base ^ k) pos
@@ -56,6 +44,21 @@ module _ (base : ℕ) (pos : 0 < base) where
   digits-back k n h =
       let z : 0 * base ^ k ≡ 0 = zero-mul (base ^ k) in
       onto-digits 0 k n ∙ omega (arith, z, mod-eq-of-lt h)
+
+  -- the number before digits that each are below the base stands above their places
+  onto-above : (a : ℕ) (s : List ℕ) → Digits base s → onto base a s / base ^ length s ≡ a
+  unfolding onto
+  onto-above a [] h = rw pow-zero (div-one a)
+  onto-above a (x ∷ s) h =
+      rw (pow-suc, ← div-div-eq-div-mul, onto-above (a * base + x) s (λ i. h (suc i))) (digits-div a (h 0))
+
+  -- the digits of a number that was made of them, whatever came before
+  pub digits-onto : (a : ℕ) (s : List ℕ) → Digits base s → digits base (length s) (onto base a s) ≡ s
+  unfolding onto digits
+  digits-onto a [] h = refl
+  digits-onto a (x ∷ s) h =
+      let t : Digits base s = λ i. h (suc i) in
+      rw (onto-above (a * base + x) s t, digits-mod a {m = base} (h 0), digits-onto (a * base + x) s t)
 
 -- a plain number of k bytes
 pub number-back : (k n : ℕ) → n < 256 ^ k → number (bytesOf k n) ≡ n

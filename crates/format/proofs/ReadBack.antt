@@ -1,15 +1,17 @@
 -- What it means that a body is read back as the content it was written from; each kind has its proof in a file of its own. Assumes nothing.
 use mathlib.Core.Path.{_≡_, refl, sym, ap, _∙_}
-use Prim.Native.Nat.{ℕ, zero, suc, _+_, _≤_}
+use Prim.Native.Nat.{ℕ, zero, suc, _+_, _-_, _≤_}
 use native.Mathlib.Omega.{arith}
-use mathlib.Core.List.{List, [], _∷_}
-use lib.ListN.{length, take, drop}
-use lib.Seq.{drop-drop, take-take, take-nil, drop-nil}
-use Rattle.format.specs.Bytes.{span, part}
+use mathlib.Core.List.{List, [], _∷_, _++_}
+use lib.ListN.{length, take, drop, length-drop}
+use lib.Seq.{drop-drop, take-take, take-all}
+use Rattle.lists.proofs.Slices.{take-drop-take}
+use Rattle.format.specs.Bytes.{span, part, zeroAt}
 use Rattle.format.specs.Record.{bodyRefusal, runOf, partsOf, contentOf, deviationsOf, Content, text, popularimeter, table, chapter, contents, raw}
 use Rattle.format.specs.Encode.{kindIn, bodyBytes}
 use Rattle.format.specs.declared.Version.{Version}
 use Rattle.format.specs.declared.Kind.{Kind}
+use Rattle.format.proofs.Zeros.{length-named, take-name}
 
 -- the run of subframes that a content has
 abbrev pub runIn : Content → List ℕ
@@ -34,12 +36,6 @@ pub record ReadBack (v : Version) (c : Content) : Type 0 where
 
 -- ---- a part of a body, taken in the buffer that the body lies in
 
-take-drop-take : (m n e : ℕ) (l : List ℕ) → n + m ≤ e → take m (drop n (take e l)) ≡ take m (drop n l)
-take-drop-take m zero e l h = take-take m e l (omega arith)
-take-drop-take m (suc n) zero l h = absurd (omega arith)
-take-drop-take m (suc n) (suc e) [] h = refl
-take-drop-take m (suc n) (suc e) (x ∷ l) h = take-drop-take m n e l (omega arith)
-
 pub part-in : (at k l : ℕ) (b s : List ℕ) → take (length b) (drop at s) ≡ b → k + l ≤ length b → part (span (at + k) l) s ≡ take l (drop k b)
 part-in at k l b s e h =
     ap (take l) (sym (drop-drop k at s)) ∙ sym (take-drop-take l k (length b) (drop at s) h) ∙ ap (λ (x : List ℕ). take l (drop k x)) e
@@ -47,3 +43,15 @@ part-in at k l b s e h =
 -- the same at the body's front
 pub part-front : (at l : ℕ) (b s : List ℕ) → take (length b) (drop at s) ≡ b → l ≤ length b → part (span at l) s ≡ take l b
 part-front at l b s e h = sym (take-take l (length b) (drop at s) h) ∙ ap (take l) e
+
+-- from a place in the body to its end
+pub part-rest : (at k : ℕ) (b s : List ℕ) → take (length b) (drop at s) ≡ b → k ≤ length b → part (span (at + k) (length b - k)) s ≡ drop k b
+part-rest at k b s e h =
+    part-in at k (length b - k) b s e (omega arith) ∙ take-all (length b - k) (drop k b) (omega (arith, length-drop k b))
+
+-- a name before the body's first zero
+pub part-name : (at : ℕ) (name z s : List ℕ) → zeroAt name ≡ length name → take (length (name ++ (0 ∷ z))) (drop at s) ≡ name ++ (0 ∷ z)
+    → part (span at (zeroAt (name ++ (0 ∷ z)))) s ≡ name
+part-name at name z s none e =
+    let b = name ++ (0 ∷ z) in
+    part-front at (zeroAt b) b s e (omega (arith, length-named name z none)) ∙ take-name name z none

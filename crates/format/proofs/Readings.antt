@@ -5,7 +5,7 @@ use mathlib.Core.Bool.{Bool, true, false}
 use mathlib.Core.List.{List, [], _∷_, _++_}
 use lib.ListN.{length, replicate}
 use Rattle.format.specs.Bytes.{first, named, ascii, zeroAt, zerosIn, zeros}
-use Rattle.format.specs.Numbers.{digits, onto, synchsafe, bytesOf}
+use Rattle.format.specs.Numbers.{digits, onto, synchsafe, synchsafeRefusal, fromSynchsafe, bytesOf}
 use Rattle.format.specs.Unsynch.{resync, unsync, unsynchronised}
 use Rattle.format.specs.Ids.{utf8From, isUtf8, kindOf}
 use Rattle.format.specs.Frame.{headOf}
@@ -55,6 +55,25 @@ frame24 id flags s = id ++ (synchsafe (length s) ++ (0 ∷ flags ∷ s))
 frame23 : List ℕ → ℕ → List ℕ → List ℕ
 unfolding digits
 frame23 id flags s = id ++ (bytesOf 4 (length s) ++ (0 ∷ flags ∷ s))
+
+-- ---- numbers
+
+-- document 01, "Numbers and bytes": bit 7 is not cleared
+one-ff : fromSynchsafe (0x00 ∷ 0x00 ∷ 0x01 ∷ 0xFF ∷ []) ≡ 255
+one-ff = refl
+
+all-ff : fromSynchsafe (0xFF ∷ 0xFF ∷ 0xFF ∷ 0xFF ∷ []) ≡ 0x1FFFFFFF
+all-ff = refl
+
+last-bit : fromSynchsafe (0x00 ∷ 0x00 ∷ 0x00 ∷ 0x80 ∷ []) ≡ 128
+last-bit = refl
+
+too-large : synchsafeRefusal 268435456 ≡ 24
+too-large = refl
+
+-- 2.3.0, section 3.1: a tag of 257 bytes
+of-257 : fromSynchsafe (0x00 ∷ 0x00 ∷ 0x02 ∷ 0x01 ∷ []) ≡ 257
+of-257 = refl
 
 -- ---- the quiet end
 

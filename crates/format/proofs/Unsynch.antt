@@ -2,11 +2,11 @@
 use mathlib.Core.Path.{_≡_, refl, sym, ap, _∙_}
 use Prim.Native.Nat.{ℕ, zero, suc, _+_, _*_, _≤_, _<_}
 use native.Mathlib.Omega.{arith}
-use mathlib.Core.Bool.{Bool, true, false, not, _&&_, _||_}
+use mathlib.Core.Bool.{Bool, true, false, not, _&&_}
 use mathlib.Core.List.{List, [], _∷_, _++_, append-nil}
-use lib.ListN.{length, getD}
+use lib.ListN.{length}
 use lib.Dec.{eqb, leb}
-use borrow.Author.Tests.{eqb-true, leb-true, leb-false}
+use borrow.Author.Tests.{eqb-true, leb-false, ne-eqb}
 use Rattle.lists.proofs.Bools.{false-not-true, or-false}
 use Rattle.format.specs.Bytes.{onlyIf, zeros}
 use Rattle.format.specs.Unsynch.{resync, resynchronised, guards, unsync, unsynchronised, isOn, NoSync}
@@ -126,6 +126,30 @@ quiet-at prev [] q i e = omega arith
 quiet-at prev (x ∷ []) q zero e = omega arith
 quiet-at prev (x ∷ y ∷ s) q zero e = q .1 .0 (rw e)
 quiet-at prev (x ∷ s) q (suc i) e = quiet-at (eqb x 255) s (q .1) i e
+
+pub quiet-append : (prev : Bool) (a b : List ℕ) → Quiet prev a → Quiet (endsFF prev a) b → Quiet prev (a ++ b)
+unfolding Quiet endsFF
+quiet-append prev [] b qa qb = qb
+quiet-append prev (x ∷ a) b qa qb = (qa .0, quiet-append (eqb x 255) a b (qa .1) qb)
+
+-- each byte is below E0
+abbrev pub Low : List ℕ → Type 0
+Low [] = Unit {0}
+Low (x ∷ s) = (x < 0xE0) × Low s
+
+pub quiet-low : (prev : Bool) (s : List ℕ) → Low s → Quiet prev s
+unfolding Quiet
+quiet-low prev [] low = tt
+quiet-low prev (x ∷ s) low = ((λ e. low .0), quiet-low (eqb x 255) s (low .1))
+
+-- what comes before low bytes does not matter for what comes behind them
+pub quiet-behind-low : (prev : Bool) (a b : List ℕ) → 0 < length a → Low a → Quiet false b → Quiet prev (a ++ b)
+unfolding Quiet
+quiet-behind-low prev [] b some low q = absurd (omega arith)
+quiet-behind-low prev (x ∷ []) b some low q =
+    let e : eqb x 255 ≡ false = ne-eqb x 255 (omega arith) in
+    ((λ p. low .0), rw e q)
+quiet-behind-low prev (x ∷ y ∷ a) b some low q = ((λ p. low .0), quiet-behind-low (eqb x 255) (y ∷ a) b (omega arith) (low .1) q)
 
 -- what the standard's guard lets pass is below E0
 unguarded : (x : ℕ) → guards Standard x ≡ false → x < 0xE0

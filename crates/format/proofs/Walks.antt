@@ -97,3 +97,27 @@ walked-eq strict v depth [] room = rw (none-begins v depth)
 walked-eq strict v depth (x ∷ s) room =
     step-cong strict v (walkBytes strict v (length s)) (walked strict v) depth (x ∷ s) room
     (λ d t r lt. enough strict v (length s) (length t) d t r (omega arith) (le-refl (length t)))
+
+-- ---- the walk for what begins
+
+module _ (strict : Bool) (v : Version) (depth : ℕ) (s room : List ℕ) where
+  walk-head : (x : Head) → headOf v depth s ≡ x → walked strict v depth s room ≡ onHead strict v (walked strict v) depth s room x
+  unfolding stepOf
+  walk-head x e = walked-eq strict v depth s room ∙ rw e
+
+  -- no frame begins
+  pub walk-nothing : headOf v depth s ≡ Head.Nothing → walked strict v depth s room ≡ (leftOver strict s, room)
+  unfolding onHead
+  walk-nothing e = walk-head Head.Nothing e
+
+  pub walk-refused : {k : ℕ} → headOf v depth s ≡ Head.Refused k → walked strict v depth s room ≡ (k, room)
+  unfolding onHead
+  walk-refused {k} e = walk-head (Head.Refused k) e
+
+  -- a frame: its body, and then what follows it
+  pub walk-found : {id : ℕ} {c f short : Bool} {start len : ℕ} → headOf v depth s ≡ Head.Found id c f short start len
+      → walked strict v depth s room ≡ pick (unfit strict short f) (29, room)
+      (andThen (bodyOf (isResynced c f) (walked strict v (depth + 1)) (shownKind v id c) (take len (drop start s)) room)
+      (walked strict v depth (drop (start + len) s)))
+  unfolding onHead
+  walk-found {id} {c} {f} {short} {start} {len} e = walk-head (Head.Found id c f short start len) e

@@ -117,7 +117,7 @@ onShown v inWork begin at s room (Head.Found id compressed flagged short start l
     let place = pick resynced 0 (at + start) in
     let o = bodyOf resynced (walked false v 2) kind stored room in (
       shownOf (o .0)
-          (recordOf id short compressed (at - begin) (inWork || resynced) place (length b) (partsOf v kind place b))
+          (recordOf id short compressed (at - begin) (resynced || inWork) place (length b) (partsOf v kind place b))
           (at + (start + len)),
       o .1,
     )

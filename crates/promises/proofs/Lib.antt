@@ -1,0 +1,9 @@
+-- The proofs of the promises.
+pub mod Sounds
+pub mod Adding
+pub mod Opening
+pub mod Stepping
+pub mod RoundTrip
+pub mod NoSync
+pub mod Bounds
+pub mod Samples

@@ -1,0 +1,98 @@
+-- Opening a finished tag: the frames and some padding lie before the reader. Assumes nothing.
+use mathlib.Core.Path.{_≡_, refl, sym, ap, _∙_}
+use Prim.Native.Nat.{ℕ, _+_, _^_, _≤_, _<_}
+use native.Mathlib.Omega.{arith}
+use mathlib.Core.Bool.{Bool, true, false}
+use mathlib.Core.List.{List, _++_}
+use lib.ListN.{length, drop}
+use lib.Seq.{slice, take-append-seam}
+use borrow.Author.Tests.{le-ltb}
+use Rattle.lists.proofs.Bools.{false-not-true}
+use Rattle.lists.proofs.Slices.{front-length}
+use Rattle.format.specs.Bytes.{pick, zeros, putFront}
+use Rattle.format.specs.Unsynch.{resync, resynchronised}
+use Rattle.format.specs.Encode.{wholeOf, regionBytes, tagOf}
+use Rattle.format.specs.declared.Version.{Version}
+use Rattle.format.specs.declared.Version.the-variants.{Id3v22, Id3v23, Id3v24}
+use Rattle.format.specs.declared.Mode.{Mode}
+use Rattle.format.specs.declared.Mode.the-variants.{Off, Crate, Standard}
+use Rattle.format.proofs.Unsynch.{endsFF, back-with-more, unsync-off, padding-back, resync-shorter}
+use Rattle.format.proofs.Tags.{wholeBy, Headed, tag-headed}
+use Rattle.reader.specs.Reader.{readerAt, openWhole, openOf}
+use Rattle.reader.specs.declared.Opened.{Opened}
+
+-- where the frames of a reader lie
+abbrev pub source : Bool → List ℕ → List ℕ → List ℕ
+source inWork tag work = pick inWork work tag
+
+-- frames that are not resynchronised as a whole are stored as they are
+plain-whole : (v : Version) (m : Mode) (f : List ℕ) → wholeBy v m ≡ false → wholeOf v m f ≡ f
+plain-whole Id3v22 Off f e = unsync-off false f
+plain-whole Id3v22 Crate f e = absurd (false-not-true (sym e))
+plain-whole Id3v22 Standard f e = absurd (false-not-true (sym e))
+plain-whole Id3v23 Off f e = unsync-off false f
+plain-whole Id3v23 Crate f e = absurd (false-not-true (sym e))
+plain-whole Id3v23 Standard f e = absurd (false-not-true (sym e))
+plain-whole Id3v24 m f e = refl
+
+-- others come back, with padding behind them
+whole-back : (v : Version) (m : Mode) (f z : List ℕ) → wholeBy v m ≡ true → resynchronised (wholeOf v m f ++ z) ≡ f ++ resync (endsFF false f) z
+whole-back Id3v22 m f z e = back-with-more m e false f z
+whole-back Id3v23 m f z e = back-with-more m e false f z
+whole-back Id3v24 m f z e = absurd (false-not-true e)
+
+pub record Opening (v : Version) (m : Mode) (tag work frames : List ℕ) : Type 0 where
+  pub begin : ℕ
+  pub end : ℕ
+  pub padding : ℕ
+  pub left : List ℕ
+  pub opens : openOf tag work ≡ (Opened.Ready (readerAt v (wholeBy v m) begin end), left)
+  pub lies : slice begin end (source (wholeBy v m) tag left) ≡ frames ++ zeros padding
+  pub same : length left ≡ length work
+
+module _ (v : Version) (m : Mode) (p : ℕ) (f work : List ℕ) (small : length (regionBytes v m p f) < 2 ^ 28)
+  (room : length (tagOf v m p f) ≤ length work) where
+  abbrev tag : List ℕ
+  tag = tagOf v m p f
+
+  abbrev region : List ℕ
+  region = regionBytes v m p f
+
+  headed : Headed v m tag region
+  headed = tag-headed v m p f small
+
+  opened-plain : wholeBy v m ≡ false → Opening v m tag work f
+  unfolding openOf
+  opened-plain e = record {
+    begin = 10;
+    end = 10 + length region;
+    padding = p;
+    left = work;
+    opens = rw (headed .taken, headed .whole, e, headed .version, headed .start, headed .end);
+    lies = rw e (headed .lies ∙ ap (λ (l : List ℕ). l ++ zeros p) (plain-whole v m f e));
+    same = refl;
+  }
+
+  opened-whole : wholeBy v m ≡ true → Opening v m tag work f
+  unfolding openOf openWhole
+  opened-whole e =
+      let pad = padding-back (endsFF false f) p in
+      let u = f ++ zeros (pad .0) in
+      let back : resynchronised region ≡ u = whole-back v m f (zeros p) e ∙ ap (λ (l : List ℕ). f ++ l) (pad .1) in
+      let fits : length u ≤ length work = omega (arith, resync-shorter false region, ap length back, headed .long) in
+      record {
+        begin = 0;
+        end = length u;
+        padding = pad .0;
+        left = putFront u work;
+        opens = rw (headed .taken, headed .whole, e, headed .version, headed .start, headed .end, headed .lies, back, le-ltb (length work) (length u) fits);
+        lies = rw e (take-append-seam u (drop (length u) work));
+        same = front-length u work fits;
+      }
+
+  by : (b : Bool) → wholeBy v m ≡ b → Opening v m tag work f
+  by true e = opened-whole e
+  by false e = opened-plain e
+
+  pub opened : Opening v m tag work f
+  opened = by (wholeBy v m) refl

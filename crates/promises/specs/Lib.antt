@@ -1,0 +1,5 @@
+-- The promises, and the sample that shows that they speak of something.
+pub mod Written
+pub mod Reading
+pub mod Promises
+pub mod Samples
