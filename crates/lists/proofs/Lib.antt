@@ -1,5 +1,6 @@
--- Laws on truth values, lists and tables.
+-- Laws on truth values, lists, tables and stores.
 pub mod Bools
 pub mod Parts
 pub mod Tables
 pub mod Slices
+pub mod Stores

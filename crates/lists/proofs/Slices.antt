@@ -1,11 +1,56 @@
--- Laws on parts of lists: blocks of one width, one after the other. Assumes nothing.
+-- Laws on parts of lists: parts that are cut to the list, and blocks of one width, one after the other. Assumes nothing.
 use mathlib.Core.Path.{_≡_, refl, sym, ap, _∙_}
-use Prim.Native.Nat.{ℕ, zero, suc, _+_, _*_, _≤_, _<_}
-use native.Mathlib.Nat.{mul-zero, mul-suc}
+use Prim.Native.Nat.{ℕ, zero, suc, _+_, _*_, _≤_, _<_, min}
+use native.Mathlib.Nat.{mul-zero, mul-suc, zero-min, suc-min-suc}
+use native.Mathlib.Numerals.{add-one}
 use native.Mathlib.Omega.{arith}
 use mathlib.Core.List.{List, [], _∷_, _++_}
-use lib.ListN.{length, take, drop, getD, length-append, length-take, length-drop}
-use lib.Seq.{slice, take-at, drop-at, drop-drop, take-take}
+use lib.ListN.{length, take, drop, getD, length-append, length-take, length-drop, drop-of-length-le}
+use lib.Seq.{slice, slice-cons, take-nil, drop-nil, take-take, take-at, drop-at, drop-drop}
+
+-- ---- parts that are cut to the list
+
+pub take-cut : (n : ℕ) (l : List ℕ) → take (min n (length l)) l ≡ take n l
+take-cut zero l = rw zero-min
+take-cut (suc n) [] = take-nil (min (suc n) 0)
+take-cut (suc n) (x ∷ l) = rw suc-min-suc (ap (λ (m : List ℕ). x ∷ m) (take-cut n l))
+
+pub drop-cut : (n : ℕ) (l : List ℕ) → drop (min n (length l)) l ≡ drop n l
+drop-cut zero l = rw zero-min
+drop-cut (suc n) [] = drop-nil (min (suc n) 0)
+drop-cut (suc n) (x ∷ l) = rw suc-min-suc (drop-cut n l)
+
+pub slice-none : (from to : ℕ) (l : List ℕ) → to ≤ from → slice from to l ≡ []
+slice-none from to l h = drop-of-length-le (take to l) {i = from} (simp length-take (omega arith))
+
+-- one element, then the rest
+pub slice-next : (from to : ℕ) (l : List ℕ) → from < to → to ≤ length l → slice from to l ≡ getD l from 0 ∷ slice (from + 1) to l
+slice-next from to l lt le = slice-cons from to l 0 lt le ∙ ap (λ (k : ℕ). getD l from 0 ∷ slice k to l) (sym (add-one from))
+
+-- a part of what two lists have in common in front
+pub slice-front : (n from to : ℕ) (l m : List ℕ) → take n l ≡ take n m → to ≤ n → slice from to l ≡ slice from to m
+slice-front n from to l m e h =
+    ap (drop from) (sym (take-take to n l h)) ∙ ap (λ (k : List ℕ). drop from (take to k)) e ∙ ap (drop from) (take-take to n m h)
+
+-- end is to, or where the list ends
+module _ (from to end : ℕ) (l : List ℕ) (e : end ≡ min to (length l)) where
+  pub slice-cut : slice from end l ≡ slice from to l
+  slice-cut = ap (λ (k : ℕ). slice from k l) e ∙ ap (drop from) (take-cut to l)
+
+  pub slice-cut-none : end ≤ from → slice from to l ≡ []
+  slice-cut-none h = sym slice-cut ∙ slice-none from end l h
+
+-- a part of what lies before split
+module _ (from to split end : ℕ) (l : List ℕ) (e : end ≡ min to (min split (length l))) where
+  pub slice-before : slice from end l ≡ slice from to (take split l)
+  slice-before =
+      let f : end ≡ min to (length (take split l)) = e ∙ ap (min to) (sym (length-take split l)) in
+      ap (drop from) (sym (take-take end split l (omega arith))) ∙ slice-cut from to end (take split l) f
+
+  pub slice-before-none : end ≤ from → slice from to (take split l) ≡ []
+  slice-before-none h = sym slice-before ∙ slice-none from end l h
+
+-- ---- blocks
 
 -- the blocks of the numbers of a list, then the rest
 abbrev pub blocks : (ℕ → List ℕ) → List ℕ → List ℕ → List ℕ

@@ -1,0 +1,198 @@
+-- Laws of edits. Assumes nothing.
+use mathlib.Core.Path.{_≡_, refl, sym, ap, _∙_, subst}
+use Prim.Native.Nat.{ℕ, zero, suc, _+_, _-_, _≤_, _<_}
+use native.Mathlib.Omega.{arith}
+use mathlib.Core.Bool.{Bool, true, false, cond, not, _&&_, _||_, or-false}
+use mathlib.Core.List.{List, [], _∷_, _++_}
+use lib.ListN.{length, take, getD}
+use lib.Seq.{slice, length-slice, sets, length-sets}
+use lib.Dec.{eqb, leb}
+use Rattle.lists.proofs.Slices.{slice-none, slice-next, slice-front}
+use Rattle.lists.proofs.Stores.{slice-sets}
+use Rattle.format.specs.Bytes.{pick, onlyIf}
+use Rattle.format.specs.Unsynch.{resync, guards, unsync}
+use Rattle.format.specs.declared.Mode.{Mode}
+use Rattle.format.specs.declared.Mode.the-variants.{Off, Crate, Standard}
+use Rattle.unsynch.specs.declared.loops.How.{How}
+use Rattle.unsynch.specs.Edits.{concerns, resyncBy, unsyncBy, edited, hits, editedAfter, hitsAfter}
+
+-- ---- resynchronising and unsynchronising are edits
+
+pub resyncs : (prev : Bool) (s : List ℕ) → edited resyncBy prev s ≡ resync prev s
+unfolding edited resync
+resyncs prev [] = refl
+resyncs prev (x ∷ s) = one prev (eqb x 0) (edited resyncBy (eqb x 255) s) ∙ ap (onlyIf (not (prev && eqb x 0)) x) (resyncs (eqb x 255) s)
+  where
+    one : (p z : Bool) (l : List ℕ) → pick (p && (z || false)) l (x ∷ l) ≡ onlyIf (not (p && z)) x l
+    one false z l = refl
+    one true true l = refl
+    one true false l = refl
+
+guarded : (m : Mode) (x : ℕ) → concerns (unsyncBy m) x ≡ guards m x
+guarded Off x = refl
+guarded Crate x = or-false (eqb x 0)
+guarded Standard x = refl
+
+pub unsyncs : (m : Mode) (prev : Bool) (s : List ℕ) → edited (unsyncBy m) prev s ≡ unsync (guards m) prev s
+unfolding edited unsync
+unsyncs m prev [] = refl
+unsyncs m prev (x ∷ s) =
+    ap (λ (g : Bool). pick (prev && g) (0 ∷ x ∷ edited (unsyncBy m) (eqb x 255) s) (x ∷ edited (unsyncBy m) (eqb x 255) s)) (guarded m x)
+    ∙ one (prev && guards m x) (x ∷ edited (unsyncBy m) (eqb x 255) s)
+    ∙ ap (λ (l : List ℕ). onlyIf (prev && guards m x) 0 (x ∷ l)) (unsyncs m (eqb x 255) s)
+  where
+    one : (g : Bool) (l : List ℕ) → pick g (0 ∷ l) l ≡ onlyIf g 0 l
+    one true l = refl
+    one false l = refl
+
+-- one byte x before what l the rest becomes: f says that the edit concerns it, g that it inserts
+abbrev turned : Bool → Bool → ℕ → List ℕ → List ℕ
+turned f g x l = pick f (pick g (0 ∷ x ∷ l) l) (x ∷ l)
+
+turned-append : (f g : Bool) (x : ℕ) (l m : List ℕ) → turned f g x (l ++ m) ≡ turned f g x l ++ m
+turned-append true true x l m = refl
+turned-append true false x l m = refl
+turned-append false g x l m = refl
+
+module _ (how : How) where
+  -- ---- lengths
+
+  pub few : (prev : Bool) (s : List ℕ) → hits how prev s ≤ length s
+  unfolding hits
+  few prev [] = omega arith
+  few prev (x ∷ s) = one (prev && concerns how x) (few (eqb x 255) s)
+    where
+      one : (g : Bool) → hits how (eqb x 255) s ≤ length s → cond g 1 0 + hits how (eqb x 255) s ≤ suc (length s)
+      one true h = omega arith
+      one false h = omega arith
+
+  -- as many bytes more, or as many less
+  Lengths : Bool → Bool → List ℕ → Type 0
+  Lengths insert prev s = length (edited how prev s) + pick insert 0 (hits how prev s) ≡ length s + pick insert (hits how prev s) 0
+
+  lengths : (prev : Bool) (s : List ℕ) → Lengths (how .insert) prev s
+  unfolding Lengths edited hits
+  lengths prev [] = refl
+  lengths prev (x ∷ s) =
+      one (how .insert) (prev && concerns how x) (edited how (eqb x 255) s) (length s) (hits how (eqb x 255) s) (lengths (eqb x 255) s)
+    where
+      one : (i g : Bool) (l : List ℕ) (n h : ℕ) → length l + pick i 0 h ≡ n + pick i h 0
+          → length (pick g (pick i (0 ∷ x ∷ l) l) (x ∷ l)) + pick i 0 (cond g 1 0 + h) ≡ suc n + pick i (cond g 1 0 + h) 0
+      one true true l n h e = omega arith
+      one true false l n h e = omega arith
+      one false true l n h e = omega arith
+      one false false l n h e = omega arith
+
+  pub longer : how .insert ≡ true → (prev : Bool) (s : List ℕ) → length (edited how prev s) ≡ length s + hits how prev s
+  unfolding Lengths
+  longer i prev s = omega (arith, subst (λ (b : Bool). Lengths b prev s) i (lengths prev s))
+
+  pub shorter : how .insert ≡ false → (prev : Bool) (s : List ℕ) → length (edited how prev s) + hits how prev s ≡ length s
+  unfolding Lengths
+  shorter i prev s = omega (arith, subst (λ (b : Bool). Lengths b prev s) i (lengths prev s))
+
+  -- ---- place by place
+
+  module _ (s : List ℕ) where
+    -- behind the last place
+    module _ (i to : ℕ) (h : to ≤ i + 1) where
+      nothing : slice (i + 1) to s ≡ []
+      nothing = slice-none (i + 1) to s h
+
+      pub edited-end : editedAfter how s i to ≡ []
+      unfolding edited
+      edited-end = ap (edited how (eqb (getD s i 0) 255)) nothing
+
+      pub hits-end : hitsAfter how s i to ≡ 0
+      unfolding hits
+      hits-end = ap (hits how (eqb (getD s i 0) 255)) nothing
+
+    -- the first byte stays as it is
+    module _ (from to : ℕ) (lt : from < to) (le : to ≤ length s) where
+      pub edited-first : edited how false (slice from to s) ≡ getD s from 0 ∷ editedAfter how s from to
+      unfolding edited
+      edited-first = ap (edited how false) (slice-next from to s lt le)
+
+      hits-first : hits how false (slice from to s) ≡ hitsAfter how s from to
+      unfolding hits
+      hits-first = ap (hits how false) (slice-next from to s lt le) ∙ omega arith
+
+      pub few-after : from + 1 + hitsAfter how s from to ≤ to
+      few-after = omega (arith, few (eqb (getD s from 0) 255) (slice (from + 1) to s), length-slice (from + 1) to s le)
+
+      pub length-longer : how .insert ≡ true → to - from + hitsAfter how s from to ≡ length (edited how false (slice from to s))
+      length-longer h = omega (arith, longer h false (slice from to s), hits-first, length-slice from to s le)
+
+      pub length-shorter : how .insert ≡ false → to - from - hitsAfter how s from to ≡ length (edited how false (slice from to s))
+      length-shorter h = omega (arith, shorter h false (slice from to s), hits-first, length-slice from to s le)
+
+      pub length-most : (g : Bool) → how .insert ≡ g → length (edited how false (slice from to s)) ≤ pick g (to - from + (to - from) - 1) (to - from)
+      length-most true h = omega (arith, length-longer h, few-after)
+      length-most false h = omega (arith, length-shorter h)
+
+    -- one place further: f says that the edit concerns the byte there
+    module _ (i to : ℕ) (lt : i + 1 < to) (le : to ≤ length s) where
+      edited-next : editedAfter how s i to
+          ≡ turned (eqb (getD s i 0) 255 && concerns how (getD s (i + 1) 0)) (how .insert) (getD s (i + 1) 0) (editedAfter how s (i + 1) to)
+      unfolding edited
+      edited-next = ap (edited how (eqb (getD s i 0) 255)) (slice-next (i + 1) to s lt le)
+
+      module _ (f : Bool) (e : f ≡ (eqb (getD s i 0) 255 && concerns how (getD s (i + 1) 0))) where
+        told : (g : Bool) → how .insert ≡ g → editedAfter how s i to ≡ turned f g (getD s (i + 1) 0) (editedAfter how s (i + 1) to)
+        told g h =
+            edited-next
+            ∙ ap (λ (f′ : Bool). turned f′ (how .insert) (getD s (i + 1) 0) (editedAfter how s (i + 1) to)) (sym e)
+            ∙ ap (λ (g′ : Bool). turned f g′ (getD s (i + 1) 0) (editedAfter how s (i + 1) to)) h
+
+        pub goes : how .insert ≡ false → editedAfter how s i to ≡ pick f (editedAfter how s (i + 1) to) (getD s (i + 1) 0 ∷ editedAfter how s (i + 1) to)
+        goes h = told false h
+
+        pub comes : how .insert ≡ true
+            → editedAfter how s i to ≡ pick f (0 ∷ getD s (i + 1) 0 ∷ editedAfter how s (i + 1) to) (getD s (i + 1) 0 ∷ editedAfter how s (i + 1) to)
+        comes h = told true h
+
+        pub counts : hitsAfter how s i to ≡ cond f 1 0 + hitsAfter how s (i + 1) to
+        unfolding hits
+        counts = ap (hits how (eqb (getD s i 0) 255)) (slice-next (i + 1) to s lt le) ∙ ap (λ (f′ : Bool). cond f′ 1 0 + hitsAfter how s (i + 1) to) (sym e)
+
+    -- up to a place, and from there on
+    pub parted : (n i m to : ℕ) → m ≡ i + n → m < to → to ≤ length s → editedAfter how s i to ≡ editedAfter how s i (m + 1) ++ editedAfter how s m to
+    parted zero i m to e lt le =
+        let here : i ≡ m = omega arith in
+        ap (λ (k : ℕ). editedAfter how s k to) here
+        ∙ ap (λ (l : List ℕ). l ++ editedAfter how s m to) (sym (edited-end i (m + 1) (omega arith)))
+    parted (suc n) i m to e lt le =
+        let f : Bool = eqb (getD s i 0) 255 && concerns how (getD s (i + 1) 0) in
+        let x : ℕ = getD s (i + 1) 0 in
+        edited-next i to (omega arith) le
+        ∙ ap (turned f (how .insert) x) (parted n (i + 1) m to (omega arith) lt le)
+        ∙ turned-append f (how .insert) x (editedAfter how s (i + 1) (m + 1)) (editedAfter how s m to)
+        ∙ ap (λ (l : List ℕ). l ++ editedAfter how s m to) (sym (edited-next i (m + 1) (omega arith) (omega arith)))
+
+  -- the same bytes elsewhere
+  edited-behind : List ℕ → List ℕ
+  edited-behind [] = []
+  edited-behind (x ∷ s) = edited how (eqb x 255) s
+
+  pub same-part : (s t : List ℕ) (from to from′ to′ : ℕ) → from < to → to ≤ length s → from′ < to′ → to′ ≤ length t → slice from to s ≡ slice from′ to′ t
+      → editedAfter how s from to ≡ editedAfter how t from′ to′
+  unfolding edited-behind
+  same-part s t from to from′ to′ lt le lt′ le′ e =
+      ap edited-behind (sym (slice-next from to s lt le) ∙ e ∙ slice-next from′ to′ t lt′ le′)
+
+  -- in a list that is the same in front
+  pub same-front : (s t : List ℕ) (from to n : ℕ) → from < to → to ≤ n → n ≤ length s → n ≤ length t → take n s ≡ take n t
+      → editedAfter how s from to ≡ editedAfter how t from to
+  same-front s t from to n lt le hs ht e =
+      same-part s t from to from to lt (omega arith) lt (omega arith) (slice-front n from to s t e le)
+
+  -- a copy of s[from..to] at the front of another list
+  pub in-copy : (s z copy : List ℕ) (from to : ℕ) → from < to → to ≤ length s → to - from ≤ length z → copy ≡ sets z 0 (slice from to s)
+      → (length copy ≡ length z) × (editedAfter how copy 0 (to - from) ≡ editedAfter how s from to)
+  in-copy s z copy from to lt le room e =
+      let l : List ℕ = slice from to s in
+      let n : 0 + length l ≡ to - from = omega (arith, length-slice from to s le) in
+      let long : length copy ≡ length z = ap length e ∙ length-sets z 0 l in
+      let part : slice 0 (to - from) copy ≡ l =
+      ap (λ (k : ℕ). slice 0 k copy) (sym n) ∙ ap (slice 0 (0 + length l)) e ∙ slice-sets z 0 l (omega arith) in
+      (long, same-part copy s 0 (to - from) from to (omega arith) (omega arith) lt le part)

@@ -1,0 +1,74 @@
+-- One turn of the loops that store: f says that the edit concerns the byte x, behind which l is left. Assumes nothing.
+use mathlib.Core.Path.{_≡_, sym, ap, _∙_}
+use Prim.Native.Nat.{ℕ, suc, _+_, _-_, _≤_, _<_}
+use native.Mathlib.Numerals.{add-one}
+use native.Mathlib.Omega.{arith}
+use mathlib.Core.Bool.{Bool, true, false, cond}
+use mathlib.Core.List.{List, [], _∷_}
+use lib.ListN.{length, take, set, getD, length-append}
+use lib.Seq.{sets}
+use Rattle.lists.proofs.Stores.{take-sets, Storing, lies, by, on, at, put, puts, over, keep}
+use Rattle.format.specs.Bytes.{pick}
+use Rattle.unsynch.specs.declared.loops.How.{How}
+use Rattle.unsynch.specs.Edits.{editedAfter, stored}
+use Rattle.unsynch.proofs.Edits.{parted, same-front}
+
+module _ {o₀ : List ℕ} {p₀ : ℕ} {l₀ o : List ℕ} {p : ℕ} {m : List ℕ} (s : Storing o₀ p₀ l₀ o p m) (x : ℕ) (l : List ℕ) where
+  -- the byte goes, and the byte before it stays; or it is stored
+  pub drop-turn : (f : Bool) (q : ℕ) → m ≡ pick f l (x ∷ l) → 1 ≤ p → q ≡ p - cond f 1 0
+      → (q < length o) × ((v : ℕ) → v ≡ pick f (getD o q 0) x → Storing o₀ p₀ l₀ (set o q v) (q + 1) l)
+  drop-turn true q e h is =
+      let z : p ≡ q + 1 = omega arith in
+      (omega (arith, lies s), λ v w. on (ap (set o q) (sym w)) (at z (keep q 0 (by e s))))
+  drop-turn false q e h is =
+      let z : p ≡ q = omega arith in
+      (omega (arith, lies (by e s)), λ v w. on (ap (λ (k : ℕ). set o k x) z ∙ ap (set o q) (sym w)) (at (ap (λ (k : ℕ). k + 1) z) (put (by e s))))
+
+  -- a 00 is stored, and the byte behind it; or the byte over it
+  pub insert-turn : (f : Bool) (q : ℕ) → m ≡ pick f (0 ∷ x ∷ l) (x ∷ l) → q ≡ p + cond f 1 0
+      → (p ≤ q) × (q < length o) × Storing o₀ p₀ l₀ (set (set o p 0) q x) (q + 1) l
+  insert-turn true q e is = (
+    omega arith,
+    omega (arith, lies (by e s)),
+    on (ap (λ (k : ℕ). set (set o p 0) k x) (sym is)) (at (ap (λ (k : ℕ). k + 1) (sym is)) (put (put (by e s)))),
+  )
+  insert-turn false q e is =
+      let z : p ≡ q = omega arith in
+      (omega arith, omega (arith, lies (by e s)), on (ap (λ (k : ℕ). set (set o p 0) k x) z) (at (ap (λ (k : ℕ). k + 1) z) (over 0 (by e s))))
+
+-- what the edit makes of the bytes behind place i, up to place m, is stored by another function
+module _ (how : How) (s : List ℕ) (i m to : ℕ) (after : i ≤ m) (lt : m < to) (le : to ≤ length s) where
+  pub piece : {o₀ : List ℕ} {p₀ : ℕ} {l₀ o : List ℕ} {p : ℕ} → Storing o₀ p₀ l₀ o p (editedAfter how s i to)
+      → (p + length (editedAfter how s i (m + 1)) ≤ length o)
+      × ((r : ℕ) (o′ : List ℕ) → _≡_ {A = ℕ × List ℕ} (r, o′) (stored (editedAfter how s i (m + 1)) p o) → (p ≤ r) × Storing o₀ p₀ l₀ o′ r (editedAfter how s m to))
+  piece {o} {p} t =
+      let l : List ℕ = editedAfter how s i (m + 1) in
+      let u = by (parted how s (m - i) i m to (omega arith) lt le) t in (
+        omega (arith, lies u, length-append l (editedAfter how s m to)),
+        λ r o′ e.
+            let f : r ≡ p + length l = ap (λ (z : ℕ × List ℕ). z .0) e in
+            (omega arith, at (sym f) (on (sym (ap (λ (z : ℕ × List ℕ). z .1) e)) (puts l u))),
+      )
+
+  -- the same behind place n of the area that is edited
+  module _ (n : ℕ) (before : to ≤ n) {o₀ : List ℕ} {p₀ : ℕ} {l₀ o : List ℕ} {p : ℕ} (fits : n ≤ length s) (behind : n ≤ p) where
+    pub piece-in : length o ≡ length s → take n o ≡ take n s → Storing o₀ p₀ l₀ o p (editedAfter how s i to)
+        → (p + length (editedAfter how o i (m + 1)) ≤ length o)
+        × ((r : ℕ) (o′ : List ℕ) → _≡_ {A = ℕ × List ℕ} (r, o′) (stored (editedAfter how o i (m + 1)) p o)
+        → (p ≤ r) × (take n o′ ≡ take n s) × Storing o₀ p₀ l₀ o′ r (editedAfter how s m to))
+    piece-in long e t =
+        let f : editedAfter how o i (m + 1) ≡ editedAfter how s i (m + 1) = same-front how o s i (m + 1) n (omega arith) (omega arith) (omega arith) fits e in
+        let u = piece t in (
+          omega (arith, u .0, ap length f),
+          λ r o′ g.
+              let v = u .1 r o′ (g ∙ ap (λ (l : List ℕ). stored l p o) f) in
+              (v .0, ap (λ (z : ℕ × List ℕ). take n (z .1)) g ∙ take-sets n o p (editedAfter how o i (m + 1)) behind ∙ e, v .1),
+        )
+
+-- a byte, and behind it what is left
+pub stored-first : (x at : ℕ) (l u o : List ℕ) → u ≡ x ∷ l → stored l (at + 1) (set o at x) ≡ stored u at o
+stored-first x at l u o e =
+    let f : at + 1 + length l ≡ at + suc (length l) = omega arith in
+    ap {B = ℕ × List ℕ} (λ (k : ℕ). (at + 1 + length l, sets (set o at x) k l)) (add-one at)
+    ∙ ap {B = ℕ × List ℕ} (λ (k : ℕ). (k, sets (set o at x) (suc at) l)) f
+    ∙ ap (λ (m : List ℕ). stored m at o) (sym e)

@@ -1,0 +1,50 @@
+-- `unsynch::loops::edit_chunk` meets its contract. Assumes nothing.
+use mathlib.Core.Path.{ap, _∙_}
+use mathlib.Core.List.{List}
+use Prim.Native.Nat.{ℕ}
+use lib.ListN.{length, replicate}
+use Rattle.unsynch.specs.Edits.{stored}
+use Rattle.unsynch.proofs.Edits.{in-copy}
+use borrow.Author.Needs.{needs}
+use native.Mathlib.Omega.{arith}
+use Rattle.unsynch.proofs.loops.edit_chunk.Statement.{statement}
+use Rattle.unsynch.proofs.loops.edit_chunk.Tie as tie
+
+slice-aggregate-copy : tie.Need-slice-aggregate-copy
+slice-aggregate-copy c = search needs
+
+copy-requires : tie.Need-copy-requires
+copy-requires c κs = search needs
+
+slice-aggregate-edit-after : tie.Need-slice-aggregate-edit-after
+slice-aggregate-edit-after c = search needs
+
+sub-edit-after : tie.Need-sub-edit-after
+sub-edit-after c = search needs
+
+edit-after-requires : tie.Need-edit-after-requires
+edit-after-requires c κs =
+    let a = c .before .before .before .before .before .before .before .args in
+    let e = in-copy (a .how) (a .area .now) (replicate 257 0) (c .before .before .before .copy .last .0) (a .from) (a .to) (omega arith) (omega arith) (omega arith) (c .before .before .before .copy .ensures) in
+    (omega arith, omega (arith, ap length (e .1)))
+
+same-length : tie.Need-same-length
+same-length c = search needs
+
+returns : tie.Need-returns
+returns c =
+    let a = c .before .before .before .before .before .before .before .before .before .before .args in
+    let e = in-copy (a .how) (a .area .now) (replicate 257 0) (c .before .before .before .before .before .before .copy .last .0) (a .from) (a .to) (omega arith) (omega arith) (omega arith) (c .before .before .before .before .before .before .copy .ensures) in
+    c .before .before .edit-after .ensures ∙ ap (λ (l : List ℕ). stored l (a .at) (a .area .now)) (e .1)
+
+pub edit-chunk-spec : {M : Type 1} → statement M
+edit-chunk-spec =
+    tie.close
+    (tie.spec
+    slice-aggregate-copy
+    copy-requires
+    slice-aggregate-edit-after
+    sub-edit-after
+    edit-after-requires
+    same-length
+    returns)

@@ -1,0 +1,85 @@
+-- `unsynch::loops::edit_in_after` meets its contract. Assumes nothing.
+use mathlib.Core.Path.{_≡_, refl, ap}
+use Prim.Native.Nat.{ℕ, _+_, _-_, _≤_, _<_}
+use lib.ListN.{length, take}
+use Rattle.lists.proofs.Stores.{Storing, begin, done}
+use Rattle.unsynch.specs.Edits.{editedAfter}
+use Rattle.unsynch.proofs.Edits.{edited-end}
+use Rattle.unsynch.proofs.Turns.{piece-in}
+use borrow.Author.Needs.{needs}
+use native.Mathlib.Omega.{arith}
+use Rattle.unsynch.proofs.loops.edit_in_after.Statement.{statement}
+use Rattle.unsynch.proofs.loops.edit_in_after.Tie as tie
+
+abbrev Inv-loop : tie.InvT-loop
+Inv-loop area₀ at from to how o₀ i₀ area o i =
+    (from ≤ i) × (i < to) × (at ≤ o) × (take at area ≡ take at area₀)
+    × Storing area₀ at (editedAfter how area₀ from to) area o (editedAfter how area₀ i to)
+
+abbrev μ-loop : tie.MeasureT-loop
+μ-loop area₀ at from to how o₀ i₀ area o i = to - i
+
+loop-holds : tie.Need-loop-holds Inv-loop μ-loop
+loop-holds c = (omega arith, omega arith, omega arith, refl, begin _ _ _ (omega arith))
+
+add-loop : tie.Need-add-loop Inv-loop μ-loop
+add-loop c = omega arith
+
+sub-least : tie.Need-sub-least Inv-loop μ-loop
+sub-least c = omega arith
+
+sub-least-2 : tie.Need-sub-least-2 Inv-loop μ-loop
+sub-least-2 c = omega arith
+
+least-requires : tie.Need-least-requires Inv-loop μ-loop
+least-requires c κs = search needs
+
+add-last : tie.Need-add-last Inv-loop μ-loop
+add-last c = omega arith
+
+add-edit-chunk : tie.Need-add-edit-chunk Inv-loop μ-loop
+add-edit-chunk c = omega arith
+
+edit-chunk-requires : tie.Need-edit-chunk-requires Inv-loop μ-loop
+edit-chunk-requires c κs =
+    let a = c .before .before .before .before .before .args in
+    let L = c .before .before .before .loop in
+    (omega (arith, L .inv .4 .long), piece-in (a .how) (a .area .now) (L .i) (L .i + c .before .least .result) (a .to) (omega arith) (omega arith) (omega arith) (a .at) (omega arith) (omega arith) (L .inv .2) (L .inv .4 .long) (L .inv .3) (L .inv .4) .0)
+
+loop-less : tie.Need-loop-less Inv-loop μ-loop
+loop-less c = omega arith
+
+loop-again : tie.Need-loop-again Inv-loop μ-loop
+loop-again c =
+    let a = c .before .before .before .before .before .before .before .before .args in
+    let L = c .before .before .before .before .before .before .loop in
+    let t = piece-in (a .how) (a .area .now) (L .i) (L .i + c .before .before .before .before .least .result) (a .to) (omega arith) (omega arith) (omega arith) (a .at) (omega arith) (omega arith) (L .inv .2) (L .inv .4 .long) (L .inv .3) (L .inv .4) .1 (c .before .before .edit-chunk .result) (c .before .before .edit-chunk .last .0) (c .before .before .edit-chunk .ensures) in
+    (omega arith, omega arith, omega arith, t .1, t .2)
+
+same-length : tie.Need-same-length Inv-loop μ-loop
+same-length c = c .before .loop .inv .4 .long
+
+returns : tie.Need-returns Inv-loop μ-loop
+returns c =
+    let a = c .before .before .before .args in
+    let L = c .before .loop in
+    done (edited-end (a .how) (a .area .now) (L .i) (a .to) (omega arith)) (L .inv .4)
+
+pub edit-in-after-spec : {M : Type 1} → statement M
+edit-in-after-spec =
+    tie.close
+    (tie.spec
+    Inv-loop
+    μ-loop
+    loop-holds
+    add-loop
+    sub-least
+    sub-least-2
+    least-requires
+    add-last
+    add-edit-chunk
+    edit-chunk-requires
+    loop-less
+    loop-again
+    same-length
+    returns)

@@ -1,0 +1,40 @@
+-- `unsynch::loops::edited_len` meets its contract. Assumes nothing.
+use mathlib.Core.Path.{ap, _∙_}
+use Rattle.unsynch.proofs.Edits.{few-after, length-longer, length-shorter}
+use borrow.Author.Needs.{needs}
+use native.Mathlib.Omega.{arith}
+use Rattle.unsynch.proofs.loops.edited_len.Statement.{statement}
+use Rattle.unsynch.proofs.loops.edited_len.Tie as tie
+
+hits-after-requires : tie.Need-hits-after-requires
+hits-after-requires c κs = search needs
+
+sub-result : tie.Need-sub-result
+sub-result c = search needs
+
+add-result : tie.Need-add-result
+add-result c = omega (arith, few-after (c .before .before .before .args .how) (c .before .before .before .args .s .now) (c .before .before .before .args .from) (c .before .before .before .args .to) (omega arith) (omega arith))
+
+sub-result-2 : tie.Need-sub-result-2
+sub-result-2 c = search needs
+
+sub-result-3 : tie.Need-sub-result-3
+sub-result-3 c = omega (arith, few-after (c .before .before .before .args .how) (c .before .before .before .args .s .now) (c .before .before .before .args .from) (c .before .before .before .args .to) (omega arith) (omega arith))
+
+returns : tie.Need-returns
+returns c = omega (arith, length-longer (c .before .before .before .args .how) (c .before .before .before .args .s .now) (c .before .before .before .args .from) (c .before .before .before .args .to) (omega arith) (omega arith) (c .if1 .taken))
+
+returns-2 : tie.Need-returns-2
+returns-2 c = omega (arith, length-shorter (c .before .before .before .args .how) (c .before .before .before .args .s .now) (c .before .before .before .args .from) (c .before .before .before .args .to) (omega arith) (omega arith) (c .if1 .left))
+
+pub edited-len-spec : {M : Type 1} → statement M
+edited-len-spec =
+    tie.close
+    (tie.spec
+    hits-after-requires
+    sub-result
+    add-result
+    sub-result-2
+    sub-result-3
+    returns
+    returns-2)

@@ -1,0 +1,112 @@
+-- `unsynch::loops::insert_bytes` meets its contract. Assumes nothing.
+use mathlib.Core.Path.{_≡_, sym, ap}
+use Prim.Native.Nat.{ℕ, _+_, _-_, _≤_, _<_}
+use mathlib.Core.List.{List}
+use lib.ListN.{length, set, getD, length-set}
+use Rattle.lists.proofs.Stores.{Storing, begin, done}
+use Rattle.unsynch.specs.Edits.{editedAfter}
+use Rattle.unsynch.proofs.Edits.{edited-end, comes}
+use Rattle.unsynch.proofs.Turns.{insert-turn}
+use borrow.Author.Needs.{needs}
+use native.Mathlib.Omega.{arith}
+use Rattle.unsynch.proofs.loops.insert_bytes.Statement.{statement}
+use Rattle.unsynch.proofs.loops.insert_bytes.Tie as tie
+
+abbrev Inv-loop : tie.InvT-loop
+Inv-loop buf₀ at s from to how o₀ i₀ buf o i =
+    (from ≤ i) × (i < to) × Storing buf₀ at (editedAfter how s from to) buf o (editedAfter how s i to)
+
+abbrev μ-loop : tie.MeasureT-loop
+μ-loop buf₀ at s from to how o₀ i₀ buf o i = to - i
+
+-- the stores lie in the buffer, and leave what is to be left
+turn : (c : tie.After-bit Inv-loop μ-loop)
+    → let a = c .before .before .before .before .before .before .before .before .args in
+    let L = c .before .before .before .before .before .loop in
+    let q = L .o + c .bit .result in
+    (L .o ≤ q)
+    × (q < length (L .buf))
+    × Storing (a .buf .now) (a .at) (editedAfter (a .how) (a .s .now) (a .from) (a .to))
+    (set (set (L .buf) (L .o) 0) q (getD (a .s .now) (L .i + 1) 0)) (q + 1) (editedAfter (a .how) (a .s .now) (L .i + 1) (a .to))
+turn c =
+    let a = c .before .before .before .before .before .before .before .before .args in
+    let L = c .before .before .before .before .before .loop in
+    let pre = c .before .before .before .before .before .before .before .before .pre in
+    let f = c .before .hit in
+    insert-turn (L .inv .2) (getD (a .s .now) (L .i + 1) 0) (editedAfter (a .how) (a .s .now) (L .i + 1) (a .to)) (f .result) (L .o + c .bit .result)
+    (comes (a .how) (a .s .now) (L .i) (a .to) (omega arith) (omega arith) (f .result) (f .ensures) (pre .0 .2))
+    (ap (λ (k : ℕ). L .o + k) (c .bit .ensures .0))
+
+loop-holds : tie.Need-loop-holds Inv-loop μ-loop
+loop-holds c = (omega arith, omega arith, begin _ _ _ (omega arith))
+
+add-loop : tie.Need-add-loop Inv-loop μ-loop
+add-loop c = omega arith
+
+add-b : tie.Need-add-b Inv-loop μ-loop
+add-b c = omega arith
+
+shared-slice-read-b : tie.Need-shared-slice-read-b Inv-loop μ-loop
+shared-slice-read-b c = omega arith
+
+shared-slice-read-hit : tie.Need-shared-slice-read-hit Inv-loop μ-loop
+shared-slice-read-hit c = omega arith
+
+hit-requires : tie.Need-hit-requires Inv-loop μ-loop
+hit-requires c κs = search needs
+
+bit-requires : tie.Need-bit-requires Inv-loop μ-loop
+bit-requires c κs = search needs
+
+add-p : tie.Need-add-p Inv-loop μ-loop
+add-p c = omega (arith, turn c .1, c .before .before .before .before .before .loop .inv .2 .long)
+
+slice-write-buf : tie.Need-slice-write-buf Inv-loop μ-loop
+slice-write-buf c = omega (arith, turn c .0, turn c .1)
+
+slice-write-buf-2 : tie.Need-slice-write-buf-2 Inv-loop μ-loop
+slice-write-buf-2 c = simp length-set (turn c .1)
+
+add-o : tie.Need-add-o Inv-loop μ-loop
+add-o c = omega (arith, turn c .1, c .before .before .before .before .before .loop .inv .2 .long)
+
+add-i : tie.Need-add-i Inv-loop μ-loop
+add-i c = omega arith
+
+loop-less : tie.Need-loop-less Inv-loop μ-loop
+loop-less c = omega arith
+
+loop-again : tie.Need-loop-again Inv-loop μ-loop
+loop-again c = (omega arith, omega arith, turn c .2)
+
+same-length : tie.Need-same-length Inv-loop μ-loop
+same-length c = c .before .loop .inv .2 .long
+
+returns : tie.Need-returns Inv-loop μ-loop
+returns c =
+    let a = c .before .before .before .before .args in
+    let L = c .before .loop in
+    done (edited-end (a .how) (a .s .now) (L .i) (a .to) (omega arith)) (L .inv .2)
+
+pub insert-bytes-spec : {M : Type 1} → statement M
+insert-bytes-spec =
+    tie.close
+    (tie.spec
+    Inv-loop
+    μ-loop
+    loop-holds
+    add-loop
+    add-b
+    shared-slice-read-b
+    shared-slice-read-hit
+    hit-requires
+    bit-requires
+    add-p
+    slice-write-buf
+    slice-write-buf-2
+    add-o
+    add-i
+    loop-less
+    loop-again
+    same-length
+    returns)

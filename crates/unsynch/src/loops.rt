@@ -1,0 +1,239 @@
+// The loops behind resynchronising and unsynchronising: both are one edit of the bytes directly after an FF.
+use format::Mode;
+ghost use mathlib.Core.Path.{_≡_};
+ghost use mathlib.Core.Bool.{Bool, true, false, cond, _&&_};
+ghost use Prim.Native.Nat.{_+_, _-_, _*_, _^_, _≤_, _<_, min};
+ghost use lib.ListN.{length, take, getD};
+ghost use lib.Seq.{slice, sets};
+ghost use lib.Dec.{eqb, leb};
+ghost use Rattle.format.specs.Bytes.{pick};
+ghost use Rattle.unsynch.specs.Edits.{concerns, resyncBy, unsyncBy, edited, editedAfter, hitsAfter, stored};
+
+// An edit of bytes directly after an FF: of 00 where `zero` says so, of E0 to FF where `high` does.
+// Such a byte gets a 00 before it where `insert` says so, else it goes.
+pub(crate) struct How {
+    pub(crate) insert: bool,
+    pub(crate) zero: bool,
+    pub(crate) high: bool,
+}
+
+// The edit that resynchronises.
+pub(crate) fn resync_by() -> How
+    ensures { λ r. ⌜ r ≡ resyncBy ⌝ }
+{
+    How {
+        insert: false,
+        zero: true,
+        high: false,
+    }
+}
+
+// The edit that unsynchronises.
+pub(crate) fn unsync_by(mode: Mode) -> How
+    ensures { λ r. ⌜ r ≡ unsyncBy mode ⌝ }
+{
+    match mode {
+        Mode::Off => How {
+            insert: true,
+            zero: false,
+            high: false,
+        },
+        Mode::Crate => How {
+            insert: true,
+            zero: true,
+            high: false,
+        },
+        Mode::Standard => How {
+            insert: true,
+            zero: true,
+            high: true,
+        },
+    }
+}
+
+// The smaller number.
+pub(crate) fn least(a: usize, b: usize) -> usize
+    ensures { λ r. ⌜ r ≡ min a b ⌝ }
+{
+    if a < b { a } else { b }
+}
+
+// 1 for true, 0 for false.
+fn bit(x: bool) -> usize
+    ensures { λ r. ⌜ (r ≡ cond x 1 0) × (r ≤ 1) ⌝ }
+{
+    if x { 1 } else { 0 }
+}
+
+// The first where the test holds, else the second.
+fn either(x: bool, a: u8, b: u8) -> u8
+    ensures { λ r. ⌜ r ≡ pick x a b ⌝ }
+{
+    if x { a } else { b }
+}
+
+// Whether the edit concerns b directly after the byte last.
+fn hit(how: How, last: u8, b: u8) -> bool
+    ensures { λ r. ⌜ r ≡ (eqb last 255 && concerns how b) ⌝ }
+{
+    (last == 255) & ((how.zero & (b == 0)) | (how.high & (b >= 0xE0)))
+}
+
+// How many bytes of s behind place from, up to place to, the edit concerns.
+fn hits_after(s: &[u8], from: usize, to: usize, how: How) -> usize
+    requires { ⌜ (from < to) × (to ≤ length (now s)) ⌝ }
+    ensures { λ r. ⌜ r ≡ hitsAfter how (now (s .entry)) from to ⌝ }
+{
+    let mut n: usize = 0;
+    let mut i = from;
+    while i + 1 < to {
+        n += bit(hit(how, s[i], s[i + 1]));
+        i += 1;
+    }
+    n
+}
+
+// How many bytes s[from..to] has after the edit.
+pub(crate) fn edited_len(s: &[u8], from: usize, to: usize, how: How) -> usize
+    requires { ⌜ (from < to) × (to ≤ length (now s)) ⌝ }
+    ensures { λ r. ⌜ r ≡ length (edited how false (slice from to (now (s .entry)))) ⌝ }
+{
+    let n = hits_after(s, from, to, how);
+    if how.insert {
+        to - from + n
+    } else {
+        to - from - n
+    }
+}
+
+// Whether s[from..to] has at most `room` bytes after the edit. They are counted only where it depends on them.
+pub(crate) fn fits(s: &[u8], from: usize, to: usize, how: How, room: usize) -> bool
+    requires { ⌜ (from < to) × (to ≤ length (now s)) ⌝ }
+    ensures { λ r. ⌜ r ≡ leb (length (edited how false (slice from to (now (s .entry))))) room ⌝ }
+{
+    if most(to - from, how) <= room {
+        return true;
+    }
+    edited_len(s, from, to, how) <= room
+}
+
+// How many bytes n bytes, at least one, have at most after the edit.
+fn most(n: usize, how: How) -> usize
+    requires { ⌜ (1 ≤ n) × (n < 2 ^ 63) ⌝ }
+    ensures { λ r. ⌜ r ≡ pick (how .insert) (n + n - 1) n ⌝ }
+{
+    if how.insert { n + n - 1 } else { n }
+}
+
+// Stores what the edit makes of the bytes of s behind place from, up to place to, where such bytes go. Each turn stores:
+// where a byte goes, the byte before it stays as it stands. The answer is the place behind what is stored.
+fn drop_bytes(buf: &mut [u8], at: usize, s: &[u8], from: usize, to: usize, how: How) -> usize
+    requires { ⌜ (from < to) × (to ≤ length (now s)) × (1 ≤ at) × (how .insert ≡ false) ⌝ }
+    requires { ⌜ at + length (editedAfter how (now s) from to) ≤ length (now buf) ⌝ }
+    ensures { λ r. ⌜ (r, now (buf .exit)) ≡ stored (editedAfter how (now (s .entry)) from to) at (now (buf .entry)) ⌝ }
+{
+    let mut o = at;
+    let mut i = from;
+    while i + 1 < to {
+        let b = s[i + 1];
+        let goes = hit(how, s[i], b);
+        let p = o - bit(goes);
+        buf[p] = either(goes, buf[p], b);
+        o = p + 1;
+        i += 1;
+    }
+    o
+}
+
+// Stores what the edit makes of the bytes of s behind place from, up to place to, where such bytes get a 00 before them.
+// Each turn stores a 00 and then the byte, over it or behind it. The answer is the place behind what is stored.
+fn insert_bytes(buf: &mut [u8], at: usize, s: &[u8], from: usize, to: usize, how: How) -> usize
+    requires { ⌜ (from < to) × (to ≤ length (now s)) × (how .insert ≡ true) ⌝ }
+    requires { ⌜ at + length (editedAfter how (now s) from to) ≤ length (now buf) ⌝ }
+    ensures { λ r. ⌜ (r, now (buf .exit)) ≡ stored (editedAfter how (now (s .entry)) from to) at (now (buf .entry)) ⌝ }
+{
+    let mut o = at;
+    let mut i = from;
+    while i + 1 < to {
+        let b = s[i + 1];
+        let p = o + bit(hit(how, s[i], b));
+        buf[o] = 0;
+        buf[p] = b;
+        o = p + 1;
+        i += 1;
+    }
+    o
+}
+
+// Stores what the edit makes of the bytes of s behind place from, up to place to. The answer is the place behind what is stored.
+fn edit_after(buf: &mut [u8], at: usize, s: &[u8], from: usize, to: usize, how: How) -> usize
+    requires { ⌜ (from < to) × (to ≤ length (now s)) × (1 ≤ at) ⌝ }
+    requires { ⌜ at + length (editedAfter how (now s) from to) ≤ length (now buf) ⌝ }
+    ensures { λ r. ⌜ (r, now (buf .exit)) ≡ stored (editedAfter how (now (s .entry)) from to) at (now (buf .entry)) ⌝ }
+{
+    if how.insert {
+        insert_bytes(buf, at, s, from, to, how)
+    } else {
+        drop_bytes(buf, at, s, from, to, how)
+    }
+}
+
+// Stores s[from..to], edited, from `at` on. The answer is the place behind what is stored.
+pub(crate) fn edit(buf: &mut [u8], at: usize, s: &[u8], from: usize, to: usize, how: How) -> usize
+    requires { ⌜ (from < to) × (to ≤ length (now s)) ⌝ }
+    requires { ⌜ at + length (edited how false (slice from to (now s))) ≤ length (now buf) ⌝ }
+    ensures { λ r. ⌜ (r, now (buf .exit)) ≡ stored (edited how false (slice from to (now (s .entry)))) at (now (buf .entry)) ⌝ }
+{
+    buf[at] = s[from];
+    edit_after(buf, at + 1, s, from, to, how)
+}
+
+// The same in one area: area[from..to], edited, is stored from `at` on, behind it.
+pub(crate) fn edit_in(area: &mut [u8], at: usize, from: usize, to: usize, how: How) -> usize
+    requires { ⌜ (from < to) × (to ≤ at) ⌝ }
+    requires { ⌜ at + length (edited how false (slice from to (now area))) ≤ length (now area) ⌝ }
+    ensures { λ r. ⌜ (r, now (area .exit)) ≡ stored (edited how false (slice from to (now (area .entry)))) at (now (area .entry)) ⌝ }
+{
+    area[at] = area[from];
+    edit_in_after(area, at + 1, from, to, how)
+}
+
+// As edit_after in one area, chunk by chunk.
+fn edit_in_after(area: &mut [u8], at: usize, from: usize, to: usize, how: How) -> usize
+    requires { ⌜ (from < to) × (to ≤ at) ⌝ }
+    requires { ⌜ at + length (editedAfter how (now area) from to) ≤ length (now area) ⌝ }
+    ensures { λ r. ⌜ (r, now (area .exit)) ≡ stored (editedAfter how (now (area .entry)) from to) at (now (area .entry)) ⌝ }
+{
+    let mut o = at;
+    let mut i = from;
+    while i + 1 < to {
+        let last = i + least(to - i - 1, 256);
+        o = edit_chunk(area, o, i, last + 1, how);
+        i = last;
+    }
+    o
+}
+
+// Stores what the edit makes of the bytes of an area behind place from, up to place to, by way of a copy of them.
+fn edit_chunk(area: &mut [u8], at: usize, from: usize, to: usize, how: How) -> usize
+    requires { ⌜ (from < to) × (to ≤ from + 257) × (to ≤ length (now area)) × (1 ≤ at) ⌝ }
+    requires { ⌜ at + length (editedAfter how (now area) from to) ≤ length (now area) ⌝ }
+    ensures { λ r. ⌜ (r, now (area .exit)) ≡ stored (editedAfter how (now (area .entry)) from to) at (now (area .entry)) ⌝ }
+{
+    let mut chunk = [0u8; 257];
+    copy(&mut chunk, 0, &area[..], from, to);
+    edit_after(area, at, &chunk, 0, to - from, how)
+}
+
+// Stores s[from..to] from `at` on.
+fn copy(buf: &mut [u8], at: usize, s: &[u8], from: usize, to: usize)
+    requires { ⌜ (from ≤ to) × (to ≤ length (now s)) × (at + (to - from) ≤ length (now buf)) ⌝ }
+    ensures { λ _. ⌜ now (buf .exit) ≡ sets (now (buf .entry)) at (slice from to (now (s .entry))) ⌝ }
+{
+    let n = to - from;
+    let mut k = 0;
+    while k < n {
+        buf[at + k] = s[from + k];
+        k += 1;
+    }
+}
