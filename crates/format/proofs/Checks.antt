@@ -25,6 +25,11 @@ pub of-picked : {A : Type 0} (P : A → Type 0) (t : Bool) {x y : A} → (t ≡ 
 of-picked P true f g = f refl
 of-picked P false f g = g refl
 
+-- two choices by one test are the same where the first ones are
+pub same-first : {A : Type 0} (t : Bool) {x y : A} (z : A) → (t ≡ true → x ≡ y) → pick t x z ≡ pick t y z
+same-first true z h = h refl
+same-first false z h = refl
+
 -- ---- checks
 
 -- a check that gives its number where a test holds, or where it fails, was passed
@@ -58,3 +63,16 @@ first-append (k ∷ a) b e =
     let h = first-none k (a ++ b) e in
     let t = first-append a b (h .1) in
     (rw (h .0) (t .0), t .1)
+
+-- those before decide where one of them fails, those behind where all of them pass
+pub first-stops : (a b : List ℕ) → (first a ≡ 0 → ⊥) → first (a ++ b) ≡ first a
+unfolding first
+first-stops [] b ne = absurd (ne refl)
+first-stops (k ∷ a) b ne = same-first (eqb k 0) k (λ e. first-stops a b (λ z. ne (rw e z)))
+
+pub first-goes-on : (a b : List ℕ) → first a ≡ 0 → first (a ++ b) ≡ first b
+unfolding first
+first-goes-on [] b e = refl
+first-goes-on (k ∷ a) b e =
+    let h = first-none k a e in
+    rw (h .0) (first-goes-on a b (h .1))

@@ -3,4 +3,5 @@ pub mod Bools
 pub mod Parts
 pub mod Tables
 pub mod Slices
+pub mod Cuts
 pub mod Stores

@@ -51,7 +51,7 @@ pub record Opening (v : Version) (m : Mode) (tag work frames : List ℕ) : Type 
   pub same : length left ≡ length work
 
 module _ (v : Version) (m : Mode) (p : ℕ) (f work : List ℕ) (small : length (regionBytes v m p f) < 2 ^ 28)
-  (room : length (tagOf v m p f) ≤ length work) where
+    (room : length (tagOf v m p f) ≤ length work) where
   abbrev tag : List ℕ
   tag = tagOf v m p f
 

@@ -1,0 +1,4 @@
+-- What the proofs use.
+mod Headers
+mod Utf8
+mod Words

@@ -1,0 +1,35 @@
+-- `frame::ids::is_utf8_3` meets its contract. Assumes nothing.
+use mathlib.Core.Path.{_≡_, sym, _∙_}
+use mathlib.Core.List.{List, [], _∷_}
+use borrow.Author.Needs.{needs}
+use Rattle.frame.proofs.Utf8.{ascii-3}
+use Rattle.frame.proofs.ids.is_utf8_3.Statement.{statement}
+use Rattle.frame.proofs.ids.is_utf8_3.Tie as tie
+
+returns : tie.Need-returns
+returns c = let a = c .before .args in sym (ascii-3 (a .a) (a .b) (a .c) (c .if1 .taken))
+
+lead-requires : tie.Need-lead-requires
+lead-requires c κs = search needs
+
+next-requires : tie.Need-next-requires
+next-requires c κs = search needs
+
+next-requires-2 : tie.Need-next-requires-2
+next-requires-2 c κs = search needs
+
+is-over-requires : tie.Need-is-over-requires
+is-over-requires c κs = search needs
+
+returns-2 : tie.Need-returns-2
+returns-2 c =
+    let a = c .before .before .before .before .before .args in
+    c .is-over .ensures
+    ∙ c .before .next2 .ensures []
+    ∙ c .before .before .next .ensures (a .c ∷ [])
+    ∙ c .before .before .before .lead .ensures (a .b ∷ a .c ∷ [])
+
+pub is-utf8-3-spec : {M : Type 1} → statement M
+is-utf8-3-spec =
+    tie.close
+    (tie.spec returns lead-requires next-requires next-requires-2 is-over-requires returns-2)

@@ -1,0 +1,28 @@
+-- `frame::v4::size` meets its contract. Assumes nothing.
+use mathlib.Core.Path.{_≡_, ap, _∙_}
+use Prim.Native.Nat.{ℕ}
+use native.Mathlib.Omega.{arith}
+use borrow.Author.Needs.{needs}
+use Rattle.format.specs.Numbers.{bytesOf, fromSynchsafe}
+use Rattle.frame.proofs.Words.{bytes-back}
+use Rattle.frame.proofs.v4.size.Statement.{statement}
+use Rattle.frame.proofs.v4.size.Tie as tie
+
+read32-requires : tie.Need-read32-requires
+read32-requires c κs = search needs
+
+decode-u32-requires : tie.Need-decode-u32-requires
+decode-u32-requires c κs = search needs
+
+cast-result : tie.Need-cast-result
+cast-result c = search needs
+
+returns : tie.Need-returns
+returns c =
+    let s = c .before .before .before .args .b .now in
+    c .decode-u32 .ensures
+    ∙ ap (λ (n : ℕ). fromSynchsafe (bytesOf 4 n)) (c .before .read32 .ensures)
+    ∙ ap fromSynchsafe (bytes-back 4 s (omega arith) (λ i. omega (arith, c .before .before .shared-slice-known .given i)))
+
+pub size-spec : {M : Type 1} → statement M
+size-spec = tie.close (tie.spec read32-requires decode-u32-requires cast-result returns)

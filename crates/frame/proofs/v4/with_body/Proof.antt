@@ -1,0 +1,84 @@
+-- `frame::v4::with_body` meets its contract. Assumes nothing.
+use mathlib.Core.Path.{_≡_, ap, _∙_}
+use mathlib.Core.Bool.{Bool}
+use borrow.Author.Needs.{needs}
+use Rattle.lists.proofs.Bools.{false-not-true}
+use Rattle.format.specs.Bytes.{pick}
+use Rattle.format.specs.Frame.{lengthBytes}
+use Rattle.format.specs.declared.Version.the-variants.{Id3v24}
+use Rattle.frame.proofs.Headers.{no-length, found}
+use Rattle.frame.proofs.v4.with_body.Statement.{statement}
+use Rattle.frame.proofs.v4.with_body.Tie as tie
+
+is-length : (c : tie.After-length-bytes) → c .length-bytes .result ≡ lengthBytes Id3v24 (c .before .before .before .before .args .b .now)
+is-length c = c .length-bytes .ensures .0 ∙ ap (λ (t : Bool). pick t 4 0) (c .before .has .ensures)
+
+shared-slice-read-flags : tie.Need-shared-slice-read-flags
+shared-slice-read-flags c = search needs
+
+has-requires : tie.Need-has-requires
+has-requires c κs = search needs
+
+length-bytes-requires : tie.Need-length-bytes-requires
+length-bytes-requires c κs = search needs
+
+add-start : tie.Need-add-start
+add-start c = search needs
+
+returns : tie.Need-returns
+returns c depth shallow =
+    let a = c .before .before .before .before .before in
+    let n = c .before in
+    no-length Id3v24 (a .args .b .now) (a .pre) depth shallow (n .length-bytes .result) (is-length n) (c .if1 .taken)
+
+has-requires-2 : tie.Need-has-requires-2
+has-requires-2 c κs = search needs
+
+has-requires-3 : tie.Need-has-requires-3
+has-requires-3 c κs = search needs
+
+read32-requires : tie.Need-read32-requires
+read32-requires c κs = search needs
+
+size-requires : tie.Need-size-requires
+size-requires c κs = search needs
+
+less-requires : tie.Need-less-requires
+less-requires c κs = search needs
+
+sub-found : tie.Need-sub-found
+sub-found c = search needs
+
+found-requires : tie.Need-found-requires
+found-requires c κs = search needs
+
+returns-2 : tie.Need-returns-2
+returns-2 c depth shallow =
+    let a = c .before .before .before .before .before .before .before .before .before .before .before in
+    let n = c .before .before .before .before .before .before .before in
+    let whole = c .before .before .size in
+    let size = c .before .less in
+    let id = c .before .before .before .read32 in
+    let compressed = c .before .before .before .before .before .has2 in
+    let flagged = c .before .before .before .before .has3 in
+    found Id3v24 (a .args .b .now) (a .pre) depth shallow (n .length-bytes .result) (is-length n) (c .before .before .before .before .before .before .if1 .left)
+    (whole .result) (whole .ensures) (size .result) (size .ensures) (λ w. absurd (false-not-true w))
+    (id .result) (id .ensures) (compressed .result) (flagged .result) (compressed .ensures) (flagged .ensures) (c .found .result) (c .found .ensures)
+
+pub with-body-spec : {M : Type 1} → statement M
+with-body-spec =
+    tie.close
+    (tie.spec
+    shared-slice-read-flags
+    has-requires
+    length-bytes-requires
+    add-start
+    returns
+    has-requires-2
+    has-requires-3
+    read32-requires
+    size-requires
+    less-requires
+    sub-found
+    found-requires
+    returns-2)

@@ -1,0 +1,3 @@
+-- What the functions of this crate answer, on the definitions of the format.
+pub mod Headers
+pub mod Utf8
