@@ -46,7 +46,7 @@ module _ (base : ℕ) (pos : 0 < base) where
       onto-digits 0 k n ∙ omega (arith, z, mod-eq-of-lt h)
 
   -- the number before digits that each are below the base stands above their places
-  onto-above : (a : ℕ) (s : List ℕ) → Digits base s → onto base a s / base ^ length s ≡ a
+  pub onto-above : (a : ℕ) (s : List ℕ) → Digits base s → onto base a s / base ^ length s ≡ a
   unfolding onto
   onto-above a [] h = rw pow-zero (div-one a)
   onto-above a (x ∷ s) h =

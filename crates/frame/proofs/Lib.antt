@@ -2,3 +2,11 @@
 mod Headers
 mod Utf8
 mod Words
+mod Ends
+mod Children
+mod Onto
+mod Widths
+mod Packed
+mod Counts
+mod Unpacking
+mod Bodies

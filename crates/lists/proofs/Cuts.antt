@@ -6,7 +6,7 @@ use native.Mathlib.Numerals.{add-one}
 use native.Mathlib.Omega.{arith}
 use mathlib.Core.List.{List, [], _∷_}
 use lib.ListN.{length, take, drop, getD, length-take, length-drop}
-use lib.Seq.{drop-cons, take-nil, slice}
+use lib.Seq.{drop-cons, take-nil, take-take, slice}
 
 -- ---- from a place on
 
@@ -28,10 +28,14 @@ length-cut f t l = simp (length-drop, length-take)
 pub cut-lies : (f t : ℕ) (l b : List ℕ) → b ≡ slice f t l → 0 < length b → f + length b ≤ length l
 cut-lies f t l b e h = omega (arith, ap length e, length-cut f t l)
 
-take-drop : (k a : ℕ) (l : List ℕ) → take k (drop a l) ≡ slice a (a + k) l
+pub take-drop : (k a : ℕ) (l : List ℕ) → take k (drop a l) ≡ slice a (a + k) l
 take-drop k zero l = let e : 0 + k ≡ k = omega arith in rw e
 take-drop k (suc a) [] = rw (take-nil k, take-nil (suc a + k))
 take-drop k (suc a) (x ∷ l) = let e : suc a + k ≡ suc (a + k) = omega arith in rw e (take-drop k a l)
+
+-- a part of the front of a list
+pub cut-of-take : (k a n : ℕ) (l : List ℕ) → a + k ≤ n → take k (drop a (take n l)) ≡ take k (drop a l)
+cut-of-take k a n l h = rw (take-drop k a (take n l), take-take (a + k) n l h, ← take-drop)
 
 take-min : (t : ℕ) (l : List ℕ) → take (min t (length l)) l ≡ take t l
 take-min zero l = rw zero-min

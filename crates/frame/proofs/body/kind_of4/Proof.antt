@@ -1,0 +1,40 @@
+-- `frame::body::kind_of4` meets its contract. Assumes nothing.
+use mathlib.Core.Path.{sym, _∙_}
+use borrow.Author.Needs.{needs}
+use borrow.Author.Tests.{ne-eqb}
+use Rattle.format.specs.Bytes.{named}
+use Rattle.frame.proofs.body.kind_of4.Statement.{statement}
+use Rattle.frame.proofs.body.kind_of4.Tie as tie
+
+is-text-requires : tie.Need-is-text-requires
+is-text-requires c κs = search needs
+
+returns : tie.Need-returns
+returns c = rw (sym (c .before .is-text .ensures) ∙ c .if1 .taken)
+
+returns-2 : tie.Need-returns-2
+returns-2 c = rw (c .match .keys1)
+
+returns-3 : tie.Need-returns-3
+returns-3 c = rw (c .match .keys2)
+
+returns-4 : tie.Need-returns-4
+returns-4 c = rw (c .match .keys3)
+
+returns-5 : tie.Need-returns-5
+returns-5 c = rw (c .match .keys4)
+
+returns-6 : tie.Need-returns-6
+returns-6 c =
+    let id = c .before .before .before .args .id in
+    let no = c .match .rest in
+    rw (
+      sym (c .before .before .is-text .ensures) ∙ c .before .if1 .left,
+      ne-eqb id (named "POPM") (no .0 .0 .0 .1),
+      ne-eqb id (named "MLLT") (no .0 .0 .1),
+      ne-eqb id (named "CHAP") (no .0 .1),
+      ne-eqb id (named "CTOC") (no .1),
+    )
+
+pub kind-of4-spec : {M : Type 1} → statement M
+kind-of4-spec = tie.close (tie.spec is-text-requires returns returns-2 returns-3 returns-4 returns-5 returns-6)

@@ -1,0 +1,98 @@
+-- `frame::chapter::parse_chapter` meets its contract. Assumes nothing.
+use native.Mathlib.Omega.{arith}
+use borrow.Author.Needs.{needs}
+use Rattle.lists.proofs.Cuts.{cut-lies}
+use Rattle.format.specs.declared.Kind.{Kind}
+use Rattle.frame.proofs.Ends.{zero-le}
+use Rattle.frame.proofs.Bodies.{refused, accepted, chapter-cut, chapter-whole, chapter-parts}
+use Rattle.frame.proofs.chapter.parse_chapter.Statement.{statement}
+use Rattle.frame.proofs.chapter.parse_chapter.Tie as tie
+
+part-requires : tie.Need-part-requires
+part-requires c κs = search needs
+
+zero-at-requires : tie.Need-zero-at-requires
+zero-at-requires c κs = search needs
+
+add-run : tie.Need-add-run
+add-run c = omega (arith, zero-le (c .before .part .result .now), c .before .part .ok)
+
+returns : tie.Need-returns
+returns c v =
+    let a = c .before .before .before .before .args in
+    let b = c .before .before .part in
+    let z = c .before .zero-at in
+    refused v Kind.Chapter (a .from) (b .result .now) _ (b .ensures) 10 (chapter-cut (b .result .now) (z .result) (z .ensures) (c .if1 .taken))
+
+add-time : tie.Need-add-time
+add-time c = search needs
+
+time-requires : tie.Need-time-requires
+time-requires c κs = search needs
+
+add-time-2 : tie.Need-add-time-2
+add-time-2 c = search needs
+
+time-requires-2 : tie.Need-time-requires-2
+time-requires-2 c κs = search needs
+
+add-time-3 : tie.Need-add-time-3
+add-time-3 c = search needs
+
+time-requires-3 : tie.Need-time-requires-3
+time-requires-3 c κs = search needs
+
+add-time-4 : tie.Need-add-time-4
+add-time-4 c = search needs
+
+time-requires-4 : tie.Need-time-requires-4
+time-requires-4 c κs = search needs
+
+add-start : tie.Need-add-start
+add-start c =
+    let a = c .before .before .before .before .before .before .before .before .args in
+    let b = c .before .before .before .before .before .before .part in
+    let whole = c .before .before .before .before .if1 .left in
+    omega (arith, cut-lies (a .from) (a .to) (a .s .now) (b .result .now) (b .ensures) (omega arith))
+
+sub-left : tie.Need-sub-left
+sub-left c = search needs
+
+nowhere-requires : tie.Need-nowhere-requires
+nowhere-requires c κs = search needs
+
+returns-2 : tie.Need-returns-2
+returns-2 c v =
+    let a = c .before .before .before .before .before .before .before .before .before .args in
+    let b = c .before .before .before .before .before .before .before .part in
+    let z = c .before .before .before .before .before .before .zero-at in
+    let none = c .nowhere in
+    accepted v Kind.Chapter (a .from) (b .result .now) _ (b .ensures) _
+    (chapter-whole (b .result .now) (z .result) (z .ensures) (c .before .before .before .before .before .if1 .left))
+    (chapter-parts (b .result .now) (z .result) (z .ensures) v (a .from) _ _ _ _ (none .result)
+    (c .before .before .before .before .time .ensures)
+    (c .before .before .before .time2 .ensures)
+    (c .before .before .time3 .ensures)
+    (c .before .time4 .ensures)
+    (none .ensures))
+
+pub parse-chapter-spec : {M : Type 1} → statement M
+parse-chapter-spec =
+    tie.close
+    (tie.spec
+    part-requires
+    zero-at-requires
+    add-run
+    returns
+    add-time
+    time-requires
+    add-time-2
+    time-requires-2
+    add-time-3
+    time-requires-3
+    add-time-4
+    time-requires-4
+    add-start
+    sub-left
+    nowhere-requires
+    returns-2)

@@ -1,0 +1,144 @@
+-- `frame::chapter::parse_contents` meets its contract. Assumes nothing.
+use mathlib.Core.Path.{_≡_, sym, _∙_}
+use Prim.Native.Nat.{ℕ, _+_, _≤_}
+use mathlib.Core.Bool.{true}
+use mathlib.Core.List.{List}
+use lib.Dec.{leb}
+use native.Mathlib.Omega.{arith}
+use borrow.Author.Needs.{needs}
+use lib.ListN.{length, getD}
+use Rattle.lists.proofs.Cuts.{cut-lies}
+use Rattle.format.specs.Bytes.{zerosIn}
+use Rattle.format.specs.Chapter.{namesLen}
+use Rattle.format.specs.declared.Kind.{Kind}
+use Rattle.frame.proofs.Ends.{zero-le}
+use Rattle.frame.proofs.Children.{names-whole, names-cut}
+use Rattle.frame.proofs.Bodies.{refused, accepted, contents-cut, contents-missing, contents-whole, contents-within, contents-parts}
+use Rattle.frame.proofs.chapter.parse_contents.Statement.{statement}
+use Rattle.frame.proofs.chapter.parse_contents.Tie as tie
+
+part-requires : tie.Need-part-requires
+part-requires c κs = search needs
+
+zero-at-requires : tie.Need-zero-at-requires
+zero-at-requires c κs = search needs
+
+add-at : tie.Need-add-at
+add-at c = omega (arith, zero-le (c .before .part .result .now), c .before .part .ok)
+
+returns : tie.Need-returns
+returns c v =
+    let a = c .before .before .before .before .args in
+    let b = c .before .before .part in
+    let z = c .before .zero-at in
+    refused v Kind.Contents (a .from) (b .result .now) _ (b .ensures) 10 (contents-cut (b .result .now) (z .result) (z .ensures) (c .if1 .taken))
+
+add-flags : tie.Need-add-flags
+add-flags c = search needs
+
+shared-slice-read-flags : tie.Need-shared-slice-read-flags
+shared-slice-read-flags c = search needs
+
+add-count : tie.Need-add-count
+add-count c = search needs
+
+shared-slice-read-count : tie.Need-shared-slice-read-count
+shared-slice-read-count c = search needs
+
+part-requires-2 : tie.Need-part-requires-2
+part-requires-2 c κs = search needs
+
+names-len-requires : tie.Need-names-len-requires
+names-len-requires c κs = search needs
+
+enum-known-n : tie.Need-enum-known-n
+enum-known-n c = search needs
+
+enum-told : tie.Need-enum-told
+enum-told c = search needs
+
+returns-2 : tie.Need-returns-2
+returns-2 c v =
+    let a = c .before .before .before .before .before .before .before .before .before .before .args in
+    let b = c .before .before .before .before .before .before .before .before .part in
+    let z = c .before .before .before .before .before .before .before .zero-at in
+    let names = c .before .before .before .part2 in
+    let missing = names-cut _ _ (sym (c .enum-told .given .1) ∙ c .before .before .names-len .ensures) in
+    refused v Kind.Contents (a .from) (b .result .now) _ (b .ensures) 10
+    (contents-missing (b .result .now) (z .result) (z .ensures) (names .result .now) (names .ensures) (c .before .before .before .before .before .before .if1 .left) missing)
+
+-- where the names are there
+module _ (c : tie.After-known-told) where
+  abbrev b : List ℕ
+  b = c .before .before .before .before .before .before .before .before .before .part .result .now
+
+  abbrev len : ℕ
+  len = c .before .before .before .before .before .before .before .before .zero-at .result
+
+  abbrev names : List ℕ
+  names = c .before .before .before .before .part2 .result .now
+
+  abbrev n : ℕ
+  n = c .before .n .given .0 .0
+
+  answer : (leb (getD b (len + 2) 0) (zerosIn names) ≡ true) × (n ≡ namesLen (getD b (len + 2) 0) names)
+  answer = names-whole (getD b (len + 2) 0) names n (sym (c .before .n .given .1) ∙ c .before .before .before .names-len .ensures)
+
+  within : len + 3 + n ≤ length b
+  within =
+      let z = c .before .before .before .before .before .before .before .before .zero-at .ensures in
+      let reaches = c .before .before .before .before .before .before .before .if1 .left in
+      contents-within b len z names (c .before .before .before .before .part2 .ensures) reaches (getD b (len + 2) 0) n (answer .1)
+
+add-run : tie.Need-add-run
+add-run c = omega (arith, within c, c .before .before .before .before .before .before .before .before .before .part .ok)
+
+add-first : tie.Need-add-first
+add-first c =
+    let a = c .before .before .before .before .before .before .before .before .before .before .before .args in
+    let e = c .before .before .before .before .before .before .before .before .before .part .ensures in
+    let h = within c in
+    omega (arith, cut-lies (a .from) (a .to) (a .s .now) (b c) e (omega arith))
+
+add-start : tie.Need-add-start
+add-start c =
+    let a = c .before .before .before .before .before .before .before .before .before .before .before .args in
+    let e = c .before .before .before .before .before .before .before .before .before .part .ensures in
+    let h = within c in
+    omega (arith, cut-lies (a .from) (a .to) (a .s .now) (b c) e (omega arith))
+
+sub-left : tie.Need-sub-left
+sub-left c = within c
+
+returns-3 : tie.Need-returns-3
+returns-3 c v =
+    let a = c .before .before .before .before .before .before .before .before .before .before .before .args in
+    let b = c .before .before .before .before .before .before .before .before .before .part in
+    let z = c .before .before .before .before .before .before .before .before .zero-at in
+    let names = c .before .before .before .before .part2 in
+    accepted v Kind.Contents (a .from) (b .result .now) _ (b .ensures) _
+    (contents-whole (b .result .now) (z .result) (z .ensures) (names .result .now) (names .ensures) (c .before .before .before .before .before .before .before .if1 .left) (answer c .0))
+    (contents-parts (b .result .now) (z .result) (z .ensures) (names .result .now) (names .ensures) v (a .from) (n c) (answer c .1))
+
+pub parse-contents-spec : {M : Type 1} → statement M
+parse-contents-spec =
+    tie.close
+    (tie.spec
+    part-requires
+    zero-at-requires
+    add-at
+    returns
+    add-flags
+    shared-slice-read-flags
+    add-count
+    shared-slice-read-count
+    part-requires-2
+    names-len-requires
+    enum-known-n
+    enum-told
+    returns-2
+    add-run
+    add-first
+    add-start
+    sub-left
+    returns-3)

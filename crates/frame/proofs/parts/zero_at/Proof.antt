@@ -1,0 +1,60 @@
+-- `frame::parts::zero_at` meets its contract: the bytes passed, and what comes before the first zero behind them, come before the first zero. Assumes nothing.
+use mathlib.Core.Path.{_≡_}
+use Prim.Native.Nat.{_+_, _-_, _≤_}
+use native.Mathlib.Omega.{arith}
+use borrow.Author.Needs.{needs}
+use lib.ListN.{length, drop, length-drop}
+use Rattle.format.specs.Bytes.{zeroAt}
+use Rattle.frame.proofs.Ends.{zero-here, zero-next, zero-none}
+use Rattle.frame.proofs.parts.zero_at.Statement.{statement}
+use Rattle.frame.proofs.parts.zero_at.Tie as tie
+
+abbrev Inv-loop : tie.InvT-loop
+Inv-loop s i₀ i = (i ≤ length s) × (i + zeroAt (drop i s) ≡ zeroAt s)
+
+abbrev μ-loop : tie.MeasureT-loop
+μ-loop s i₀ i = length s - i
+
+loop-holds : tie.Need-loop-holds Inv-loop μ-loop
+loop-holds c = omega arith
+
+shared-slice-read-if1 : tie.Need-shared-slice-read-if1 Inv-loop μ-loop
+shared-slice-read-if1 c = search needs
+
+returns : tie.Need-returns Inv-loop μ-loop
+returns c =
+    let s = c .before .before .before .before .args .s .now in
+    let L = c .before .before .before .loop in
+    omega (arith, zero-here s (L .i) (c .before .before .loop-test .taken) (c .if1 .taken))
+
+add-i : tie.Need-add-i Inv-loop μ-loop
+add-i c = search needs
+
+loop-less : tie.Need-loop-less Inv-loop μ-loop
+loop-less c = search needs
+
+loop-again : tie.Need-loop-again Inv-loop μ-loop
+loop-again c =
+    let s = c .before .before .before .before .args .s .now in
+    let L = c .before .before .before .loop in
+    omega (arith, zero-next s (L .i) (c .before .before .loop-test .taken) (c .if1 .left))
+
+returns-2 : tie.Need-returns-2 Inv-loop μ-loop
+returns-2 c =
+    let s = c .before .before .args .s .now in
+    let L = c .before .loop in
+    omega (arith, zero-none (drop (L .i) s) (omega (arith, length-drop (L .i) s)))
+
+pub zero-at-spec : {M : Type 1} → statement M
+zero-at-spec =
+    tie.close
+    (tie.spec
+    Inv-loop
+    μ-loop
+    loop-holds
+    shared-slice-read-if1
+    returns
+    add-i
+    loop-less
+    loop-again
+    returns-2)

@@ -1,0 +1,64 @@
+-- `frame::popularimeter::parse` meets its contract. Assumes nothing.
+use native.Mathlib.Omega.{arith}
+use borrow.Author.Needs.{needs}
+use Rattle.format.specs.declared.Kind.{Kind}
+use Rattle.frame.proofs.Ends.{zero-le}
+use Rattle.frame.proofs.Bodies.{refused, accepted, popularimeter-cut, popularimeter-whole, popularimeter-parts}
+use Rattle.frame.proofs.popularimeter.parse.Statement.{statement}
+use Rattle.frame.proofs.popularimeter.parse.Tie as tie
+
+part-requires : tie.Need-part-requires
+part-requires c κs = search needs
+
+zero-at-requires : tie.Need-zero-at-requires
+zero-at-requires c κs = search needs
+
+add-if1 : tie.Need-add-if1
+add-if1 c = omega (arith, zero-le (c .before .part .result .now), c .before .part .ok)
+
+returns : tie.Need-returns
+returns c v =
+    let a = c .before .before .before .before .args in
+    let b = c .before .before .part in
+    let z = c .before .zero-at in
+    refused v Kind.Popularimeter (a .from) (b .result .now) _ (b .ensures) 10 (popularimeter-cut (b .result .now) (z .result) (z .ensures) (c .if1 .taken))
+
+add-rating : tie.Need-add-rating
+add-rating c = search needs
+
+shared-slice-read-rating : tie.Need-shared-slice-read-rating
+shared-slice-read-rating c = search needs
+
+add-read64 : tie.Need-add-read64
+add-read64 c = search needs
+
+read64-requires : tie.Need-read64-requires
+read64-requires c κs = search needs
+
+nowhere-requires : tie.Need-nowhere-requires
+nowhere-requires c κs = search needs
+
+returns-2 : tie.Need-returns-2
+returns-2 c v =
+    let a = c .before .before .before .before .before .before .before .args in
+    let b = c .before .before .before .before .before .part in
+    let z = c .before .before .before .before .zero-at in
+    let n = c .before .read64 in
+    accepted v Kind.Popularimeter (a .from) (b .result .now) _ (b .ensures) _
+    (popularimeter-whole (b .result .now) (z .result) (z .ensures) (c .before .before .before .if1 .left))
+    (popularimeter-parts (b .result .now) (z .result) (z .ensures) v (a .from) (n .result) (c .nowhere .result) (n .ensures) (c .nowhere .ensures))
+
+pub parse-spec : {M : Type 1} → statement M
+parse-spec =
+    tie.close
+    (tie.spec
+    part-requires
+    zero-at-requires
+    add-if1
+    returns
+    add-rating
+    shared-slice-read-rating
+    add-read64
+    read64-requires
+    nowhere-requires
+    returns-2)

@@ -1,0 +1,32 @@
+-- `frame::table::sum_of` meets its contract. Assumes nothing.
+use mathlib.Core.Path.{sym, _∙_}
+use borrow.Author.Needs.{needs}
+use Rattle.frame.proofs.table.sum_of.Statement.{statement}
+use Rattle.frame.proofs.table.sum_of.Tie as tie
+
+is-width-requires : tie.Need-is-width-requires
+is-width-requires c κs = search needs
+
+is-width-requires-2 : tie.Need-is-width-requires-2
+is-width-requires-2 c κs = search needs
+
+add-result : tie.Need-add-result
+add-result c = search needs
+
+returns : tie.Need-returns
+returns c =
+    let v = sym (c .before .before .before .is-width .ensures) ∙ c .before .before .if1 .taken in
+    let w = sym (c .before .is-width2 .ensures) ∙ c .if2 .taken in
+    rw (v, w)
+
+returns-2 : tie.Need-returns-2
+returns-2 c =
+    let v = sym (c .before .before .before .is-width .ensures) ∙ c .before .before .if1 .taken in
+    let w = sym (c .before .is-width2 .ensures) ∙ c .if2 .left in
+    rw (v, w)
+
+returns-3 : tie.Need-returns-3
+returns-3 c = rw (sym (c .before .is-width .ensures) ∙ c .if1 .left)
+
+pub sum-of-spec : {M : Type 1} → statement M
+sum-of-spec = tie.close (tie.spec is-width-requires is-width-requires-2 add-result returns returns-2 returns-3)

@@ -1,0 +1,66 @@
+-- `frame::text::closing_at` meets its contract: from i on there are zeros only. Assumes nothing.
+use mathlib.Core.Path.{_≡_, sym}
+use Prim.Native.Nat.{_≤_, min}
+use native.Mathlib.Omega.{arith}
+use borrow.Author.Needs.{needs}
+use lib.ListN.{length, drop, length-drop}
+use Rattle.format.specs.Text.{trimmed}
+use Rattle.frame.proofs.Ends.{trim-none, trim-zero, closing-kept, closing-none}
+use Rattle.frame.proofs.text.closing_at.Statement.{statement}
+use Rattle.frame.proofs.text.closing_at.Tie as tie
+
+abbrev Inv-loop : tie.InvT-loop
+Inv-loop s i₀ i = (i ≤ length s) × (min 1 (length s) ≤ i) × (trimmed (drop i s) ≡ 0)
+
+abbrev μ-loop : tie.MeasureT-loop
+μ-loop s i₀ i = i
+
+loop-holds : tie.Need-loop-holds Inv-loop μ-loop
+loop-holds c =
+    let s = c .args .s .now in
+    (omega arith, omega arith, trim-none (drop (length s) s) (omega (arith, length-drop (length s) s)))
+
+sub-if1 : tie.Need-sub-if1 Inv-loop μ-loop
+sub-if1 c = search needs
+
+shared-slice-read-if1 : tie.Need-shared-slice-read-if1 Inv-loop μ-loop
+shared-slice-read-if1 c = search needs
+
+returns : tie.Need-returns Inv-loop μ-loop
+returns c =
+    let s = c .before .before .before .before .args .s .now in
+    let L = c .before .before .before .loop in
+    sym (closing-kept (L .i) s (omega arith) (L .inv .0) (L .inv .2) (c .if1 .taken))
+
+sub-i : tie.Need-sub-i Inv-loop μ-loop
+sub-i c = search needs
+
+loop-less : tie.Need-loop-less Inv-loop μ-loop
+loop-less c = search needs
+
+loop-again : tie.Need-loop-again Inv-loop μ-loop
+loop-again c =
+    let s = c .before .before .before .before .args .s .now in
+    let L = c .before .before .before .loop in
+    (omega arith, omega arith, trim-zero (L .i) s (omega arith) (L .inv .0) (L .inv .2) (c .if1 .left))
+
+returns-2 : tie.Need-returns-2 Inv-loop μ-loop
+returns-2 c =
+    let s = c .before .before .args .s .now in
+    let L = c .before .loop in
+    sym (closing-none (L .i) s (c .loop-test .left) (L .inv .1) (L .inv .2))
+
+pub closing-at-spec : {M : Type 1} → statement M
+closing-at-spec =
+    tie.close
+    (tie.spec
+    Inv-loop
+    μ-loop
+    loop-holds
+    sub-if1
+    shared-slice-read-if1
+    returns
+    sub-i
+    loop-less
+    loop-again
+    returns-2)

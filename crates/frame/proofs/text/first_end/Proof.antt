@@ -1,0 +1,19 @@
+-- `frame::text::first_end` meets its contract. Assumes nothing.
+use borrow.Author.Needs.{needs}
+use Rattle.frame.proofs.text.first_end.Statement.{statement}
+use Rattle.frame.proofs.text.first_end.Tie as tie
+
+zero-pair-at-requires : tie.Need-zero-pair-at-requires
+zero-pair-at-requires c κs = search needs
+
+zero-at-requires : tie.Need-zero-at-requires
+zero-at-requires c κs = search needs
+
+returns : tie.Need-returns
+returns c = rw (c .before .if1 .taken) (c .zero-pair-at .ensures)
+
+returns-2 : tie.Need-returns-2
+returns-2 c = rw (c .before .if1 .left) (c .zero-at .ensures)
+
+pub first-end-spec : {M : Type 1} → statement M
+first-end-spec = tie.close (tie.spec zero-pair-at-requires zero-at-requires returns returns-2)

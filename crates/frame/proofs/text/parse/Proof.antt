@@ -1,0 +1,61 @@
+-- `frame::text::parse` meets its contract. Assumes nothing.
+use native.Mathlib.Omega.{arith}
+use borrow.Author.Needs.{needs}
+use Rattle.lists.proofs.Cuts.{cut-lies}
+use Rattle.format.specs.declared.Kind.{Kind}
+use Rattle.frame.proofs.Bodies.{refused, accepted, text-empty, text-unknown, text-known, text-parts}
+use Rattle.frame.proofs.text.parse.Statement.{statement}
+use Rattle.frame.proofs.text.parse.Tie as tie
+
+part-requires : tie.Need-part-requires
+part-requires c κs = search needs
+
+returns : tie.Need-returns
+returns c =
+    let a = c .before .before .before .args in
+    let b = c .before .part in
+    refused (a .version) Kind.Text (a .from) (b .result .now) _ (b .ensures) 10 (text-empty (b .result .now) (c .if1 .taken))
+
+shared-slice-read-encoding : tie.Need-shared-slice-read-encoding
+shared-slice-read-encoding c = search needs
+
+returns-2 : tie.Need-returns-2
+returns-2 c =
+    let a = c .before .before .before .before .before .args in
+    let b = c .before .before .before .part in
+    let some = c .before .before .if1 .left in
+    refused (a .version) Kind.Text (a .from) (b .result .now) _ (b .ensures) 11 (text-unknown (b .result .now) some (c .if2 .taken))
+
+text-end-requires : tie.Need-text-end-requires
+text-end-requires c κs = search needs
+
+add-start : tie.Need-add-start
+add-start c =
+    let a = c .before .before .before .before .before .before .args in
+    let b = c .before .before .before .before .part in
+    let some = c .before .before .before .if1 .left in
+    omega (arith, cut-lies (a .from) (a .to) (a .s .now) (b .result .now) (b .ensures) (omega arith))
+
+nowhere-requires : tie.Need-nowhere-requires
+nowhere-requires c κs = search needs
+
+returns-3 : tie.Need-returns-3
+returns-3 c =
+    let a = c .before .before .before .before .before .before .before .args in
+    let b = c .before .before .before .before .before .part in
+    let some = c .before .before .before .before .if1 .left in
+    accepted (a .version) Kind.Text (a .from) (b .result .now) _ (b .ensures) _ (text-known (b .result .now) some (omega arith))
+    (text-parts (a .version) (a .from) (b .result .now) (c .before .text-end .result) (c .nowhere .result) (c .before .text-end .ensures) (c .nowhere .ensures))
+
+pub parse-spec : {M : Type 1} → statement M
+parse-spec =
+    tie.close
+    (tie.spec
+    part-requires
+    returns
+    shared-slice-read-encoding
+    returns-2
+    text-end-requires
+    add-start
+    nowhere-requires
+    returns-3)

@@ -1,0 +1,78 @@
+-- `frame::text::zero_pair_at` meets its contract: the pairs passed, and what comes before the first zero pair behind them, come before the first zero pair. Assumes nothing.
+use mathlib.Core.Path.{_≡_}
+use Prim.Native.Nat.{_+_, _-_, _≤_}
+use native.Mathlib.Omega.{arith}
+use borrow.Author.Needs.{needs}
+use lib.ListN.{length, drop, length-drop}
+use Rattle.format.specs.Text.{zeroPairAt}
+use Rattle.frame.proofs.Ends.{pair-here, pair-next, pair-none}
+use Rattle.frame.proofs.text.zero_pair_at.Statement.{statement}
+use Rattle.frame.proofs.text.zero_pair_at.Tie as tie
+
+abbrev Inv-loop : tie.InvT-loop
+Inv-loop s i₀ i = (i ≤ length s) × (i + zeroPairAt (drop i s) ≡ zeroPairAt s)
+
+abbrev μ-loop : tie.MeasureT-loop
+μ-loop s i₀ i = length s - i
+
+loop-holds : tie.Need-loop-holds Inv-loop μ-loop
+loop-holds c = omega arith
+
+add-loop : tie.Need-add-loop Inv-loop μ-loop
+add-loop c = omega arith
+
+shared-slice-read-zero-pair : tie.Need-shared-slice-read-zero-pair Inv-loop μ-loop
+shared-slice-read-zero-pair c = search needs
+
+add-zero-pair : tie.Need-add-zero-pair Inv-loop μ-loop
+add-zero-pair c = search needs
+
+shared-slice-read-zero-pair-2 : tie.Need-shared-slice-read-zero-pair-2 Inv-loop μ-loop
+shared-slice-read-zero-pair-2 c = search needs
+
+zero-pair-requires : tie.Need-zero-pair-requires Inv-loop μ-loop
+zero-pair-requires c κs = search needs
+
+returns : tie.Need-returns Inv-loop μ-loop
+returns c =
+    let s = c .before .before .before .before .before .before .before .args .s .now in
+    let L = c .before .before .before .before .before .loop in
+    let z = c .before .zero-pair in
+    omega (arith, pair-here s (L .i) (c .before .before .before .before .loop-test .taken) (z .result) (z .ensures) (c .if1 .taken))
+
+add-i : tie.Need-add-i Inv-loop μ-loop
+add-i c = search needs
+
+loop-less : tie.Need-loop-less Inv-loop μ-loop
+loop-less c = search needs
+
+loop-again : tie.Need-loop-again Inv-loop μ-loop
+loop-again c =
+    let s = c .before .before .before .before .before .before .before .args .s .now in
+    let L = c .before .before .before .before .before .loop in
+    let z = c .before .zero-pair in
+    omega (arith, pair-next s (L .i) (c .before .before .before .before .loop-test .taken) (z .result) (z .ensures) (c .if1 .left))
+
+returns-2 : tie.Need-returns-2 Inv-loop μ-loop
+returns-2 c =
+    let s = c .before .before .before .args .s .now in
+    let L = c .before .loop in
+    omega (arith, pair-none (drop (L .i) s) (omega (arith, length-drop (L .i) s)), length-drop (L .i) s)
+
+pub zero-pair-at-spec : {M : Type 1} → statement M
+zero-pair-at-spec =
+    tie.close
+    (tie.spec
+    Inv-loop
+    μ-loop
+    loop-holds
+    add-loop
+    shared-slice-read-zero-pair
+    add-zero-pair
+    shared-slice-read-zero-pair-2
+    zero-pair-requires
+    returns
+    add-i
+    loop-less
+    loop-again
+    returns-2)

@@ -1,0 +1,215 @@
+// Bodies of lookup tables, and the references that are packed in them, highest bit first.
+use crate::body::Parsed;
+use crate::numbers::read16;
+use crate::numbers::read32;
+use crate::numbers::read64;
+use crate::parts::nowhere;
+use crate::parts::part;
+use format::Fields;
+use format::Parts;
+use format::Span;
+use format::refusals::MISSING_FIELD;
+use format::refusals::NO_ROOM;
+use format::refusals::WIDTHS_NOT_IN_FOURS;
+use format::refusals::WRONG_WIDTH;
+ghost use mathlib.Core.Path.{_≡_};
+ghost use mathlib.Core.Bool.{_&&_};
+ghost use Prim.Native.Nat.{_+_, _-_, _*_, _/_, _^_, _≤_, _<_, min};
+ghost use lib.ListN.{length, take, drop, getD};
+ghost use lib.Seq.{slice, sets};
+ghost use Rattle.format.specs.Bytes.{pick, first};
+ghost use Rattle.format.specs.Numbers.{onto};
+ghost use Rattle.format.specs.Table.{isWidth, widthChecks, spread, gathered, unpack as unpacked};
+ghost use Rattle.format.specs.declared.Version.{Version};
+ghost use Rattle.format.specs.declared.Kind.{Kind};
+ghost use Rattle.frame.specs.Bodies.{parsedOf};
+ghost use Rattle.frame.specs.References.{referencesIn, referenceOf, unpackOf};
+
+// A reference of a table: its two deviations.
+pub enum Found {
+    Pair(u32, u32),
+    Nothing,
+}
+
+// How many numbers were put to a buffer, or the number of the refusal.
+pub enum Put {
+    Numbers(usize),
+    Refused(u8),
+}
+
+// Whether a deviation may have v bits.
+fn is_width(v: u8) -> bool
+    ensures { λ r. ⌜ r ≡ isWidth v ⌝ }
+{
+    if 1 <= v { v <= 32 } else { false }
+}
+
+// How many bits a reference has, 0 where a width is none.
+fn sum_of(v: u8, w: u8) -> usize
+    ensures { λ r. ⌜ r ≡ pick (isWidth v && isWidth w) (v + w) 0 ⌝ }
+{
+    if is_width(v) {
+        if is_width(w) {
+            return v as usize + w as usize;
+        }
+    }
+    0
+}
+
+// What the widths are refused with, 0 for nothing. No two of 1 to 32 bits have more than 64.
+fn refusal(v: u8, w: u8) -> u8
+    ensures { λ r. ⌜ r ≡ first (widthChecks v w) ⌝ }
+{
+    let sum = sum_of(v, w);
+    if sum == 0 {
+        return WRONG_WIDTH;
+    }
+    if sum % 4 != 0 {
+        return WIDTHS_NOT_IN_FOURS;
+    }
+    0
+}
+
+// A table's body, in any edition: its steps and widths, and the packed references as the rest.
+pub fn parse(s: &[u8], from: usize, to: usize) -> Parsed
+    ensures { λ r. ⌜ ((v : Version) → r ≡ parsedOf v Kind.Table from (slice from to (now (s .entry)))) ⌝ }
+{
+    let b = part(s, from, to);
+    if b.len() < 10 {
+        return Parsed::Refused(MISSING_FIELD);
+    }
+    let bytes_bits = b[8];
+    let millis_bits = b[9];
+    let no = refusal(bytes_bits, millis_bits);
+    if no != 0 {
+        return Parsed::Refused(no);
+    }
+    let fields = Fields::Table {
+        frames: read16(b, 0, 2),
+        bytes: read32(b, 2, 5),
+        millis: read32(b, 5, 8),
+        bits_for_bytes: bytes_bits,
+        bits_for_millis: millis_bits,
+    };
+    let start = from + 10;
+    let len = b.len() - 10;
+    let none = nowhere();
+    Parsed::Parts(Parts {
+        fields,
+        name: none,
+        names: none,
+        rest: Span { start, len },
+    })
+}
+
+// The largest number, and what times eight is more.
+const LARGEST: usize = 0xFFFF_FFFF_FFFF_FFFF;
+const TOO_MANY: usize = 0x2000_0000_0000_0000;
+
+// How many references of sum bits fit whole in n bytes, or the largest number where there are more.
+fn fitting(n: usize, sum: usize) -> usize
+    requires { ⌜ (0 < sum) × (sum ≤ 64) ⌝ }
+    ensures { λ r. ⌜ r ≡ min (8 * n / sum) (2 ^ 64 - 1) ⌝ }
+{
+    let eights = n / sum;
+    if eights >= TOO_MANY {
+        return LARGEST;
+    }
+    eights * 8 + n % sum * 8 / sum
+}
+
+// How many references n packed bytes hold: none where a width is not 1 to 32.
+fn count_in(v: u8, w: u8, n: usize) -> usize
+    ensures { λ r. ⌜ r ≡ referencesIn v w n ⌝ }
+{
+    let sum = sum_of(v, w);
+    if sum == 0 {
+        return 0;
+    }
+    fitting(n, sum)
+}
+
+// How many references the packed bytes of a part hold.
+pub fn count(bits_for_bytes: u8, bits_for_millis: u8, s: &[u8], from: usize, to: usize) -> usize
+    ensures { λ r. ⌜ r ≡ referencesIn «bits_for_bytes» «bits_for_millis» (length (slice from to (now (s .entry)))) ⌝ }
+{
+    let b = part(s, from, to);
+    count_in(bits_for_bytes, bits_for_millis, b.len())
+}
+
+// The number of w bits that begins r bits into the byte at k, and ends within b.
+fn bits_at(b: &[u8], k: usize, r: usize, w: u8) -> u32
+    requires { ⌜ (r < 8) × (w ≤ 32) × (k * 8 + r + w ≤ 8 * length (now b)) ⌝ }
+    ensures { λ x. ⌜ x ≡ onto 2 0 (take w (drop (k * 8 + r) (spread 8 8 (now (b .entry))))) ⌝ }
+{
+    let end = r + w as usize;
+    let n = (end + 7) / 8;
+    let bytes = read64(b, k, k + n);
+    let mask = (1u64 << w) - 1;
+    ((bytes >> (n * 8 - end)) & mask) as u32
+}
+
+// The i-th reference, which is there. Eight references take as many bytes as one takes bits, so that no product is too large.
+fn pair_at(b: &[u8], v: u8, w: u8, i: usize) -> Found
+    requires { ⌜ i < referencesIn v w (length (now b)) ⌝ }
+    ensures { λ r. ⌜ r ≡ Found.Pair (getD (unpacked v w (now (b .entry))) (i * 2) 0) (getD (unpacked v w (now (b .entry))) (i * 2 + 1) 0) ⌝ }
+{
+    let sum = v as usize + w as usize;
+    let k = i / 8 * sum;
+    let first = i % 8 * sum;
+    let second = first + v as usize;
+    Found::Pair(
+        bits_at(b, k + first / 8, first % 8, v),
+        bits_at(b, k + second / 8, second % 8, w),
+    )
+}
+
+// The i-th reference that the packed bytes of a part hold.
+pub fn reference(v: u8, w: u8, s: &[u8], from: usize, to: usize, i: usize) -> Found
+    ensures { λ r. ⌜ r ≡ referenceOf v w (slice from to (now (s .entry))) i ⌝ }
+{
+    let b = part(s, from, to);
+    if i < count_in(v, w, b.len()) {
+        pair_at(b, v, w, i)
+    } else {
+        Found::Nothing
+    }
+}
+
+// Puts the first n references, two numbers each, to the front of a buffer, and answers how many numbers these are.
+fn put_pairs(out: &mut [u32], v: u8, w: u8, b: &[u8], n: usize) -> usize
+    requires { ⌜ (v ≤ 32) × (w ≤ 32) × (n * 2 ≤ length (now out)) × (n * (v + w) ≤ 8 * length (now b)) ⌝ }
+    ensures { λ r. ⌜ (r ≡ n * 2) × (now (out .exit) ≡ sets (now (out .entry)) 0 (gathered (n * 2) v w (spread 8 8 (now (b .entry))))) ⌝ }
+{
+    let mut width = v;
+    let mut other = w;
+    let mut k: usize = 0;
+    let mut r: usize = 0;
+    let mut i: usize = 0;
+    while i < n * 2 {
+        out[i] = bits_at(b, k, r, width);
+        let end = r + width as usize;
+        k += end / 8;
+        r = end % 8;
+        let next = other;
+        other = width;
+        width = next;
+        i += 1;
+    }
+    i
+}
+
+// All deviations that the packed bytes of a part hold, two by two, to the front of a buffer that has the room.
+pub fn unpack(out: &mut [u32], v: u8, w: u8, s: &[u8], from: usize, to: usize) -> Put
+    ensures { λ r. ⌜ (r, now (out .exit)) ≡ unpackOf v w (slice from to (now (s .entry))) (now (out .entry)) ⌝ }
+{
+    if sum_of(v, w) == 0 {
+        return Put::Refused(WRONG_WIDTH);
+    }
+    let b = part(s, from, to);
+    let n = count_in(v, w, b.len());
+    if n > out.len() / 2 {
+        return Put::Refused(NO_ROOM);
+    }
+    Put::Numbers(put_pairs(out, v, w, b, n))
+}
