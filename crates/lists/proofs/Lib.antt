@@ -5,3 +5,4 @@ pub mod Tables
 pub mod Slices
 pub mod Cuts
 pub mod Stores
+pub mod Chains

@@ -1,0 +1,5 @@
+-- What the proofs of several functions use.
+mod Puts
+mod Numbers
+mod Parts
+mod Lines

@@ -1,0 +1,85 @@
+-- `lines::frame_line` meets its contract. Assumes nothing.
+use mathlib.Core.List.{List}
+use Prim.Native.Nat.{ℕ}
+use native.Mathlib.Omega.{arith}
+use Rattle.format.specs.Ids.{idLen}
+use Rattle.format.specs.Numbers.{bytesOf}
+use Rattle.format.specs.Listing.{frameLine}
+use Rattle.lines.proofs.Parts.{frame-length}
+use borrow.Author.Needs.{needs}
+use Rattle.lines.proofs.Lines.{full, has, whole, no-room}
+use Rattle.lines.proofs.frame_line.Statement.{statement}
+use Rattle.lines.proofs.frame_line.Tie as tie
+
+-- the line that is asked for
+abbrev line : tie.Start → List ℕ
+line s =
+    let a = s .args in
+    frameLine (a .number) (bytesOf (idLen (a .version)) (a .id)) (a .place) (a .body) (a .short) (a .fields) (a .user .now)
+
+shown-bytes-requires : tie.Need-shown-bytes-requires
+shown-bytes-requires c κs = search needs
+
+returns : tie.Need-returns
+returns c =
+    let a = c .before .before .before .before .args in
+    no-room _ _ _ (omega (arith, frame-length (a .number) (a .version) (a .id) (a .place) (a .body) (a .short) (a .fields) (a .user .now) .0, c .before .shown-bytes .ensures, c .if1 .taken))
+
+slice-relend-prefix-put-frame : tie.Need-slice-relend-prefix-put-frame
+slice-relend-prefix-put-frame c = search needs
+
+slice-aggregate-put-frame : tie.Need-slice-aggregate-put-frame
+slice-aggregate-put-frame c = search needs
+
+put-frame-requires : tie.Need-put-frame-requires
+put-frame-requires c κs =
+    let s = c .before .before .before .before .before in
+    let a = s .args in
+    omega (arith, frame-length (a .number) (a .version) (a .id) (a .place) (a .body) (a .short) (a .fields) (a .user .now) .1, c .before .before .shown-bytes .ensures, c .before .if1 .left, s .good .0 .1)
+
+fits-requires : tie.Need-fits-requires
+fits-requires c κs = search needs
+
+put-frame-requires-2 : tie.Need-put-frame-requires-2
+put-frame-requires-2 c κs =
+    let f = c .before .before in
+    let k1 = f .before .before .before in
+    let s = k1 .before .before .before .before .before .before in
+    has (line s) (s .args .at) (s .args .out .now) (k1 .put-frame .ensures) (f .fits2 .ensures) (c .before .if2 .taken) (s .good .0 .0)
+
+same-length : tie.Need-same-length
+same-length c = search needs
+
+returns-2 : tie.Need-returns-2
+returns-2 c =
+    let k2 = c .before .before in
+    let f = k2 .before .before .before in
+    let k1 = f .before .before .before in
+    let s = k1 .before .before .before .before .before .before in
+    whole (line s) (s .args .at) (s .args .out .now) (k1 .put-frame .ensures) (f .fits2 .ensures) (c .before .before .before .before .if2 .taken) (k2 .put-frame2 .ensures)
+
+same-length-2 : tie.Need-same-length-2
+same-length-2 c = search needs
+
+returns-3 : tie.Need-returns-3
+returns-3 c =
+    let f = c .before in
+    let k1 = f .before .before .before in
+    let s = k1 .before .before .before .before .before .before in
+    full (line s) (s .args .at) (s .args .out .now) (k1 .put-frame .ensures) (f .fits2 .ensures) (c .if2 .left)
+
+pub frame-line-spec : {M : Type 1} → statement M
+frame-line-spec =
+    tie.close
+    (tie.spec
+    shown-bytes-requires
+    returns
+    slice-relend-prefix-put-frame
+    slice-aggregate-put-frame
+    put-frame-requires
+    fits-requires
+    put-frame-requires-2
+    same-length
+    returns-2
+    same-length-2
+    returns-3)

@@ -1,0 +1,60 @@
+-- `lines::put` meets its contract. The loop's invariant: the bytes passed are put. Assumes nothing.
+use mathlib.Core.Path.{refl}
+use Prim.Native.Nat.{_≤_, _-_}
+use native.Mathlib.Omega.{arith}
+use lib.ListN.{length, take}
+use Rattle.lines.specs.Placed.{Wrote}
+use Rattle.lines.proofs.Puts.{same, begin, room, turn, done}
+use Rattle.lines.proofs.put.Statement.{statement}
+use Rattle.lines.proofs.put.Tie as tie
+
+abbrev Inv-loop : tie.InvT-loop
+Inv-loop out₀ at bytes next₀ i₀ out next i = (i ≤ length bytes) × Wrote out₀ at (take i bytes) out next
+
+abbrev μ-loop : tie.MeasureT-loop
+μ-loop out₀ at bytes next₀ i₀ out next i = length bytes - i
+
+loop-holds : tie.Need-loop-holds Inv-loop μ-loop
+loop-holds c = let a = c .before .before .args in (omega arith, begin (λ l. l) refl (λ a b. refl) (a .bytes .now) (a .out .now) (a .at))
+
+shared-slice-read-put-byte : tie.Need-shared-slice-read-put-byte Inv-loop μ-loop
+shared-slice-read-put-byte c = omega arith
+
+put-byte-requires : tie.Need-put-byte-requires Inv-loop μ-loop
+put-byte-requires c κs =
+    let s = c .before .before .before .before .before .before in
+    room (λ l. l) refl (λ a b. refl) (s .args .bytes .now) (c .before .before .before .loop .inv .1) (c .before .before .loop-test .taken) (s .pre)
+
+add-i : tie.Need-add-i Inv-loop μ-loop
+add-i c = omega arith
+
+loop-less : tie.Need-loop-less Inv-loop μ-loop
+loop-less c = omega arith
+
+loop-again : tie.Need-loop-again Inv-loop μ-loop
+loop-again c =
+    let s = c .before .before .before .before .before .before .before .before .before in (
+      omega arith,
+      turn (λ l. l) refl (λ a b. refl) (s .args .bytes .now) (c .before .before .before .before .before .before .loop .inv .1) (c .before .before .before .before .before .loop-test .taken) (c .before .before .put-byte .ensures),
+    )
+
+same-length : tie.Need-same-length Inv-loop μ-loop
+same-length c = same (c .before .loop .inv .1)
+
+returns : tie.Need-returns Inv-loop μ-loop
+returns c = done (λ l. l) refl (λ a b. refl) (c .before .before .before .before .args .bytes .now) (c .loop-test .left) (c .before .loop .inv .1)
+
+pub put-spec : {M : Type 1} → statement M
+put-spec =
+    tie.close
+    (tie.spec
+    Inv-loop
+    μ-loop
+    loop-holds
+    shared-slice-read-put-byte
+    put-byte-requires
+    add-i
+    loop-less
+    loop-again
+    same-length
+    returns)

@@ -1,0 +1,30 @@
+-- `lines::put_counted` meets its contract. Assumes nothing.
+use borrow.Author.Needs.{needs}
+use Rattle.lines.proofs.Puts.{andthen, left, front}
+use Rattle.lines.proofs.put_counted.Statement.{statement}
+use Rattle.lines.proofs.put_counted.Tie as tie
+
+put-numbered-requires : tie.Need-put-numbered-requires
+put-numbered-requires c κs = front _ _ (c .before .before .before .pre)
+
+slice-aggregate-put : tie.Need-slice-aggregate-put
+slice-aggregate-put c = search needs
+
+put-requires : tie.Need-put-requires
+put-requires c κs = left (c .before .before .before .before .put-numbered .ensures) (c .before .before .before .before .before .before .before .before .pre)
+
+same-length : tie.Need-same-length
+same-length c = search needs
+
+returns : tie.Need-returns
+returns c = andthen (c .before .before .before .before .before .before .before .put-numbered .ensures) (c .before .before .put .ensures)
+
+pub put-counted-spec : {M : Type 1} → statement M
+put-counted-spec =
+    tie.close
+    (tie.spec
+    put-numbered-requires
+    slice-aggregate-put
+    put-requires
+    same-length
+    returns)

@@ -1,0 +1,85 @@
+-- `lines::put_detail` meets its contract: calls that put one after another, or none. Assumes nothing.
+use borrow.Author.Needs.{needs}
+use Rattle.lines.proofs.Parts.{no-detail}
+use Rattle.lines.proofs.Puts.{said, none, andthen, left, front}
+use Rattle.lines.proofs.put_detail.Statement.{statement}
+use Rattle.lines.proofs.put_detail.Tie as tie
+
+enum-known-fields : tie.Need-enum-known-fields
+enum-known-fields c = search needs
+
+slice-aggregate-put : tie.Need-slice-aggregate-put
+slice-aggregate-put c = search needs
+
+put-requires : tie.Need-put-requires
+put-requires c κs =
+    let f = c .before .before .before in
+    let s = f .before .before .before .before in
+    front _ _ (rw (f .fields .given .1) at (s .pre))
+
+put-hex-requires : tie.Need-put-hex-requires
+put-hex-requires c κs =
+    let k1 = c .before .before .before in
+    let f = k1 .before .before .before .before in
+    let s = f .before .before .before .before in
+    front _ _ (left (k1 .put .ensures) (rw (f .fields .given .1) at (s .pre)))
+
+slice-aggregate-put-numbered : tie.Need-slice-aggregate-put-numbered
+slice-aggregate-put-numbered c = search needs
+
+cast-put-numbered : tie.Need-cast-put-numbered
+cast-put-numbered c = search needs
+
+put-numbered-requires : tie.Need-put-numbered-requires
+put-numbered-requires c κs =
+    let k2 = c .before .before .before .before in
+    let k1 = k2 .before .before .before .before in
+    let f = k1 .before .before .before .before in
+    let s = f .before .before .before .before in
+    front _ _ (left (k2 .put-hex .ensures) (left (k1 .put .ensures) (rw (f .fields .given .1) at (s .pre))))
+
+slice-aggregate-put-numbered-2 : tie.Need-slice-aggregate-put-numbered-2
+slice-aggregate-put-numbered-2 c = search needs
+
+put-numbered-requires-2 : tie.Need-put-numbered-requires-2
+put-numbered-requires-2 c κs =
+    let k3 = c .before .before .before .before in
+    let k2 = k3 .before .before .before .before .before in
+    let k1 = k2 .before .before .before .before in
+    let f = k1 .before .before .before .before in
+    let s = f .before .before .before .before in
+    left (k3 .put-numbered .ensures) (left (k2 .put-hex .ensures) (left (k1 .put .ensures) (rw (f .fields .given .1) at (s .pre))))
+
+same-length : tie.Need-same-length
+same-length c = search needs
+
+returns : tie.Need-returns
+returns c =
+    let k4 = c .before .before in
+    let k3 = k4 .before .before .before .before .before in
+    let k2 = k3 .before .before .before .before .before in
+    let k1 = k2 .before .before .before .before in
+    let f = k1 .before .before .before .before in
+    rw (f .fields .given .1) (andthen (k1 .put .ensures) (andthen (k2 .put-hex .ensures) (andthen (k3 .put-numbered .ensures) (k4 .put-numbered2 .ensures))))
+
+returns-2 : tie.Need-returns-2
+returns-2 c =
+    let a = c .before .before .before .args in
+    said (none (a .out .now) (a .at)) (no-detail (a .fields) (c .match .keys2) 0 (a .user .now) .1)
+
+pub put-detail-spec : {M : Type 1} → statement M
+put-detail-spec =
+    tie.close
+    (tie.spec
+    enum-known-fields
+    slice-aggregate-put
+    put-requires
+    put-hex-requires
+    slice-aggregate-put-numbered
+    cast-put-numbered
+    put-numbered-requires
+    slice-aggregate-put-numbered-2
+    put-numbered-requires-2
+    same-length
+    returns
+    returns-2)

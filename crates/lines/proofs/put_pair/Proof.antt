@@ -1,0 +1,39 @@
+-- `lines::put_pair` meets its contract. Assumes nothing.
+use native.Mathlib.Omega.{arith}
+use Rattle.format.specs.Listing.{hexIn}
+use borrow.Author.Needs.{needs}
+use Rattle.lines.proofs.Puts.{andthen}
+use Rattle.lines.proofs.put_pair.Statement.{statement}
+use Rattle.lines.proofs.put_pair.Tie as tie
+
+hex-digit-requires : tie.Need-hex-digit-requires
+hex-digit-requires c κs = search needs
+
+put-byte-requires : tie.Need-put-byte-requires
+unfolding hexIn
+put-byte-requires c κs = omega (arith, c .before .before .before .pre .below)
+
+hex-digit-requires-2 : tie.Need-hex-digit-requires-2
+hex-digit-requires-2 c κs = search needs
+
+put-byte-requires-2 : tie.Need-put-byte-requires-2
+unfolding hexIn
+put-byte-requires-2 c κs = omega (arith, c .before .before .before .before .put-byte .ensures .next, c .before .before .before .before .before .before .before .before .pre .below)
+
+same-length : tie.Need-same-length
+same-length c = search needs
+
+returns : tie.Need-returns
+unfolding hexIn
+returns c = rw (← c .before .before .before .before .before .before .before .before .hex-digit .ensures, ← c .before .before .before .hex-digit2 .ensures) (andthen (c .before .before .before .before .before .before .before .put-byte .ensures) (c .before .before .put-byte2 .ensures))
+
+pub put-pair-spec : {M : Type 1} → statement M
+put-pair-spec =
+    tie.close
+    (tie.spec
+    hex-digit-requires
+    put-byte-requires
+    hex-digit-requires-2
+    put-byte-requires-2
+    same-length
+    returns)

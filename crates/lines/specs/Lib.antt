@@ -1,0 +1,2 @@
+-- What the functions that put lines answer.
+pub mod Placed
