@@ -1,19 +1,19 @@
 -- What stands where a frame may begin, by the first test that decides it. Assumes nothing.
-use mathlib.Core.Path.{_≡_, refl, sym, ap, _∙_}
+use mathlib.Core.Path.{_≡_, refl, sym, _∙_}
 use Prim.Native.Nat.{ℕ, _+_, _-_, _≤_, _<_, min}
 use native.Mathlib.Omega.{arith}
 use mathlib.Core.Bool.{Bool, true, false, _&&_}
-use mathlib.Core.List.{List, [], _∷_}
+use mathlib.Core.List.{List, _∷_}
 use lib.ListN.{length, take, drop, getD}
 use lib.Dec.{ltb}
 use borrow.Author.Tests.{lt-ltb, le-ltb, eq-eqb, ne-eqb, ltb-false}
 use Rattle.format.specs.Bytes.{pick, first, has}
 use Rattle.format.specs.Numbers.{number}
 use Rattle.format.specs.Ids.{idLen, isUtf8}
-use Rattle.format.specs.Frame.{headLen, frameSize, frameFlags, isCompressed, isFlagged, wantsWhole, lengthBytes, bodyStart, bodySize, isShort, frameChecks, headOf}
+use Rattle.format.specs.Frame.{headLen, frameSize, frameFlags, isCompressed, isFlagged, wantsWhole, lengthBytes, frameChecks, headOf}
 use Rattle.format.specs.declared.Version.{Version}
 use Rattle.format.specs.declared.Head.{Head}
-use Rattle.format.proofs.Checks.{none-of, none-refused, none-else, first-stops, first-goes-on}
+use Rattle.format.proofs.Checks.{none-of, none-refused, none-else, first-stops}
 use Rattle.frame.specs.Headers.{firstChecks, Begun}
 
 -- ---- the first checks

@@ -1,14 +1,12 @@
 -- Three and four bytes of a list, and the number that they make. Assumes nothing.
-use mathlib.Core.Path.{_≡_, sym, ap, _∙_}
+use mathlib.Core.Path.{_≡_, ap, _∙_}
 use Prim.Native.Nat.{ℕ, _+_, _*_, _≤_, _<_}
 use native.Mathlib.Numerals.{add-one}
 use native.Mathlib.Omega.{arith}
-use mathlib.Core.Bool.{Bool}
 use mathlib.Core.List.{List, [], _∷_}
 use lib.ListN.{length, take, getD}
 use lib.Seq.{slice, slice-cons, slice-empty, length-slice}
 use Rattle.format.specs.Numbers.{onto, number, bytesOf}
-use Rattle.format.specs.Ids.{isUtf8}
 use Rattle.lists.proofs.Parts.{each-drop, each-take}
 use Rattle.format.proofs.Numbers.{Digits, digits-onto}
 
@@ -50,14 +48,6 @@ module _ (at : ℕ) (l : List ℕ) where
   number-four h n d en ed =
       let m : n ≡ number (getD l at 0 ∷ getD l (at + 1) 0 ∷ getD l (at + 2) 0 ∷ []) = en ∙ ap number (three (omega arith)) in
       rw (four h) (omega arith)
-
--- ---- ids
-
-pub id-three : (s : List ℕ) → 3 ≤ length s → (t : Bool) → t ≡ isUtf8 (getD s 0 0 ∷ getD s 1 0 ∷ getD s 2 0 ∷ []) → isUtf8 (take 3 s) ≡ t
-id-three s h t e = ap isUtf8 (three 0 s h) ∙ sym e
-
-pub id-four : (s : List ℕ) → 4 ≤ length s → (t : Bool) → t ≡ isUtf8 (getD s 0 0 ∷ getD s 1 0 ∷ getD s 2 0 ∷ getD s 3 0 ∷ []) → isUtf8 (take 4 s) ≡ t
-id-four s h t e = ap isUtf8 (four 0 s h) ∙ sym e
 
 -- ---- the bytes of a number that was read
 

@@ -1,4 +1,5 @@
 // What the headers of the three editions are read by.
+use crate::ids::is_utf8_3;
 use crate::ids::is_utf8_4;
 use crate::parts::least;
 use format::Head;
@@ -8,11 +9,12 @@ use format::refusals::ID_NOT_UTF8;
 use format::refusals::TOO_DEEP;
 ghost use mathlib.Core.Path.{_≡_};
 ghost use Prim.Native.Nat.{_+_, _-_, _^_, _≤_, _<_, min};
-ghost use lib.ListN.{length};
+ghost use lib.ListN.{length, take};
 ghost use lib.Seq.{slice};
 ghost use lib.Dec.{ltb};
 ghost use Rattle.format.specs.Bytes.{pick, first, has as isSet};
 ghost use Rattle.format.specs.Numbers.{number};
+ghost use Rattle.format.specs.Ids.{isUtf8};
 ghost use Rattle.frame.specs.Headers.{firstChecks};
 
 // The deepest that a frame may lie; a frame that lies in no other has depth 1.
@@ -84,6 +86,22 @@ pub fn found(
     }
 }
 
+// Whether the first three bytes are UTF-8.
+pub fn is_id_3(b: &[u8]) -> bool
+    requires { ⌜ 3 ≤ length (now b) ⌝ }
+    ensures { λ r. ⌜ r ≡ isUtf8 (take 3 (now (b .entry))) ⌝ }
+{
+    is_utf8_3(b[0], b[1], b[2])
+}
+
+// Whether the first four bytes are UTF-8.
+fn is_id_4(b: &[u8]) -> bool
+    requires { ⌜ 4 ≤ length (now b) ⌝ }
+    ensures { λ r. ⌜ r ≡ isUtf8 (take 4 (now (b .entry))) ⌝ }
+{
+    is_utf8_4(b[0], b[1], b[2], b[3])
+}
+
 // The first checks in their order, of a header of ten bytes whose id has four: 0, or the number of the first that
 // fails. The bits of the flags that say encrypted and grouped differ from edition to edition.
 pub fn first_refusal(b: &[u8], depth: u8, encryption: u8, grouping: u8) -> u8
@@ -93,7 +111,7 @@ pub fn first_refusal(b: &[u8], depth: u8, encryption: u8, grouping: u8) -> u8
     if depth > DEEPEST {
         return TOO_DEEP;
     }
-    if !is_utf8_4(b[0], b[1], b[2], b[3]) {
+    if !is_id_4(b) {
         return ID_NOT_UTF8;
     }
     let flags = b[9];

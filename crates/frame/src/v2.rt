@@ -1,8 +1,8 @@
 // Frame headers of ID3v2.2: three bytes of id, three of size.
 use crate::fields::DEEPEST;
 use crate::fields::found;
+use crate::fields::is_id_3;
 use crate::fields::read24;
-use crate::ids::is_utf8_3;
 use crate::parts::part;
 use format::Head;
 use format::refusals::ID_NOT_UTF8;
@@ -26,7 +26,7 @@ pub fn decode(s: &[u8], from: usize, to: usize, depth: u8) -> Head
     if depth > DEEPEST {
         return Head::Refused(TOO_DEEP);
     }
-    if !is_utf8_3(b[0], b[1], b[2]) {
+    if !is_id_3(b) {
         return Head::Refused(ID_NOT_UTF8);
     }
     let id = read24(b, 0);

@@ -54,23 +54,18 @@ fn with_body(b: &[u8]) -> Head
     let flags = b[9];
     let n = length_bytes(has(DATA_LENGTH, flags));
     let start = 10 + n;
+    let size = less(frame_size(b), n);
     if b.len() < start {
         return Head::Refused(MISSING_BYTES);
     }
+    let left = b.len() - start;
     let compressed = has(COMPRESSION, flags);
     let flagged = has(UNSYNCHRONISATION, flags);
-    found(
-        read32(b, 0),
-        compressed,
-        flagged,
-        start,
-        less(size(b), n),
-        b.len() - start,
-    )
+    found(read32(b, 0), compressed, flagged, start, size, left)
 }
 
 // The size that the header gives: a data length counts in it.
-fn size(b: &[u8]) -> usize
+fn frame_size(b: &[u8]) -> usize
     requires { ⌜ 10 ≤ length (now b) ⌝ }
     ensures { λ r. ⌜ r ≡ frameSize Version.Id3v24 (now (b .entry)) ⌝ }
 {

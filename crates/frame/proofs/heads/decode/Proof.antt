@@ -1,5 +1,4 @@
 -- `frame::heads::decode` meets its contract. Assumes nothing.
-use mathlib.Core.Path.{_≡_, _∙_}
 use borrow.Author.Needs.{needs}
 use Rattle.frame.proofs.heads.decode.Statement.{statement}
 use Rattle.frame.proofs.heads.decode.Tie as tie
@@ -23,16 +22,13 @@ decode-requires-3 : tie.Need-decode-requires-3
 decode-requires-3 c κs = search needs
 
 returns : tie.Need-returns
-returns c =
-    rw (c .before .enum-told .given .1) (c .decode .ensures)
+returns c = rw (c .before .enum-told .given .1) (c .decode .ensures)
 
 returns-2 : tie.Need-returns-2
-returns-2 c =
-    rw (c .before .enum-told2 .given .1) (c .decode2 .ensures)
+returns-2 c = rw (c .before .enum-told2 .given .1) (c .decode2 .ensures)
 
 returns-3 : tie.Need-returns-3
-returns-3 c =
-    rw (c .before .enum-told3 .given .1) (c .decode3 .ensures)
+returns-3 c = rw (c .before .enum-told3 .given .1) (c .decode3 .ensures)
 
 pub decode-spec : {M : Type 1} → statement M
 decode-spec =

@@ -1,6 +1,6 @@
 -- `frame::ids::is_utf8_4` meets its contract. Assumes nothing.
-use mathlib.Core.Path.{_≡_, sym, _∙_}
-use mathlib.Core.List.{List, [], _∷_}
+use mathlib.Core.Path.{sym, _∙_}
+use mathlib.Core.List.{[], _∷_}
 use borrow.Author.Needs.{needs}
 use Rattle.frame.proofs.Utf8.{ascii-4}
 use Rattle.frame.proofs.ids.is_utf8_4.Statement.{statement}

@@ -1,7 +1,5 @@
 -- `frame::ids::lead` meets its contract: each row is that of its class. Assumes nothing.
-use mathlib.Core.Path.{_≡_, sym, _∙_}
-use Prim.Native.Nat.{ℕ}
-use native.Mathlib.Omega.{arith}
+use mathlib.Core.Path.{sym, _∙_}
 use borrow.Author.Needs.{needs}
 use Rattle.frame.proofs.Utf8.{lead-of, no-lead, class-below}
 use Rattle.frame.proofs.ids.lead.Statement.{statement}

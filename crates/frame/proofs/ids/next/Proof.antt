@@ -1,5 +1,5 @@
 -- `frame::ids::next` meets its contract. Assumes nothing.
-use mathlib.Core.Path.{_≡_, _∙_}
+use mathlib.Core.Path.{_∙_}
 use borrow.Author.Needs.{needs}
 use Rattle.frame.proofs.Utf8.{none-due, tail, tail-low, tail-high}
 use Rattle.frame.proofs.ids.next.Statement.{statement}

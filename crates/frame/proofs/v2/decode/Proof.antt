@@ -1,23 +1,27 @@
 -- `frame::v2::decode` meets its contract. Assumes nothing.
-use mathlib.Core.Path.{_≡_, refl, sym, ap, _∙_}
+use mathlib.Core.Path.{refl, sym, ap, _∙_}
 use native.Mathlib.Omega.{arith}
-use mathlib.Core.Bool.{Bool, false}
+use mathlib.Core.Bool.{false}
 use lib.ListN.{take}
 use borrow.Author.Needs.{needs}
 use borrow.Author.Tests.{not-true, not-false}
 use Rattle.lists.proofs.Bools.{false-not-true}
-use Rattle.format.specs.Ids.{isUtf8}
 use Rattle.format.specs.Frame.{headOf}
 use Rattle.format.specs.declared.Version.the-variants.{Id3v22}
 use Rattle.frame.specs.Headers.{Begun}
-use Rattle.frame.proofs.Words.{id-three}
 use Rattle.frame.proofs.Headers.{too-deep, not-utf8, ends-short, ends-padded, refused-first, found}
 use Rattle.frame.proofs.v2.decode.Statement.{statement}
 use Rattle.frame.proofs.v2.decode.Tie as tie
 
--- what the test of the id says
-id-there : (c : tie.After-is-utf8-3) → isUtf8 (take 3 (c .before .before .before .before .before .before .before .before .part .result .now)) ≡ c .is-utf8-3 .result
-id-there c = id-three (c .before .before .before .before .before .before .before .before .part .result .now) (omega arith) (c .is-utf8-3 .result) (c .is-utf8-3 .ensures)
+-- the first checks passed
+passed : (c : tie.Else4) → Begun Id3v22 (c .before .before .before .before .before .before .part .result .now)
+passed c = record {
+  long = c .before .before .before .before .before .if1 .left;
+  some = c .before .before .before .if2 .left;
+  utf8 = sym (c .before .is-id-3 .ensures) ∙ not-false _ (c .if4 .left);
+  plain = refl;
+  alone = refl;
+}
 
 part-requires : tie.Need-part-requires
 part-requires c κs = search needs
@@ -45,24 +49,15 @@ returns-3 c =
     (too-deep (a .depth) (take 3 (b .result .now)) _ (c .if3 .taken))
     ∙ ap (headOf Id3v22 (a .depth)) (b .ensures)
 
-shared-slice-read-is-utf8-3 : tie.Need-shared-slice-read-is-utf8-3
-shared-slice-read-is-utf8-3 c = search needs
-
-shared-slice-read-is-utf8-3-2 : tie.Need-shared-slice-read-is-utf8-3-2
-shared-slice-read-is-utf8-3-2 c = search needs
-
-shared-slice-read-is-utf8-3-3 : tie.Need-shared-slice-read-is-utf8-3-3
-shared-slice-read-is-utf8-3-3 c = search needs
-
-is-utf8-3-requires : tie.Need-is-utf8-3-requires
-is-utf8-3-requires c κs = search needs
+is-id-3-requires : tie.Need-is-id-3-requires
+is-id-3-requires c κs = search needs
 
 returns-4 : tie.Need-returns-4
 returns-4 c =
-    let a = c .before .before .before .before .before .before .before .before .before .before .before .args in
-    let b = c .before .before .before .before .before .before .before .before .before .part in
-    refused-first Id3v22 (a .depth) (b .result .now) (c .before .before .before .before .before .before .before .before .if1 .left) (c .before .before .before .before .before .before .if2 .left) 7 (λ z. omega arith)
-    (not-utf8 (a .depth) (take 3 (b .result .now)) _ (c .before .before .before .before .before .if3 .left) (id-there (c .before) ∙ not-true _ (c .if4 .taken)))
+    let a = c .before .before .before .before .before .before .before .before .args in
+    let b = c .before .before .before .before .before .before .part in
+    refused-first Id3v22 (a .depth) (b .result .now) (c .before .before .before .before .before .if1 .left) (c .before .before .before .if2 .left) 7 (λ z. omega arith)
+    (not-utf8 (a .depth) (take 3 (b .result .now)) _ (c .before .before .if3 .left) (sym (c .before .is-id-3 .ensures) ∙ not-true _ (c .if4 .taken)))
     ∙ ap (headOf Id3v22 (a .depth)) (b .ensures)
 
 read24-requires : tie.Need-read24-requires
@@ -82,19 +77,13 @@ found-requires c κs = search needs
 
 returns-5 : tie.Need-returns-5
 returns-5 c =
-    let a = c .before .before .before .before .before .before .before .before .before .before .before .before .before .before .args in
-    let b = c .before .before .before .before .before .before .before .before .before .before .before .before .part in
+    let a = c .before .before .before .before .before .before .before .before .before .before .before .args in
+    let b = c .before .before .before .before .before .before .before .before .before .part in
     let id = c .before .before .read24 in
-    let whole = c .before .read242 in
-    let begun : Begun Id3v22 (b .result .now) = record {
-      long = c .before .before .before .before .before .before .before .before .before .before .before .if1 .left;
-      some = c .before .before .before .before .before .before .before .before .before .if2 .left;
-      utf8 = id-there (c .before .before .before .before) ∙ not-false _ (c .before .before .before .if4 .left);
-      plain = refl;
-      alone = refl;
-    } in
-    found Id3v22 (b .result .now) begun (a .depth) (c .before .before .before .before .before .before .before .before .if3 .left) 0 refl (c .before .before .before .before .before .before .before .before .before .before .before .if1 .left)
-    (whole .result) (whole .ensures .0) (whole .result) (omega arith) (λ w. absurd (false-not-true w))
+    let size = c .before .read242 in
+    let long = c .before .before .before .before .before .before .before .before .if1 .left in
+    found Id3v22 (b .result .now) (passed (c .before .before .before)) (a .depth) (c .before .before .before .before .before .if3 .left) 0 refl long
+    (size .result) (size .ensures .0) (size .result) (omega arith) (λ w. absurd (false-not-true w))
     (id .result) (id .ensures .0) false false refl refl (c .found .result) (c .found .ensures)
     ∙ ap (headOf Id3v22 (a .depth)) (b .ensures)
 
@@ -107,10 +96,7 @@ decode-spec =
     shared-slice-read-if2
     returns-2
     returns-3
-    shared-slice-read-is-utf8-3
-    shared-slice-read-is-utf8-3-2
-    shared-slice-read-is-utf8-3-3
-    is-utf8-3-requires
+    is-id-3-requires
     returns-4
     read24-requires
     read24-requires-2

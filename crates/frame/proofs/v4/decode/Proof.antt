@@ -1,5 +1,5 @@
 -- `frame::v4::decode` meets its contract. Assumes nothing.
-use mathlib.Core.Path.{_≡_, ap, _∙_}
+use mathlib.Core.Path.{ap, _∙_}
 use Prim.Native.Nat.{_≤_}
 use borrow.Author.Needs.{needs}
 use Rattle.format.specs.Frame.{headOf}
@@ -10,10 +10,14 @@ use Rattle.frame.proofs.v4.decode.Statement.{statement}
 use Rattle.frame.proofs.v4.decode.Tie as tie
 
 -- the first checks passed
-passed : (c : tie.Else3) → (c .before .before .before .before .before .before .before .args .depth ≤ 8) × Begun Id3v24 (c .before .before .before .before .before .part .result .now)
+passed : (c : tie.Else3)
+    → (c .before .before .before .before .before .before .before .args .depth ≤ 8) × Begun Id3v24 (c .before .before .before .before .before .part .result .now)
 passed c =
+    let a = c .before .before .before .before .before .before .before .args in
+    let b = c .before .before .before .before .before .part in
     let k = c .before .first-refusal in
-    begun Id3v24 (c .before .before .before .before .before .before .before .args .depth) (c .before .before .before .before .before .part .result .now) (c .before .before .before .before .if1 .left) (c .before .before .if2 .left) (k .result) (c .if3 .left) (k .ensures)
+    let long = c .before .before .before .before .if1 .left in
+    begun Id3v24 (a .depth) (b .result .now) long (c .before .before .if2 .left) (k .result) (c .if3 .left) (k .ensures)
 
 part-requires : tie.Need-part-requires
 part-requires c κs = search needs
@@ -41,12 +45,12 @@ returns-3 c =
     let a = c .before .before .before .before .before .before .before .args in
     let b = c .before .before .before .before .before .part in
     let k = c .before .first-refusal in
-    refused-first Id3v24 (a .depth) (b .result .now) (c .before .before .before .before .if1 .left) (c .before .before .if2 .left) (k .result) (c .if3 .taken) (k .ensures)
+    let long = c .before .before .before .before .if1 .left in
+    refused-first Id3v24 (a .depth) (b .result .now) long (c .before .before .if2 .left) (k .result) (c .if3 .taken) (k .ensures)
     ∙ ap (headOf Id3v24 (a .depth)) (b .ensures)
 
 with-body-requires : tie.Need-with-body-requires
-with-body-requires c κs =
-    passed c .1
+with-body-requires c κs = passed c .1
 
 returns-4 : tie.Need-returns-4
 returns-4 c =

@@ -25,11 +25,20 @@ length-bytes-requires c κs = search needs
 add-start : tie.Need-add-start
 add-start c = search needs
 
+frame-size-requires : tie.Need-frame-size-requires
+frame-size-requires c κs = search needs
+
+less-requires : tie.Need-less-requires
+less-requires c κs = search needs
+
 returns : tie.Need-returns
 returns c depth shallow =
-    let a = c .before .before .before .before .before in
-    let n = c .before in
+    let a = c .before .before .before .before .before .before .before in
+    let n = c .before .before .before in
     no-length Id3v24 (a .args .b .now) (a .pre) depth shallow (n .length-bytes .result) (is-length n) (c .if1 .taken)
+
+sub-left : tie.Need-sub-left
+sub-left c = search needs
 
 has-requires-2 : tie.Need-has-requires-2
 has-requires-2 c κs = search needs
@@ -40,15 +49,6 @@ has-requires-3 c κs = search needs
 read32-requires : tie.Need-read32-requires
 read32-requires c κs = search needs
 
-size-requires : tie.Need-size-requires
-size-requires c κs = search needs
-
-less-requires : tie.Need-less-requires
-less-requires c κs = search needs
-
-sub-found : tie.Need-sub-found
-sub-found c = search needs
-
 found-requires : tie.Need-found-requires
 found-requires c κs = search needs
 
@@ -56,12 +56,13 @@ returns-2 : tie.Need-returns-2
 returns-2 c depth shallow =
     let a = c .before .before .before .before .before .before .before .before .before .before .before in
     let n = c .before .before .before .before .before .before .before in
-    let whole = c .before .before .size in
-    let size = c .before .less in
-    let id = c .before .before .before .read32 in
-    let compressed = c .before .before .before .before .before .has2 in
-    let flagged = c .before .before .before .before .has3 in
-    found Id3v24 (a .args .b .now) (a .pre) depth shallow (n .length-bytes .result) (is-length n) (c .before .before .before .before .before .before .if1 .left)
+    let there = c .before .before .before .before .if1 .left in
+    let whole = c .before .before .before .before .before .before .frame-size in
+    let size = c .before .before .before .before .before .less in
+    let id = c .before .read32 in
+    let compressed = c .before .before .before .has2 in
+    let flagged = c .before .before .has3 in
+    found Id3v24 (a .args .b .now) (a .pre) depth shallow (n .length-bytes .result) (is-length n) there
     (whole .result) (whole .ensures) (size .result) (size .ensures) (λ w. absurd (false-not-true w))
     (id .result) (id .ensures) (compressed .result) (flagged .result) (compressed .ensures) (flagged .ensures) (c .found .result) (c .found .ensures)
 
@@ -73,12 +74,12 @@ with-body-spec =
     has-requires
     length-bytes-requires
     add-start
+    frame-size-requires
+    less-requires
     returns
+    sub-left
     has-requires-2
     has-requires-3
     read32-requires
-    size-requires
-    less-requires
-    sub-found
     found-requires
     returns-2)

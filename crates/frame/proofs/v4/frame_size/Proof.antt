@@ -1,12 +1,12 @@
--- `frame::v4::size` meets its contract. Assumes nothing.
-use mathlib.Core.Path.{_≡_, ap, _∙_}
+-- `frame::v4::frame_size` meets its contract. Assumes nothing.
+use mathlib.Core.Path.{ap, _∙_}
 use Prim.Native.Nat.{ℕ}
 use native.Mathlib.Omega.{arith}
 use borrow.Author.Needs.{needs}
 use Rattle.format.specs.Numbers.{bytesOf, fromSynchsafe}
 use Rattle.frame.proofs.Words.{bytes-back}
-use Rattle.frame.proofs.v4.size.Statement.{statement}
-use Rattle.frame.proofs.v4.size.Tie as tie
+use Rattle.frame.proofs.v4.frame_size.Statement.{statement}
+use Rattle.frame.proofs.v4.frame_size.Tie as tie
 
 read32-requires : tie.Need-read32-requires
 read32-requires c κs = search needs
@@ -24,5 +24,5 @@ returns c =
     ∙ ap (λ (n : ℕ). fromSynchsafe (bytesOf 4 n)) (c .before .read32 .ensures)
     ∙ ap fromSynchsafe (bytes-back 4 s (omega arith) (λ i. omega (arith, c .before .before .shared-slice-known .given i)))
 
-pub size-spec : {M : Type 1} → statement M
-size-spec = tie.close (tie.spec read32-requires decode-u32-requires cast-result returns)
+pub frame-size-spec : {M : Type 1} → statement M
+frame-size-spec = tie.close (tie.spec read32-requires decode-u32-requires cast-result returns)

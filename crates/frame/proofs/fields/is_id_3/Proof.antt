@@ -1,0 +1,34 @@
+-- `frame::fields::is_id_3` meets its contract. Assumes nothing.
+use mathlib.Core.Path.{sym, ap, _∙_}
+use borrow.Author.Needs.{needs}
+use Rattle.format.specs.Ids.{isUtf8}
+use Rattle.frame.proofs.Words.{three}
+use Rattle.frame.proofs.fields.is_id_3.Statement.{statement}
+use Rattle.frame.proofs.fields.is_id_3.Tie as tie
+
+shared-slice-read-is-utf8-3 : tie.Need-shared-slice-read-is-utf8-3
+shared-slice-read-is-utf8-3 c = search needs
+
+shared-slice-read-is-utf8-3-2 : tie.Need-shared-slice-read-is-utf8-3-2
+shared-slice-read-is-utf8-3-2 c = search needs
+
+shared-slice-read-is-utf8-3-3 : tie.Need-shared-slice-read-is-utf8-3-3
+shared-slice-read-is-utf8-3-3 c = search needs
+
+is-utf8-3-requires : tie.Need-is-utf8-3-requires
+is-utf8-3-requires c κs = search needs
+
+returns : tie.Need-returns
+returns c =
+    let a = c .before .before .before .before .before in
+    c .is-utf8-3 .ensures ∙ ap isUtf8 (sym (three 0 (a .args .b .now) (a .pre)))
+
+pub is-id-3-spec : {M : Type 1} → statement M
+is-id-3-spec =
+    tie.close
+    (tie.spec
+    shared-slice-read-is-utf8-3
+    shared-slice-read-is-utf8-3-2
+    shared-slice-read-is-utf8-3-3
+    is-utf8-3-requires
+    returns)

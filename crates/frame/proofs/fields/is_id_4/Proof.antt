@@ -1,0 +1,38 @@
+-- `frame::fields::is_id_4` meets its contract. Assumes nothing.
+use mathlib.Core.Path.{sym, ap, _∙_}
+use borrow.Author.Needs.{needs}
+use Rattle.format.specs.Ids.{isUtf8}
+use Rattle.frame.proofs.Words.{four}
+use Rattle.frame.proofs.fields.is_id_4.Statement.{statement}
+use Rattle.frame.proofs.fields.is_id_4.Tie as tie
+
+shared-slice-read-is-utf8-4 : tie.Need-shared-slice-read-is-utf8-4
+shared-slice-read-is-utf8-4 c = search needs
+
+shared-slice-read-is-utf8-4-2 : tie.Need-shared-slice-read-is-utf8-4-2
+shared-slice-read-is-utf8-4-2 c = search needs
+
+shared-slice-read-is-utf8-4-3 : tie.Need-shared-slice-read-is-utf8-4-3
+shared-slice-read-is-utf8-4-3 c = search needs
+
+shared-slice-read-is-utf8-4-4 : tie.Need-shared-slice-read-is-utf8-4-4
+shared-slice-read-is-utf8-4-4 c = search needs
+
+is-utf8-4-requires : tie.Need-is-utf8-4-requires
+is-utf8-4-requires c κs = search needs
+
+returns : tie.Need-returns
+returns c =
+    let a = c .before .before .before .before .before .before in
+    c .is-utf8-4 .ensures ∙ ap isUtf8 (sym (four 0 (a .args .b .now) (a .pre)))
+
+pub is-id-4-spec : {M : Type 1} → statement M
+is-id-4-spec =
+    tie.close
+    (tie.spec
+    shared-slice-read-is-utf8-4
+    shared-slice-read-is-utf8-4-2
+    shared-slice-read-is-utf8-4-3
+    shared-slice-read-is-utf8-4-4
+    is-utf8-4-requires
+    returns)
