@@ -104,6 +104,7 @@ pub fn parse(s: &[u8], from: usize, to: usize) -> Parsed
 
 // The largest number, and what times eight is more.
 const LARGEST: usize = 0xFFFF_FFFF_FFFF_FFFF;
+
 const TOO_MANY: usize = 0x2000_0000_0000_0000;
 
 // How many references of sum bits fit whole in n bytes, or the largest number where there are more.

@@ -1,0 +1,16 @@
+-- `reader::headers::version` meets its contract. Assumes nothing.
+use borrow.Author.Tests.{ne-eqb}
+use Rattle.reader.proofs.headers.version.Statement.{statement}
+use Rattle.reader.proofs.headers.version.Tie as tie
+
+returns : tie.Need-returns
+returns c = rw (c .match .keys1)
+
+returns-2 : tie.Need-returns-2
+returns-2 c = rw (c .match .keys2)
+
+returns-3 : tie.Need-returns-3
+returns-3 c = rw (ne-eqb (c .before .args .edition) 2 (c .match .rest .0 .1), ne-eqb (c .before .args .edition) 3 (c .match .rest .1))
+
+pub version-spec : {M : Type 1} → statement M
+version-spec = tie.close (tie.spec returns returns-2 returns-3)

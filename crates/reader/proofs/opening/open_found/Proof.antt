@@ -1,0 +1,84 @@
+-- `reader::opening::open_found` meets its contract. Assumes nothing.
+use Prim.Native.Nat.{ℕ}
+use mathlib.Core.List.{List}
+use borrow.Author.Tests.{not-true, not-false}
+use borrow.Author.Needs.{needs}
+use Rattle.reader.proofs.Opens.{Told, in-tag, in-work, too-small}
+use Rattle.reader.proofs.opening.open_found.Statement.{statement}
+use Rattle.reader.proofs.opening.open_found.Tie as tie
+
+abbrev tag : tie.After-is-whole → List ℕ
+tag c = c .before .before .before .before .args .tag .now
+
+abbrev work : tie.After-is-whole → List ℕ
+work c = c .before .before .before .before .args .work .now
+
+told : (c : tie.After-is-whole)
+    → Told (tag c) (c .before .before .before .before .args .h) (c .before .region-of .result .start) (c .before .region-of .result .end) (c .is-whole .result)
+told c = record {
+  head = c .before .before .before .before .pre;
+  starts = c .before .region-of .ensures .0;
+  ends = c .before .region-of .ensures .1;
+  says = c .is-whole .ensures;
+}
+
+region-of-requires : tie.Need-region-of-requires
+region-of-requires c κs = search needs
+
+is-whole-requires : tie.Need-is-whole-requires
+is-whole-requires c κs = search needs
+
+ready-requires : tie.Need-ready-requires
+ready-requires c κs = search needs
+
+returns : tie.Need-returns
+returns c =
+    let p = c .before .before in
+    in-tag (told p) (work p) (not-true _ (c .before .if1 .taken)) (c .ready .ensures)
+
+resync-into-requires : tie.Need-resync-into-requires
+resync-into-requires c κs = search needs
+
+enum-known-put : tie.Need-enum-known-put
+enum-known-put c = search needs
+
+ready-requires-2 : tie.Need-ready-requires-2
+ready-requires-2 c κs = search needs
+
+enum-known-put-2 : tie.Need-enum-known-put-2
+enum-known-put-2 c = search needs
+
+same-length : tie.Need-same-length
+same-length c = search needs
+
+returns-2 : tie.Need-returns-2
+returns-2 c =
+    let p = c .before .before .before .before .before .before .before .before .before in
+    let on = not-false _ (c .before .before .before .before .before .before .before .before .if1 .left) in
+    in-work (told p) (work p) on (c .before .before .before .before .before .before .resync-into .ensures) (c .before .before .put .given .1) (c .ready2 .ensures)
+
+same-length-2 : tie.Need-same-length-2
+same-length-2 c = search needs
+
+returns-3 : tie.Need-returns-3
+returns-3 c =
+    let p = c .before .before .before .before .before .before .before .before in
+    let on = not-false _ (c .before .before .before .before .before .before .before .if1 .left) in
+    too-small (told p) (work p) on (c .before .before .before .before .before .resync-into .ensures) (c .before .put2 .given .1)
+
+pub open-found-spec : {M : Type 1} → statement M
+open-found-spec =
+    tie.close
+    (tie.spec
+    region-of-requires
+    is-whole-requires
+    ready-requires
+    returns
+    resync-into-requires
+    enum-known-put
+    ready-requires-2
+    enum-known-put-2
+    same-length
+    returns-2
+    same-length-2
+    returns-3)
