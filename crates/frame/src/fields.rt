@@ -18,7 +18,7 @@ ghost use Rattle.format.specs.Ids.{isUtf8};
 ghost use Rattle.frame.specs.Headers.{firstChecks};
 
 // The deepest that a frame may lie; a frame that lies in no other has depth 1.
-pub const DEEPEST: u8 = 8;
+pub(crate) const DEEPEST: u8 = 8;
 
 // A byte as a wider number.
 fn wide(x: u8) -> u32
@@ -28,7 +28,7 @@ fn wide(x: u8) -> u32
 }
 
 // The number that three bytes from `at` on make.
-pub fn read24(s: &[u8], at: usize) -> u32
+pub(crate) fn read24(s: &[u8], at: usize) -> u32
     requires { ⌜ at + 3 ≤ length (now s) ⌝ }
     ensures { λ r. ⌜ (r ≡ number (slice at (at + 3) (now (s .entry)))) × (r < 2 ^ 24) ⌝ }
 {
@@ -36,7 +36,7 @@ pub fn read24(s: &[u8], at: usize) -> u32
 }
 
 // The number that four bytes from `at` on make.
-pub fn read32(s: &[u8], at: usize) -> u32
+pub(crate) fn read32(s: &[u8], at: usize) -> u32
     requires { ⌜ at + 4 ≤ length (now s) ⌝ }
     ensures { λ r. ⌜ r ≡ number (slice at (at + 4) (now (s .entry))) ⌝ }
 {
@@ -44,7 +44,7 @@ pub fn read32(s: &[u8], at: usize) -> u32
 }
 
 // Whether a bit is set in flags.
-pub fn has(bit: u8, flags: u8) -> bool
+pub(crate) fn has(bit: u8, flags: u8) -> bool
     requires { ⌜ 0 < bit ⌝ }
     ensures { λ r. ⌜ r ≡ isSet bit flags ⌝ }
 {
@@ -52,21 +52,21 @@ pub fn has(bit: u8, flags: u8) -> bool
 }
 
 // How many bytes a data length takes.
-pub fn length_bytes(there: bool) -> usize
+pub(crate) fn length_bytes(there: bool) -> usize
     ensures { λ r. ⌜ (r ≡ pick there 4 0) × (r ≤ 4) ⌝ }
 {
     if there { 4 } else { 0 }
 }
 
 // What is left of a without b, or nothing.
-pub fn less(a: usize, b: usize) -> usize
+pub(crate) fn less(a: usize, b: usize) -> usize
     ensures { λ r. ⌜ r ≡ a - b ⌝ }
 {
     if a < b { 0 } else { a - b }
 }
 
 // A frame whose body should have `size` bytes, of which no more than `left` are there.
-pub fn found(
+pub(crate) fn found(
     id: u32,
     compressed: bool,
     flagged: bool,
@@ -87,7 +87,7 @@ pub fn found(
 }
 
 // Whether the first three bytes are UTF-8.
-pub fn is_id_3(b: &[u8]) -> bool
+pub(crate) fn is_id_3(b: &[u8]) -> bool
     requires { ⌜ 3 ≤ length (now b) ⌝ }
     ensures { λ r. ⌜ r ≡ isUtf8 (take 3 (now (b .entry))) ⌝ }
 {
@@ -104,7 +104,7 @@ fn is_id_4(b: &[u8]) -> bool
 
 // The first checks in their order, of a header of ten bytes whose id has four: 0, or the number of the first that
 // fails. The bits of the flags that say encrypted and grouped differ from edition to edition.
-pub fn first_refusal(b: &[u8], depth: u8, encryption: u8, grouping: u8) -> u8
+pub(crate) fn first_refusal(b: &[u8], depth: u8, encryption: u8, grouping: u8) -> u8
     requires { ⌜ (10 ≤ length (now b)) × (0 < encryption) × (0 < grouping) ⌝ }
     ensures { λ r. ⌜ r ≡ first (firstChecks depth encryption grouping (now (b .entry))) ⌝ }
 {

@@ -30,21 +30,21 @@ fn front(s: &[u8], most: usize) -> u64
 }
 
 // The number that the bytes of a part make, of more than eight bytes the first eight.
-pub fn read64(s: &[u8], from: usize, to: usize) -> u64
+pub(crate) fn read64(s: &[u8], from: usize, to: usize) -> u64
     ensures { λ r. ⌜ r ≡ number (take 8 (slice from to (now (s .entry)))) ⌝ }
 {
     front(part(s, from, to), 8)
 }
 
 // The same, of more than four bytes the first four.
-pub fn read32(s: &[u8], from: usize, to: usize) -> u32
+pub(crate) fn read32(s: &[u8], from: usize, to: usize) -> u32
     ensures { λ r. ⌜ r ≡ number (take 4 (slice from to (now (s .entry)))) ⌝ }
 {
     front(part(s, from, to), 4) as u32
 }
 
 // The same, of more than two bytes the first two.
-pub fn read16(s: &[u8], from: usize, to: usize) -> u16
+pub(crate) fn read16(s: &[u8], from: usize, to: usize) -> u16
     ensures { λ r. ⌜ r ≡ number (take 2 (slice from to (now (s .entry)))) ⌝ }
 {
     front(part(s, from, to), 2) as u16

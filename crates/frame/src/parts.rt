@@ -7,14 +7,14 @@ ghost use Rattle.format.specs.Bytes.{zeroAt};
 ghost use Rattle.format.specs.Record.{nowhere as noSpan};
 
 // The smaller of two numbers.
-pub fn least(a: usize, b: usize) -> usize
+pub(crate) fn least(a: usize, b: usize) -> usize
     ensures { λ r. ⌜ r ≡ min a b ⌝ }
 {
     if a < b { a } else { b }
 }
 
 // The part of s from `from` to `to`, or what there is of it.
-pub fn part(s: &[u8], from: usize, to: usize) -> &[u8]
+pub(crate) fn part(s: &[u8], from: usize, to: usize) -> &[u8]
     ensures { λ r. ⌜ now r ≡ slice from to (now (s .entry)) ⌝ }
 {
     let end = least(to, s.len());
@@ -23,7 +23,7 @@ pub fn part(s: &[u8], from: usize, to: usize) -> &[u8]
 }
 
 // Before the first zero, or at the end.
-pub fn zero_at(s: &[u8]) -> usize
+pub(crate) fn zero_at(s: &[u8]) -> usize
     ensures { λ r. ⌜ r ≡ zeroAt (now (s .entry)) ⌝ }
 {
     let mut i = 0;
@@ -37,7 +37,7 @@ pub fn zero_at(s: &[u8]) -> usize
 }
 
 // The span of a part that a kind lacks.
-pub fn nowhere() -> Span
+pub(crate) fn nowhere() -> Span
     ensures { λ r. ⌜ r ≡ noSpan ⌝ }
 {
     Span { start: 0, len: 0 }
