@@ -1,2 +1,8 @@
--- Worked cases of the writer.
+-- Worked cases of the writer, then laws.
 pub mod Cases
+pub mod Firsts
+pub mod Headings
+pub mod Closed
+pub mod Fitting
+pub mod Lengths
+pub mod Order

@@ -1,4 +1,11 @@
 // Writing a metered tag: the writer's state and its answers. What they mean stands in specs/.
+mod contents;
+mod ids;
+mod names;
+mod sizes;
+mod tables;
+mod texts;
+
 use format::Mode;
 use format::Version;
 
