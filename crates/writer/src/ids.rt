@@ -6,7 +6,7 @@ ghost use Prim.Native.Nat.{ℕ, _^_};
 ghost use lib.Dec.{eqb, leb, ltb};
 ghost use Rattle.format.specs.Bytes.{pick, first, among};
 ghost use Rattle.format.specs.Numbers.{bytesOf};
-ghost use Rattle.format.specs.Ids.{isIdByte, allIdBytes, isId, kind3, kind4, kindOf, kindNumber};
+ghost use Rattle.format.specs.Ids.{isIdByte, allIdBytes, isId, kindNumber};
 ghost use Rattle.format.specs.Record.{contentOf, recOf};
 ghost use Rattle.format.specs.Encode.{kindIn, idCheck, rawCheck, isLost};
 use format::Fields;
@@ -15,6 +15,7 @@ use format::Kind;
 use format::Version;
 use format::refusals::NOT_WRITABLE;
 use format::refusals::WRONG_ID;
+use frame::body::kind_of;
 
 // Whether a number lies from low to high.
 pub fn is_within(low: u32, high: u32, b: u32) -> bool
@@ -77,72 +78,6 @@ pub fn is_id(version: Version, id: u32) -> bool
         Version::Id3v22 => is_id3(id),
         Version::Id3v23 => is_id4(id),
         Version::Id3v24 => is_id4(id),
-    }
-}
-
-// The ids that decide a kind.
-const TXX: u32 = 0x545858;
-
-const POP: u32 = 0x504F50;
-
-const MLL: u32 = 0x4D4C4C;
-
-const TXXX: u32 = 0x54585858;
-
-const POPM: u32 = 0x504F504D;
-
-const MLLT: u32 = 0x4D4C4C54;
-
-const CHAP: u32 = 0x43484150;
-
-const CTOC: u32 = 0x43544F43;
-
-// The kind of a 2.2 id.
-fn kind3(id: u32) -> Kind
-    ensures { λ r. ⌜ r ≡ kind3 id ⌝ }
-{
-    match id {
-        TXX => Kind::Raw,
-        POP => Kind::Popularimeter,
-        MLL => Kind::Table,
-        _ => {
-            if id / 0x10000 == 0x54 {
-                Kind::Text
-            } else {
-                Kind::Raw
-            }
-        }
-    }
-}
-
-// The kind of a 2.3 or 2.4 id.
-fn kind4(id: u32) -> Kind
-    ensures { λ r. ⌜ r ≡ kind4 id ⌝ }
-{
-    match id {
-        TXXX => Kind::Raw,
-        POPM => Kind::Popularimeter,
-        MLLT => Kind::Table,
-        CHAP => Kind::Chapter,
-        CTOC => Kind::Contents,
-        _ => {
-            if id / 0x1000000 == 0x54 {
-                Kind::Text
-            } else {
-                Kind::Raw
-            }
-        }
-    }
-}
-
-// The kind that an id is of.
-fn kind_of(version: Version, id: u32) -> Kind
-    ensures { λ r. ⌜ r ≡ kindOf version id ⌝ }
-{
-    match version {
-        Version::Id3v22 => kind3(id),
-        Version::Id3v23 => kind4(id),
-        Version::Id3v24 => kind4(id),
     }
 }
 
