@@ -1,6 +1,6 @@
 -- `lines::put_body` meets its contract: calls that put one after another. Assumes nothing.
 use borrow.Author.Needs.{needs}
-use Rattle.lines.proofs.Puts.{andthen, left, front}
+use Rattle.lines.proofs.Puts.{andthen, left, front, same}
 use Rattle.lines.proofs.put_body.Statement.{statement}
 use Rattle.lines.proofs.put_body.Tie as tie
 
@@ -45,9 +45,6 @@ put-requires c κs =
     let s = k1 .before .before .before .before .before in
     left (k4 .put-detail .ensures) (left (k3 .put-short .ensures) (left (k2 .put-kind .ensures) (left (k1 .put-numbered .ensures) (s .pre))))
 
-same-length : tie.Need-same-length
-same-length c = search needs
-
 returns : tie.Need-returns
 returns c =
     let k5 = c .before .before in
@@ -56,6 +53,9 @@ returns c =
     let k2 = k3 .before .before .before .before in
     let k1 = k2 .before .before .before .before in
     andthen (k1 .put-numbered .ensures) (andthen (k2 .put-kind .ensures) (andthen (k3 .put-short .ensures) (andthen (k4 .put-detail .ensures) (k5 .put .ensures))))
+
+same-length : tie.Need-same-length
+same-length c = same (returns c)
 
 pub put-body-spec : {M : Type 1} → statement M
 put-body-spec =

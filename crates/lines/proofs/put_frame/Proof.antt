@@ -1,7 +1,7 @@
 -- `lines::put_frame` meets its contract: calls that put one after another. Assumes nothing.
 use Rattle.format.specs.Listing.{frameLine}
 use borrow.Author.Needs.{needs}
-use Rattle.lines.proofs.Puts.{andthen, left, front}
+use Rattle.lines.proofs.Puts.{andthen, left, front, same}
 use Rattle.lines.proofs.put_frame.Statement.{statement}
 use Rattle.lines.proofs.put_frame.Tie as tie
 
@@ -54,9 +54,6 @@ put-body-requires c κs =
     let s = k1 .before .before .before .before .before in
     left (k4 .put-numbered2 .ensures) (left (k3 .put-id .ensures) (left (k2 .put .ensures) (left (k1 .put-numbered .ensures) (s .pre))))
 
-same-length : tie.Need-same-length
-same-length c = search needs
-
 returns : tie.Need-returns
 unfolding frameLine
 returns c =
@@ -66,6 +63,9 @@ returns c =
     let k2 = k3 .before .before .before .before in
     let k1 = k2 .before .before .before .before .before in
     andthen (k1 .put-numbered .ensures) (andthen (k2 .put .ensures) (andthen (k3 .put-id .ensures) (andthen (k4 .put-numbered2 .ensures) (k5 .put-body .ensures))))
+
+same-length : tie.Need-same-length
+same-length c = same (returns c)
 
 pub put-frame-spec : {M : Type 1} → statement M
 put-frame-spec =

@@ -1,7 +1,7 @@
 -- `lines::put_tag` meets its contract: calls that put one after another. Assumes nothing.
 use Rattle.format.specs.Listing.{tagLine}
 use borrow.Author.Needs.{needs}
-use Rattle.lines.proofs.Puts.{andthen, left, front}
+use Rattle.lines.proofs.Puts.{andthen, left, front, same}
 use Rattle.lines.proofs.put_tag.Statement.{statement}
 use Rattle.lines.proofs.put_tag.Tie as tie
 
@@ -60,9 +60,6 @@ put-requires c κs =
     let s = k1 .before .before .before .before in
     left (k4 .put-numbered4 .ensures) (left (k3 .put-numbered3 .ensures) (left (k2 .put-numbered2 .ensures) (left (k1 .put-numbered .ensures) (s .pre))))
 
-same-length : tie.Need-same-length
-same-length c = search needs
-
 returns : tie.Need-returns
 unfolding tagLine
 returns c =
@@ -72,6 +69,9 @@ returns c =
     let k2 = k3 .before .before .before .before .before in
     let k1 = k2 .before .before .before .before .before in
     andthen (k1 .put-numbered .ensures) (andthen (k2 .put-numbered2 .ensures) (andthen (k3 .put-numbered3 .ensures) (andthen (k4 .put-numbered4 .ensures) (k5 .put .ensures))))
+
+same-length : tie.Need-same-length
+same-length c = same (returns c)
 
 pub put-tag-spec : {M : Type 1} → statement M
 put-tag-spec =
