@@ -6,3 +6,4 @@ pub mod Slices
 pub mod Cuts
 pub mod Stores
 pub mod Chains
+pub mod Pieces

@@ -117,3 +117,14 @@ module _ (s : List ℕ) (from to p : ℕ) (le : to ≤ length s) where
 
   pub copy-end : (k : ℕ) {o₀ : List ℕ} {p₀ : ℕ} {l₀ o : List ℕ} → to ≤ from + k → Storing o₀ p₀ l₀ o (p + k) (slice (from + k) to s) → o ≡ sets o₀ p₀ l₀
   copy-end k h t = ap (λ (z : ℕ × List ℕ). z .1) (done (slice-none (from + k) to s h) t)
+
+-- ---- the next byte, and nothing more
+
+module _ {o₀ : List ℕ} {p₀ : ℕ} {l₀ o : List ℕ} {p : ℕ} where
+  -- the next byte has its place
+  pub next-lies : {x : ℕ} {l : List ℕ} → Storing o₀ p₀ l₀ o p (x ∷ l) → p < length o
+  next-lies s = omega (arith, s .ends, s .long, s .room)
+
+  -- nothing is left: the place and the buffer, each by itself
+  pub all-done : Storing o₀ p₀ l₀ o p [] → (p ≡ p₀ + length l₀) × (o ≡ sets o₀ p₀ l₀)
+  all-done s = (omega (arith, s .ends), s .same)

@@ -6,3 +6,9 @@ pub mod Closed
 pub mod Fitting
 pub mod Lengths
 pub mod Order
+pub mod Puts
+pub mod Digits
+pub mod Layouts
+pub mod Smalls
+pub mod Packs
+pub mod Heads

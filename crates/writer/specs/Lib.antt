@@ -3,3 +3,8 @@ pub mod Writer
 pub mod Answers
 pub mod Checks
 pub mod Sizes
+pub mod Pens
+pub mod Layouts
+pub mod Smalls
+pub mod Packs
+pub mod Plans

@@ -1,8 +1,15 @@
 // Writing a metered tag: the writer's state and its answers. What they mean stands in specs/.
+mod bodies;
 mod contents;
+mod counter;
+mod frames;
 mod ids;
 mod names;
+mod numbers;
+mod pack;
+mod pens;
 mod sizes;
+mod small;
 mod tables;
 mod texts;
 

@@ -51,13 +51,18 @@ returns-2 c name names rest deviations = sym (kinds (c .before) name names rest 
 returns-3 : tie.Need-returns-3
 returns-3 c name names rest deviations =
     let a = c .before .before .before .before .before .before .before .before .args in
-    sym (kinds (c .before .before) name names rest deviations ∙ passed _ _ (c .before .if2 .left) ∙ marks {compressed = a .heading .compressed} (c .if3 .taken) refl)
+    let marked = kinds (c .before .before) name names rest deviations ∙ passed _ _ (c .before .if2 .left) in
+    sym (marked ∙ marks {compressed = a .heading .compressed} (c .if3 .taken) refl)
 
 returns-4 : tie.Need-returns-4
-returns-4 c name names rest deviations = sym (kinds (c .before .before .before) name names rest deviations ∙ passed _ _ (c .before .before .if2 .left) ∙ marks (c .before .if3 .left) (c .if4 .taken))
+returns-4 c name names rest deviations =
+    let marked = kinds (c .before .before .before) name names rest deviations ∙ passed _ _ (c .before .before .if2 .left) in
+    sym (marked ∙ marks (c .before .if3 .left) (c .if4 .taken))
 
 returns-5 : tie.Need-returns-5
-returns-5 c name names rest deviations = sym (kinds (c .before .before .before) name names rest deviations ∙ passed _ _ (c .before .before .if2 .left) ∙ marks (c .before .if3 .left) (c .if4 .left))
+returns-5 c name names rest deviations =
+    let marked = kinds (c .before .before .before) name names rest deviations ∙ passed _ _ (c .before .before .if2 .left) in
+    sym (marked ∙ marks (c .before .if3 .left) (c .if4 .left))
 
 pub id-check-spec : {M : Type 1} → statement M
 id-check-spec =

@@ -35,7 +35,8 @@ loop-again : tie.Need-loop-again Inv-loop μ-loop
 loop-again c =
     let s = c .before .before .before .before .args .children .now in
     let i = c .before .before .before .loop .i in
-    ⊎-elim (λ w. omega (arith, one-zero s i (c .before .before .loop-test .taken) (w .0 .taken))) (λ w. omega (arith, other-byte s i (c .before .before .loop-test .taken) (w .0 .left))) (c .if1 .came)
+    let lt = c .before .before .loop-test .taken in
+    ⊎-elim (λ w. omega (arith, one-zero s i lt (w .0 .taken))) (λ w. omega (arith, other-byte s i lt (w .0 .left))) (c .if1 .came)
 
 returns : tie.Need-returns Inv-loop μ-loop
 returns c =

@@ -1,0 +1,155 @@
+-- `walk::inside::look` meets its contract. Assumes nothing.
+use mathlib.Core.Path.{_≡_, _∙_}
+use Prim.Native.Nat.{ℕ, _+_}
+use native.Mathlib.Omega.{arith}
+use lib.ListN.{length}
+use lib.Seq.{slice, length-slice}
+use Rattle.format.specs.declared.Kind.{Kind}
+use Rattle.format.specs.declared.Version.the-variants.{Id3v24}
+use Rattle.walk.proofs.Insides.{after-as, raw-inside}
+use borrow.Author.Needs.{needs}
+use Rattle.walk.proofs.inside.look.Statement.{statement}
+use Rattle.walk.proofs.inside.look.Tie as tie
+use Rattle.walk.proofs.inside.look.Reads as reads
+use Rattle.walk.proofs.inside.look.Lts as lts
+use Rattle.frame.proofs.chapter.parse_chapter.Reads as parse-chapter-reads
+use Rattle.frame.proofs.chapter.parse_contents.Reads as parse-contents-reads
+use Rattle.frame.proofs.popularimeter.parse.Reads as popularimeter-parse-reads
+use Rattle.frame.proofs.table.parse.Reads as table-parse-reads
+use Rattle.walk.proofs.inside.after.Reads as after-reads
+use Rattle.walk.proofs.inside.text.Reads as text-reads
+
+-- src/inside.rt:67:23
+enum-told : tie.Need-enum-told
+enum-told c = search needs
+
+-- src/inside.rt:67:23
+text-requires : tie.Need-text-requires
+text-requires c κs = search needs
+
+-- src/inside.rt:68:44
+enum-told-2 : tie.Need-enum-told-2
+enum-told-2 c = search needs
+
+-- src/inside.rt:68:44
+parse-requires : tie.Need-parse-requires
+parse-requires c κs = search needs
+
+-- src/inside.rt:68:32
+after-requires : tie.Need-after-requires
+after-requires c κs = search needs
+
+-- src/inside.rt:69:36
+enum-told-3 : tie.Need-enum-told-3
+enum-told-3 c = search needs
+
+-- src/inside.rt:69:36
+parse-requires-2 : tie.Need-parse-requires-2
+parse-requires-2 c κs = search needs
+
+-- src/inside.rt:69:24
+after-requires-2 : tie.Need-after-requires-2
+after-requires-2 c κs = search needs
+
+-- src/inside.rt:70:38
+enum-told-4 : tie.Need-enum-told-4
+enum-told-4 c = search needs
+
+-- src/inside.rt:70:38
+parse-chapter-requires : tie.Need-parse-chapter-requires
+parse-chapter-requires c κs = search needs
+
+-- src/inside.rt:70:26
+after-requires-3 : tie.Need-after-requires-3
+after-requires-3 c κs = search needs
+
+-- src/inside.rt:71:39
+enum-told-5 : tie.Need-enum-told-5
+enum-told-5 c = search needs
+
+-- src/inside.rt:71:39
+parse-contents-requires : tie.Need-parse-contents-requires
+parse-contents-requires c κs = search needs
+
+-- src/inside.rt:71:27
+after-requires-4 : tie.Need-after-requires-4
+after-requires-4 c κs = search needs
+
+-- src/inside.rt:72:22
+enum-told-6 : tie.Need-enum-told-6
+enum-told-6 c = search needs
+
+-- src/inside.rt:62:1
+returns : tie.Need-returns
+returns c = rw (c .before .enum-told .given .1) (c .text .ensures)
+
+-- src/inside.rt:62:1
+returns-2 : tie.Need-returns-2
+returns-2 c =
+    let a = c .before .before .before .before .before .args in
+    let b = slice (a .from) (a .to) (a .s .now) in
+    let l = length-slice (a .from) (a .to) (a .s .now) (c .before .before .before .before .before .pre .1) in
+    let ends : a .from + length b ≡ a .to = omega arith in
+    c .after .ensures ∙ after-as Id3v24 (a .from) (a .to) b ends (a .kind) Kind.Popularimeter (c .before .parse .result) (c .before .before .enum-told2 .given .1) (c .before .parse .ensures Id3v24)
+
+-- src/inside.rt:62:1
+returns-3 : tie.Need-returns-3
+returns-3 c =
+    let a = c .before .before .before .before .before .args in
+    let b = slice (a .from) (a .to) (a .s .now) in
+    let l = length-slice (a .from) (a .to) (a .s .now) (c .before .before .before .before .before .pre .1) in
+    let ends : a .from + length b ≡ a .to = omega arith in
+    c .after2 .ensures ∙ after-as Id3v24 (a .from) (a .to) b ends (a .kind) Kind.Table (c .before .parse2 .result) (c .before .before .enum-told3 .given .1) (c .before .parse2 .ensures Id3v24)
+
+-- src/inside.rt:62:1
+returns-4 : tie.Need-returns-4
+returns-4 c =
+    let a = c .before .before .before .before .before .args in
+    let b = slice (a .from) (a .to) (a .s .now) in
+    let l = length-slice (a .from) (a .to) (a .s .now) (c .before .before .before .before .before .pre .1) in
+    let ends : a .from + length b ≡ a .to = omega arith in
+    c .after3 .ensures ∙ after-as Id3v24 (a .from) (a .to) b ends (a .kind) Kind.Chapter (c .before .parse-chapter .result) (c .before .before .enum-told4 .given .1) (c .before .parse-chapter .ensures Id3v24)
+
+-- src/inside.rt:62:1
+returns-5 : tie.Need-returns-5
+returns-5 c =
+    let a = c .before .before .before .before .before .args in
+    let b = slice (a .from) (a .to) (a .s .now) in
+    let l = length-slice (a .from) (a .to) (a .s .now) (c .before .before .before .before .before .pre .1) in
+    let ends : a .from + length b ≡ a .to = omega arith in
+    c .after4 .ensures ∙ after-as Id3v24 (a .from) (a .to) b ends (a .kind) Kind.Contents (c .before .parse-contents .result) (c .before .before .enum-told5 .given .1) (c .before .parse-contents .ensures Id3v24)
+
+-- src/inside.rt:62:1
+returns-6 : tie.Need-returns-6
+returns-6 c =
+    let a = c .before .before .before .args in
+    let b = slice (a .from) (a .to) (a .s .now) in
+    let l = length-slice (a .from) (a .to) (a .s .now) (c .before .before .before .pre .1) in
+    let ends : a .from + length b ≡ a .to = omega arith in
+    raw-inside (a .kind) (a .from) b (a .to) ends (c .enum-told6 .given .1)
+
+pub look-spec : {M : Type 1} → statement M
+look-spec =
+    tie.close
+    (tie.spec
+    enum-told
+    text-requires
+    enum-told-2
+    parse-requires
+    after-requires
+    enum-told-3
+    parse-requires-2
+    after-requires-2
+    enum-told-4
+    parse-chapter-requires
+    after-requires-3
+    enum-told-5
+    parse-contents-requires
+    after-requires-4
+    enum-told-6
+    returns
+    returns-2
+    returns-3
+    returns-4
+    returns-5
+    returns-6)

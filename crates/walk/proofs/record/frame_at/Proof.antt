@@ -1,0 +1,170 @@
+-- `walk::record::frame_at` meets its contract. Assumes nothing.
+use mathlib.Core.Path.{_≡_, sym, ap, _∙_}
+use Prim.Native.Nat.{ℕ, _+_, _≤_}
+use native.Mathlib.Omega.{arith}
+use mathlib.Core.List.{List}
+use lib.ListN.{length}
+use lib.Seq.{slice}
+use Rattle.lists.proofs.Slices.{slice-cut}
+use Rattle.format.specs.Walk.{frameOf}
+use Rattle.walk.specs.declared.record.Opened.{Opened}
+use Rattle.walk.proofs.Onwards.{placed}
+use Rattle.walk.proofs.Openings.{shown-nothing, shown-refused, body-refused, body-shown}
+use borrow.Author.Needs.{needs}
+use Rattle.walk.proofs.record.frame_at.Statement.{statement}
+use Rattle.walk.proofs.record.frame_at.Tie as tie
+use Rattle.walk.proofs.record.frame_at.Reads as reads
+use Rattle.walk.proofs.record.frame_at.Lts as lts
+use Rattle.frame.proofs.heads.decode.Reads as decode-reads
+use Rattle.walk.proofs.choices.beyond.Reads as beyond-reads
+use Rattle.walk.proofs.choices.either.Reads as either-reads
+use Rattle.walk.proofs.choices.is_resynced.Reads as is-resynced-reads
+use Rattle.walk.proofs.choices.least.Reads as least-reads
+use Rattle.walk.proofs.choices.shown_kind.Reads as shown-kind-reads
+use Rattle.walk.proofs.record.enter.Reads as enter-reads
+use Rattle.walk.proofs.record.record_of.Reads as record-of-reads
+
+least-requires : tie.Need-least-requires
+least-requires c κs = search needs
+
+decode-requires : tie.Need-decode-requires
+decode-requires c κs = search needs
+
+enum-told : tie.Need-enum-told
+enum-told c = search needs
+
+enum-known-k : tie.Need-enum-known-k
+enum-known-k c = search needs
+
+enum-known-id : tie.Need-enum-known-id
+enum-known-id c = search needs
+
+shown-kind-requires : tie.Need-shown-kind-requires
+shown-kind-requires c κs = search needs
+
+is-resynced-requires : tie.Need-is-resynced-requires
+is-resynced-requires c κs = search needs
+
+add-first : tie.Need-add-first
+add-first c =
+    let a = c .before .before .before .before .before .before .before .before .before .args in
+    let S = a .s .now in
+    let last = c .before .before .before .before .before .before .least .result in
+    let h = c .before .before .before .id .given .0 in
+    let e = sym (c .before .before .before .id .given .1) ∙ c .before .before .before .before .before .decode .ensures in
+    let le : last ≤ length S = omega (arith, c .before .before .before .before .before .before .least .ensures) in
+    let p = placed (a .version) 1 (a .at) last S le (h .0) (h .1 .0) (h .1 .1 .0) (h .1 .1 .1 .0) (h .1 .1 .1 .1 .0) (h .1 .1 .1 .1 .1 .0) (sym e) in
+    omega (arith, p .within, c .before .before .before .before .before .before .before .before .before .good)
+
+add-next : tie.Need-add-next
+add-next c =
+    let a = c .before .before .before .before .before .before .before .before .before .args in
+    let S = a .s .now in
+    let last = c .before .before .before .before .before .before .least .result in
+    let h = c .before .before .before .id .given .0 in
+    let e = sym (c .before .before .before .id .given .1) ∙ c .before .before .before .before .before .decode .ensures in
+    let le : last ≤ length S = omega (arith, c .before .before .before .before .before .before .least .ensures) in
+    let p = placed (a .version) 1 (a .at) last S le (h .0) (h .1 .0) (h .1 .1 .0) (h .1 .1 .1 .0) (h .1 .1 .1 .1 .0) (h .1 .1 .1 .1 .1 .0) (sym e) in
+    omega (arith, p .within, c .before .before .before .before .before .before .before .before .before .good)
+
+enter-requires : tie.Need-enter-requires
+enter-requires c κs =
+    let a = c .before .before .before .before .before .before .before .before .before .before .args in
+    let S = a .s .now in
+    let last = c .before .before .before .before .before .before .before .least .result in
+    let h = c .before .before .before .before .id .given .0 in
+    let e = sym (c .before .before .before .before .id .given .1) ∙ c .before .before .before .before .before .before .decode .ensures in
+    let le : last ≤ length S = omega (arith, c .before .before .before .before .before .before .before .least .ensures) in
+    let p = placed (a .version) 1 (a .at) last S le (h .0) (h .1 .0) (h .1 .1 .0) (h .1 .1 .1 .0) (h .1 .1 .1 .1 .0) (h .1 .1 .1 .1 .1 .0) (sym e) in
+    (omega arith, omega (arith, p .within))
+
+enum-known-k-2 : tie.Need-enum-known-k-2
+enum-known-k-2 c = search needs
+
+enum-known-body : tie.Need-enum-known-body
+enum-known-body c = search needs
+
+either-requires : tie.Need-either-requires
+either-requires c κs = search needs
+
+beyond-requires : tie.Need-beyond-requires
+beyond-requires c κs = search needs
+
+record-of-requires : tie.Need-record-of-requires
+record-of-requires c κs = search needs
+
+returns : tie.Need-returns
+returns c =
+    let a = c .before .before .before .before .before .before .args in
+    shown-nothing (a .version) (a .in-work) (a .begin) (a .at) (slice (a .at) (c .before .before .before .least .result) (a .s .now)) (a .room .now) (sym (c .enum-told .given .1) ∙ c .before .before .decode .ensures)
+    ∙ ap (λ (x : List ℕ). frameOf (a .version) (a .in-work) (a .begin) (a .at) x (a .room .now)) (slice-cut (a .at) (a .end) (c .before .before .before .least .result) (a .s .now) (c .before .before .before .least .ensures))
+
+returns-2 : tie.Need-returns-2
+returns-2 c =
+    let a = c .before .before .before .before .before .before .before .args in
+    shown-refused (a .version) (a .in-work) (a .begin) (a .at) (slice (a .at) (c .before .before .before .before .least .result) (a .s .now)) (a .room .now) (c .before .k .given .0 .0) (sym (c .before .k .given .1) ∙ c .before .before .before .decode .ensures)
+    ∙ ap (λ (x : List ℕ). frameOf (a .version) (a .in-work) (a .begin) (a .at) x (a .room .now)) (slice-cut (a .at) (a .end) (c .before .before .before .before .least .result) (a .s .now) (c .before .before .before .before .least .ensures))
+
+same-length : tie.Need-same-length
+same-length c = search needs
+
+returns-3 : tie.Need-returns-3
+returns-3 c =
+    let a = c .before .before .before .before .before .before .before .before .before .before .before .before .before .before .before .before .args in
+    let S = a .s .now in
+    let last = c .before .before .before .before .before .before .before .before .before .before .before .before .before .least .result in
+    let h = c .before .before .before .before .before .before .before .before .before .before .id .given .0 in
+    let e = sym (c .before .before .before .before .before .before .before .before .before .before .id .given .1) ∙ c .before .before .before .before .before .before .before .before .before .before .before .before .decode .ensures in
+    let le : last ≤ length S = omega (arith, c .before .before .before .before .before .before .before .before .before .before .before .before .before .least .ensures) in
+    let p = placed (a .version) 1 (a .at) last S le (h .0) (h .1 .0) (h .1 .1 .0) (h .1 .1 .1 .0) (h .1 .1 .1 .1 .0) (h .1 .1 .1 .1 .1 .0) (sym e) in
+    body-refused (a .version) (a .in-work) (a .begin) (a .at) (slice (a .at) last S) (a .room .now) (h .0) (h .1 .0) (h .1 .1 .0) (h .1 .1 .1 .0) (h .1 .1 .1 .1 .0) (h .1 .1 .1 .1 .1 .0) e
+    (c .before .before .before .before .before .before .before .before .shown-kind .result) (c .before .before .before .before .before .before .before .is-resynced .result) (c .before .before .before .before .before .before .before .before .shown-kind .ensures) (c .before .before .before .before .before .before .before .is-resynced .ensures)
+    (slice (a .at + h .1 .1 .1 .1 .0) (a .at + h .1 .1 .1 .1 .0 + h .1 .1 .1 .1 .1 .0) S) (c .before .before .before .before .before .enter .last .0) (p .body) (c .before .k2 .given .0 .0)
+    (ap {B = Opened × List ℕ} (λ (x : Opened). (x, c .before .before .before .before .before .enter .last .0)) (sym (c .before .k2 .given .1)) ∙ c .before .before .before .before .before .enter .ensures)
+    ∙ ap (λ (x : List ℕ). frameOf (a .version) (a .in-work) (a .begin) (a .at) x (a .room .now)) (slice-cut (a .at) (a .end) (c .before .before .before .before .before .before .before .before .before .before .before .before .before .least .result) (a .s .now) (c .before .before .before .before .before .before .before .before .before .before .before .before .before .least .ensures))
+
+same-length-2 : tie.Need-same-length-2
+same-length-2 c = search needs
+
+returns-4 : tie.Need-returns-4
+returns-4 c =
+    let a = c .before .before .before .before .before .before .before .before .before .before .before .before .before .before .before .before .before .before .before .args in
+    let S = a .s .now in
+    let last = c .before .before .before .before .before .before .before .before .before .before .before .before .before .before .before .before .least .result in
+    let h = c .before .before .before .before .before .before .before .before .before .before .before .before .before .id .given .0 in
+    let e = sym (c .before .before .before .before .before .before .before .before .before .before .before .before .before .id .given .1) ∙ c .before .before .before .before .before .before .before .before .before .before .before .before .before .before .before .decode .ensures in
+    let le : last ≤ length S = omega (arith, c .before .before .before .before .before .before .before .before .before .before .before .before .before .before .before .before .least .ensures) in
+    let p = placed (a .version) 1 (a .at) last S le (h .0) (h .1 .0) (h .1 .1 .0) (h .1 .1 .1 .0) (h .1 .1 .1 .1 .0) (h .1 .1 .1 .1 .1 .0) (sym e) in
+    let q = c .before .before .before .before .body .given .0 in
+    body-shown (a .version) (a .in-work) (a .begin) (a .at) (slice (a .at) last S) (a .room .now) (h .0) (h .1 .0) (h .1 .1 .0) (h .1 .1 .1 .0) (h .1 .1 .1 .1 .0) (h .1 .1 .1 .1 .1 .0) e
+    (c .before .before .before .before .before .before .before .before .before .before .before .shown-kind .result) (c .before .before .before .before .before .before .before .before .before .before .is-resynced .result) (c .before .before .before .before .before .before .before .before .before .before .before .shown-kind .ensures) (c .before .before .before .before .before .before .before .before .before .before .is-resynced .ensures)
+    (slice (a .at + h .1 .1 .1 .1 .0) (a .at + h .1 .1 .1 .1 .0 + h .1 .1 .1 .1 .1 .0) S) (c .before .before .before .before .before .before .before .before .enter .last .0) (p .body) (q .0) (q .1 .0)
+    (ap {B = Opened × List ℕ} (λ (x : Opened). (x, c .before .before .before .before .before .before .before .before .enter .last .0)) (sym (c .before .before .before .before .body .given .1)) ∙ c .before .before .before .before .before .before .before .before .enter .ensures)
+    (c .record-of .result) (c .before .beyond .result) (c .before .before .either .result) (c .before .beyond .ensures) (c .before .before .either .ensures) (c .record-of .ensures)
+    ∙ ap (λ (x : List ℕ). frameOf (a .version) (a .in-work) (a .begin) (a .at) x (a .room .now)) (slice-cut (a .at) (a .end) (c .before .before .before .before .before .before .before .before .before .before .before .before .before .before .before .before .least .result) (a .s .now) (c .before .before .before .before .before .before .before .before .before .before .before .before .before .before .before .before .least .ensures))
+
+pub frame-at-spec : {M : Type 1} → statement M
+frame-at-spec =
+    tie.close
+    (tie.spec
+    least-requires
+    decode-requires
+    enum-told
+    enum-known-k
+    enum-known-id
+    shown-kind-requires
+    is-resynced-requires
+    add-first
+    add-next
+    enter-requires
+    enum-known-k-2
+    enum-known-body
+    either-requires
+    beyond-requires
+    record-of-requires
+    returns
+    returns-2
+    same-length
+    returns-3
+    same-length-2
+    returns-4)

@@ -1,0 +1,5 @@
+-- What the functions of this crate answer, on the definitions of the format.
+pub mod Insides
+pub mod Steps
+pub mod Areas
+pub mod Openings

@@ -1,0 +1,7 @@
+// The walk through frames and through the subframes of chapters, with a work buffer, and one frame as a record. What
+// the answers mean stands in specs/.
+mod choices;
+mod inside;
+pub mod record;
+pub mod run;
+mod steps;

@@ -1,0 +1,92 @@
+-- `writer::bodies::put_body` meets its contract. Assumes nothing.
+use mathlib.Core.Path.{sym}
+use Prim.Native.Nat.{ℕ}
+use mathlib.Core.List.{List, _++_}
+use lib.ListN.{take}
+use lib.Seq.{length-take-le}
+use Rattle.format.specs.Record.{contentOf}
+use Rattle.format.specs.Encode.{bodyBytes}
+use Rattle.writer.specs.Layouts.{packedOf}
+use Rattle.writer.proofs.Puts.{Writing, begin, by, piece-lies, piece-put, rest-lies, rest-put}
+use Rattle.writer.proofs.Layouts.{few-names, references-puttable}
+use borrow.Author.Needs.{needs}
+use Rattle.writer.proofs.bodies.put_body.Statement.{statement}
+use Rattle.writer.proofs.bodies.put_body.Tie as tie
+
+-- the first four pieces
+abbrev front : tie.After-plan-of → List ℕ
+front c =
+    let a = c .before .before .before .before .before .before .args in
+    let r = c .plan-of .result in
+    take (r .name) (a .name .now) ++ (take (r .len) (r .bytes) ++ (take (r .names) (a .names .now) ++ take (r .rest) (a .rest .now)))
+
+-- what is left to put, before them
+all : (c : tie.After-plan-of) → let a = c .before .before .before .before .before .before .args in
+    let body = bodyBytes (contentOf (a .fields) (a .name .now) (a .names .now) (a .rest .now) (a .deviations .now)) in
+    Writing (a .mode) (a .pen) body (a .buffer .now) (a .pen) (front c ++ packedOf (a .fields) (a .deviations .now)) (a .buffer .now)
+all c =
+    let s = c .before .before .before .before .before .before in
+    let a = s .args in
+    let body = bodyBytes (contentOf (a .fields) (a .name .now) (a .names .now) (a .rest .now) (a .deviations .now)) in
+    by (c .plan-of .ensures .body (a .deviations .now)) (begin (a .mode) (a .pen) body (a .buffer .now) (s .pre .1))
+
+-- and behind them
+last : (c : tie.After-put-pieces) → let a = c .before .before .before .before .before .before .before .before .before .before .before .before .before .args in
+    let body = bodyBytes (contentOf (a .fields) (a .name .now) (a .names .now) (a .rest .now) (a .deviations .now)) in
+    Writing (a .mode) (a .pen) body (a .buffer .now) (c .put-pieces .result) (packedOf (a .fields) (a .deviations .now)) (c .put-pieces .last .0)
+last c =
+    let a = c .before .before .before .before .before .before .before .before .before .before .before .before .before .args in
+    piece-put (front (c .before .before .before .before .before .before .before)) (packedOf (a .fields) (a .deviations .now)) (all (c .before .before .before .before .before .before .before)) (c .put-pieces .ensures)
+
+plan-of-requires : tie.Need-plan-of-requires
+plan-of-requires c κs =
+    let s = c .before .before .before .before .before in
+    let a = s .args in
+    few-names (a .name .now) (a .names .now) (a .rest .now) (a .deviations .now) (a .fields) (s .pre .0)
+
+slice-aggregate-put-pieces : tie.Need-slice-aggregate-put-pieces
+slice-aggregate-put-pieces c = sym (length-take-le _ _ (c .before .before .before .plan-of .ensures .name-fits))
+
+array-share-prefix-bytes : tie.Need-array-share-prefix-bytes
+array-share-prefix-bytes c = search needs
+
+slice-aggregate-put-pieces-2 : tie.Need-slice-aggregate-put-pieces-2
+slice-aggregate-put-pieces-2 c = sym (length-take-le _ _ (c .before .before .before .before .plan-of .ensures .small-fits))
+
+slice-aggregate-put-pieces-3 : tie.Need-slice-aggregate-put-pieces-3
+slice-aggregate-put-pieces-3 c = sym (length-take-le _ _ (c .before .before .before .before .before .plan-of .ensures .names-fit))
+
+slice-aggregate-put-pieces-4 : tie.Need-slice-aggregate-put-pieces-4
+slice-aggregate-put-pieces-4 c = sym (length-take-le _ _ (c .before .before .before .before .before .before .plan-of .ensures .rest-fits))
+
+put-pieces-requires : tie.Need-put-pieces-requires
+put-pieces-requires c κs =
+    let a = c .before .before .before .before .before .before .before .before .before .before .before .before .args in
+    piece-lies (front (c .before .before .before .before .before .before)) (packedOf (a .fields) (a .deviations .now)) (all (c .before .before .before .before .before .before))
+
+put-references-requires : tie.Need-put-references-requires
+put-references-requires c κs =
+    let s = c .before .before .before .before .before .before .before .before .before .before .before .before .before .before .before .before in
+    let a = s .args in
+    (references-puttable (a .name .now) (a .names .now) (a .rest .now) (a .deviations .now) (a .fields) (s .pre .0), rest-lies (last (c .before .before .before)))
+
+same-length : tie.Need-same-length
+same-length c = search needs
+
+returns : tie.Need-returns
+returns c = rest-put (last (c .before .before .before .before .before .before)) (c .before .before .put-references .ensures)
+
+pub put-body-spec : {M : Type 1} → statement M
+put-body-spec =
+    tie.close
+    (tie.spec
+    plan-of-requires
+    slice-aggregate-put-pieces
+    array-share-prefix-bytes
+    slice-aggregate-put-pieces-2
+    slice-aggregate-put-pieces-3
+    slice-aggregate-put-pieces-4
+    put-pieces-requires
+    put-references-requires
+    same-length
+    returns)

@@ -1,0 +1,29 @@
+-- `writer::bodies::put_references` meets its contract. Assumes nothing.
+use Rattle.format.specs.Unsynch.{unsync}
+use Rattle.writer.proofs.Puts.{pen-nil}
+use Rattle.writer.proofs.Layouts.{no-references}
+use borrow.Author.Needs.{needs}
+use Rattle.writer.proofs.bodies.put_references.Statement.{statement}
+use Rattle.writer.proofs.bodies.put_references.Tie as tie
+
+enum-known-fields : tie.Need-enum-known-fields
+enum-known-fields c = search needs
+
+put-packed-requires : tie.Need-put-packed-requires
+put-packed-requires c κs = rw (c .before .before .fields .given .1) at (c .before .before .before .before .before .before .pre)
+
+same-length : tie.Need-same-length
+same-length c = search needs
+
+returns : tie.Need-returns
+returns c = rw (c .before .before .before .before .before .fields .given .1) (c .before .before .put-packed .ensures)
+
+returns-2 : tie.Need-returns-2
+unfolding unsync
+returns-2 c =
+    let a = c .before .before .before .args in
+    rw (no-references (a .fields) (a .deviations .now) (c .match .keys2), pen-nil (a .mode) (a .pen))
+
+pub put-references-spec : {M : Type 1} → statement M
+put-references-spec =
+    tie.close (tie.spec enum-known-fields put-packed-requires same-length returns returns-2)

@@ -1,0 +1,29 @@
+-- `writer::frames::put_short` meets its contract. Assumes nothing.
+use mathlib.Core.Path.{refl}
+use Rattle.format.specs.Numbers.{bytesOf}
+use Rattle.writer.proofs.Heads.{digits-put}
+use borrow.Author.Needs.{needs}
+use Rattle.writer.proofs.frames.put_short.Statement.{statement}
+use Rattle.writer.proofs.frames.put_short.Tie as tie
+
+put-digits-requires : tie.Need-put-digits-requires
+put-digits-requires c κs = search needs
+
+add-put-digits : tie.Need-add-put-digits
+add-put-digits c = search needs
+
+put-digits-requires-2 : tie.Need-put-digits-requires-2
+put-digits-requires-2 c κs = search needs
+
+same-length : tie.Need-same-length
+same-length c = search needs
+
+returns : tie.Need-returns
+returns c =
+    let a = c .before .before .before .before .before .before .before .before .before .args in
+    digits-put (a .buffer .now) (a .at) 256 3 (a .id) (bytesOf 3 (a .size)) (c .before .before .before .before .before .before .put-digits .ensures) (c .before .before .put-digits2 .ensures) refl
+
+pub put-short-spec : {M : Type 1} → statement M
+put-short-spec =
+    tie.close
+    (tie.spec put-digits-requires add-put-digits put-digits-requires-2 same-length returns)

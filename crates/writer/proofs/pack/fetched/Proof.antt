@@ -1,0 +1,91 @@
+-- `writer::pack::fetched` meets its contract. Assumes nothing.
+use mathlib.Core.Path.{_≡_, refl, _∙_}
+use Prim.Native.Nat.{_-_}
+use native.Mathlib.Omega.{arith}
+use borrow.Author.Needs.{needs}
+use lib.ListN.{length}
+use Rattle.writer.specs.Packs.{left, Ready}
+use Rattle.writer.proofs.Packs.{bitsAt, taken-ready, taken-left, filled-ready, filled-left}
+use Rattle.writer.proofs.pack.fetched.Statement.{statement}
+use Rattle.writer.proofs.pack.fetched.Tie as tie
+
+abbrev Inv-loop : tie.InvT-loop
+Inv-loop ds acc₀ have₀ i₀ a₀ b₀ acc have i a b =
+    Ready ds (bitsAt acc have i a b) × (left (bitsAt acc have i a b) ds ≡ left (bitsAt acc₀ have₀ i₀ a₀ b₀) ds)
+
+abbrev μ-loop : tie.MeasureT-loop
+μ-loop ds acc₀ have₀ i₀ a₀ b₀ acc have i a b = length ds - i
+
+loop-holds : tie.Need-loop-holds Inv-loop μ-loop
+loop-holds c = (c .before .pre .0, refl)
+
+sub-t11 : tie.Need-sub-t11 Inv-loop μ-loop
+sub-t11 c = search needs
+
+shl-t12 : tie.Need-shl-t12 Inv-loop μ-loop
+shl-t12 c = search needs
+
+returns : tie.Need-returns Inv-loop μ-loop
+returns c =
+    let s = c .before .before .before .before in
+    let L = c .before .before .loop in
+    let none = c .if1 .taken in
+    let few = c .before .loop-test .taken in (
+      filled-ready (s .args .ds .now) (L .acc) (L .have) (L .i) (L .a) (L .b) none few (L .inv .0),
+      omega arith,
+      filled-left (s .args .ds .now) (L .acc) (L .have) (L .i) (L .a) (L .b) none few (L .inv .0) (rw (L .inv .1) (s .pre .1)) ∙ L .inv .1,
+    )
+
+shl-acc : tie.Need-shl-acc Inv-loop μ-loop
+shl-acc c = search needs
+
+mul-wide : tie.Need-mul-wide Inv-loop μ-loop
+mul-wide c = search needs
+
+shared-slice-read-wide : tie.Need-shared-slice-read-wide Inv-loop μ-loop
+shared-slice-read-wide c = search needs
+
+wide-requires : tie.Need-wide-requires Inv-loop μ-loop
+wide-requires c κs = search needs
+
+add-have : tie.Need-add-have Inv-loop μ-loop
+add-have c = search needs
+
+add-i : tie.Need-add-i Inv-loop μ-loop
+add-i c = search needs
+
+loop-less : tie.Need-loop-less Inv-loop μ-loop
+loop-less c = search needs
+
+loop-again : tie.Need-loop-again Inv-loop μ-loop
+loop-again c =
+    let ds = c .before .before .before .before .before .before .args .ds .now in
+    let L = c .before .before .before .before .loop in
+    let there = c .before .before .if1 .left in
+    let few = c .before .before .before .loop-test .taken in (
+      taken-ready ds (L .acc) (L .have) (L .i) (L .a) (L .b) (c .wide .result) there (c .wide .ensures) few (L .inv .0),
+      taken-left ds (L .acc) (L .have) (L .i) (L .a) (L .b) (c .wide .result) there (c .wide .ensures) few (L .inv .0) ∙ L .inv .1,
+    )
+
+returns-2 : tie.Need-returns-2 Inv-loop μ-loop
+returns-2 c = (c .before .loop .inv .0, c .loop-test .left, c .before .loop .inv .1)
+
+pub fetched-spec : {M : Type 1} → statement M
+fetched-spec =
+    tie.close
+    (tie.spec
+    Inv-loop
+    μ-loop
+    loop-holds
+    sub-t11
+    shl-t12
+    returns
+    shl-acc
+    mul-wide
+    shared-slice-read-wide
+    wide-requires
+    add-have
+    add-i
+    loop-less
+    loop-again
+    returns-2)

@@ -1,0 +1,75 @@
+-- `writer::pack::put_packed` meets its contract. Assumes nothing.
+use mathlib.Core.Path.{_≡_, sym, ap}
+use Prim.Native.Nat.{_+_, _-_}
+use native.Mathlib.Omega.{arith}
+use borrow.Author.Needs.{needs}
+use lib.ListN.{length}
+use Rattle.lists.proofs.Pieces.{drop-none}
+use Rattle.format.specs.Table.{pack}
+use Rattle.writer.specs.Packs.{left, Ready}
+use Rattle.writer.proofs.Puts.{Writing, begin, by, lies, put, done}
+use Rattle.writer.proofs.Packs.{start-ready, start-left}
+use Rattle.writer.proofs.pack.put_packed.Statement.{statement}
+use Rattle.writer.proofs.pack.put_packed.Tie as tie
+
+abbrev Inv-loop : tie.InvT-loop
+Inv-loop buffer₀ mode ds v w n bits₀ next₀ k₀ buffer bits next k =
+    Ready ds bits × (k + length (left bits ds) ≡ n) × Writing mode next₀ (pack v w ds) buffer₀ next (left bits ds) buffer
+
+abbrev μ-loop : tie.MeasureT-loop
+μ-loop buffer₀ mode ds v w n bits₀ next₀ k₀ buffer bits next k = n - k
+
+packed-len-requires : tie.Need-packed-len-requires Inv-loop μ-loop
+packed-len-requires c κs = search needs
+
+loop-holds : tie.Need-loop-holds Inv-loop μ-loop
+loop-holds c =
+    let s = c .before .before .before in
+    let a = s .args in
+    let e = start-left (a .v) (a .w) (a .ds .now) in (
+      start-ready (a .v) (a .w) (a .ds .now) (s .pre .0),
+      omega (arith, ap length e, c .packed-len .ensures),
+      by (sym e) (begin (a .mode) (a .pen) (pack (a .v) (a .w) (a .ds .now)) (a .buffer .now) (s .pre .1)),
+    )
+
+next-byte-requires : tie.Need-next-byte-requires Inv-loop μ-loop
+next-byte-requires c κs = (c .before .loop .inv .0, omega (arith, c .before .loop .inv .1))
+
+put-byte-requires : tie.Need-put-byte-requires Inv-loop μ-loop
+put-byte-requires c κs = lies (by (c .before .next-byte .ensures .1) (c .before .before .before .loop .inv .2))
+
+add-k : tie.Need-add-k Inv-loop μ-loop
+add-k c = search needs
+
+loop-less : tie.Need-loop-less Inv-loop μ-loop
+loop-less c = search needs
+
+loop-again : tie.Need-loop-again Inv-loop μ-loop
+loop-again c =
+    let L = c .before .before .before .before .before .before .before .loop in
+    let e = c .before .before .before .before .before .next-byte .ensures in
+    (e .0, omega (arith, L .inv .1, ap length (e .1)), put (by (e .1) (L .inv .2)) (c .before .before .before .put-byte .ensures))
+
+same-length : tie.Need-same-length Inv-loop μ-loop
+same-length c = c .before .loop .inv .2 .long
+
+returns : tie.Need-returns Inv-loop μ-loop
+returns c =
+    let L = c .before .loop in
+    done (by (drop-none (left (L .bits) (c .before .before .before .before .before .args .ds .now)) 0 (omega (arith, L .inv .1))) (L .inv .2))
+
+pub put-packed-spec : {M : Type 1} → statement M
+put-packed-spec =
+    tie.close
+    (tie.spec
+    Inv-loop
+    μ-loop
+    packed-len-requires
+    loop-holds
+    next-byte-requires
+    put-byte-requires
+    add-k
+    loop-less
+    loop-again
+    same-length
+    returns)
