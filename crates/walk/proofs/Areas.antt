@@ -1,12 +1,12 @@
 -- The walk in an area, and bodies that are put at the front of a room. Assumes nothing.
-use mathlib.Core.Path.{_≡_, refl, sym, ap, ap₂, _∙_}
-use Prim.Native.Nat.{ℕ, _+_, _-_, _≤_, _<_, min}
+use mathlib.Core.Path.{_≡_, refl, sym, ap, _∙_}
+use Prim.Native.Nat.{ℕ, _+_, _-_, _≤_, min}
 use native.Mathlib.Omega.{arith}
 use mathlib.Core.Bool.{Bool, true, false}
 use mathlib.Core.List.{List, _++_, append-nil}
 use lib.ListN.{length, take, drop, length-drop, take-append-drop, drop-of-length-le}
 use lib.Seq.{slice, take-take, take-at, drop-at, length-take-le, take-all}
-use lib.Dec.{ltb, eqb}
+use lib.Dec.{ltb}
 use borrow.Rule.Slice.PartMut.{midOf, putMid}
 use borrow.Author.Tests.{ltb-false, eq-eqb, ne-eqb, le-ltb}
 use Rattle.lists.proofs.Slices.{take-cut, drop-cut, slice-before, front-length}
@@ -17,7 +17,7 @@ use Rattle.format.specs.declared.Version.{Version}
 use Rattle.format.specs.declared.Kind.{Kind}
 use Rattle.unsynch.specs.declared.Put.{Put}
 use Rattle.unsynch.specs.Puts.{intoOf, inAreaOf}
-use Rattle.walk.specs.Areas.{insideIn, bodyIn, inArea}
+use Rattle.walk.specs.Areas.{insideIn, inArea}
 
 -- ---- one after the other
 

@@ -8,7 +8,7 @@ use mathlib.Core.List.{List}
 use lib.ListN.{length, drop, getD, drop-of-length-le}
 use lib.Seq.{slice}
 use lib.Dec.{eqb}
-use borrow.Author.Tests.{eqb-true, eqb-false, ne-eqb, eq-eqb, le-leb, lt-leb}
+use borrow.Author.Tests.{eqb-true, ne-eqb, eq-eqb, le-leb, lt-leb}
 use Rattle.lists.proofs.Slices.{slice-drop, slice-next}
 use Rattle.format.specs.Bytes.{pick, first}
 use Rattle.format.specs.Record.{bodyRefusal, runOf, partsOf}

@@ -10,7 +10,6 @@ use lib.Dec.{ltb}
 use borrow.Author.Tests.{ltb-false}
 use Rattle.lists.proofs.Slices.{slice-drop, take-drop-take}
 use Rattle.lists.proofs.Cuts.{take-drop}
-use Rattle.format.specs.Bytes.{pick}
 use Rattle.format.specs.Frame.{headOf, frameChecks}
 use Rattle.format.specs.Walk.{Out, andThen, bodyOf, shownKind, isResynced, unfit, leftOver, walked}
 use Rattle.format.specs.declared.Version.{Version}

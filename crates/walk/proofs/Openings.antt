@@ -7,7 +7,7 @@ use mathlib.Core.List.{List}
 use lib.ListN.{length, take, drop}
 use lib.Seq.{slice}
 use lib.Dec.{eqb}
-use borrow.Author.Tests.{eqb-true, eqb-false, eq-eqb, ne-eqb}
+use borrow.Author.Tests.{eqb-true, eqb-false, ne-eqb}
 use Rattle.format.specs.Bytes.{pick, span}
 use Rattle.format.specs.Record.{bodyRefusal, runOf, partsOf}
 use Rattle.format.specs.Unsynch.{resynchronised}

@@ -23,7 +23,7 @@ use unsynch::resync_into;
 ghost use mathlib.Core.Path.{_≡_};
 ghost use Prim.Native.Nat.{_≤_};
 ghost use mathlib.Core.Bool.{false};
-ghost use lib.ListN.{length, take};
+ghost use lib.ListN.{length};
 ghost use lib.Seq.{slice};
 ghost use Rattle.format.specs.Walk.{insideOf, walked, recordOf, frameOf};
 ghost use Rattle.walk.specs.Areas.{insideIn};

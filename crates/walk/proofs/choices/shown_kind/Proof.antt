@@ -2,9 +2,6 @@
 use borrow.Author.Needs.{needs}
 use Rattle.walk.proofs.choices.shown_kind.Statement.{statement}
 use Rattle.walk.proofs.choices.shown_kind.Tie as tie
-use Rattle.walk.proofs.choices.shown_kind.Reads as reads
-use Rattle.walk.proofs.choices.shown_kind.Lts as lts
-use Rattle.frame.proofs.body.kind_of.Reads as kind-of-reads
 
 -- src/choices.rt:30:9
 kind-of-requires : tie.Need-kind-of-requires

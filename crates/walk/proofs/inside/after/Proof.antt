@@ -5,9 +5,6 @@ use Rattle.walk.specs.declared.inside.Inside.{Inside}
 use borrow.Author.Needs.{needs}
 use Rattle.walk.proofs.inside.after.Statement.{statement}
 use Rattle.walk.proofs.inside.after.Tie as tie
-use Rattle.walk.proofs.inside.after.Reads as reads
-use Rattle.walk.proofs.inside.after.Lts as lts
-use Rattle.walk.proofs.inside.place.Reads as place-reads
 
 -- src/inside.rt:42:25
 enum-known-parsed : tie.Need-enum-known-parsed

@@ -1,6 +1,6 @@
 -- `walk::inside::look` meets its contract. Assumes nothing.
 use mathlib.Core.Path.{_≡_, _∙_}
-use Prim.Native.Nat.{ℕ, _+_}
+use Prim.Native.Nat.{_+_}
 use native.Mathlib.Omega.{arith}
 use lib.ListN.{length}
 use lib.Seq.{slice, length-slice}
@@ -10,14 +10,6 @@ use Rattle.walk.proofs.Insides.{after-as, raw-inside}
 use borrow.Author.Needs.{needs}
 use Rattle.walk.proofs.inside.look.Statement.{statement}
 use Rattle.walk.proofs.inside.look.Tie as tie
-use Rattle.walk.proofs.inside.look.Reads as reads
-use Rattle.walk.proofs.inside.look.Lts as lts
-use Rattle.frame.proofs.chapter.parse_chapter.Reads as parse-chapter-reads
-use Rattle.frame.proofs.chapter.parse_contents.Reads as parse-contents-reads
-use Rattle.frame.proofs.popularimeter.parse.Reads as popularimeter-parse-reads
-use Rattle.frame.proofs.table.parse.Reads as table-parse-reads
-use Rattle.walk.proofs.inside.after.Reads as after-reads
-use Rattle.walk.proofs.inside.text.Reads as text-reads
 
 -- src/inside.rt:67:23
 enum-told : tie.Need-enum-told

@@ -3,8 +3,6 @@ use Rattle.walk.specs.Insides.{placeOf}
 use borrow.Author.Needs.{needs}
 use Rattle.walk.proofs.inside.place.Statement.{statement}
 use Rattle.walk.proofs.inside.place.Tie as tie
-use Rattle.walk.proofs.inside.place.Reads as reads
-use Rattle.walk.proofs.inside.place.Lts as lts
 
 -- src/inside.rt:28:26
 enum-told : tie.Need-enum-told

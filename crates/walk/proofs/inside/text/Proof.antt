@@ -1,6 +1,6 @@
 -- `walk::inside::text` meets its contract. Assumes nothing.
 use mathlib.Core.Path.{_≡_}
-use Prim.Native.Nat.{ℕ, _+_, _-_}
+use Prim.Native.Nat.{_+_, _-_}
 use native.Mathlib.Omega.{arith}
 use lib.ListN.{length}
 use lib.Seq.{slice, length-slice}
@@ -9,8 +9,6 @@ use Rattle.walk.proofs.Insides.{refused-inside, runs-inside, text-empty
 use borrow.Author.Needs.{needs}
 use Rattle.walk.proofs.inside.text.Statement.{statement}
 use Rattle.walk.proofs.inside.text.Tie as tie
-use Rattle.walk.proofs.inside.text.Reads as reads
-use Rattle.walk.proofs.inside.text.Lts as lts
 
 -- src/inside.rt:53:9
 returns : tie.Need-returns

@@ -1,6 +1,6 @@
 -- `walk::record::enter` meets its contract. Assumes nothing.
 use mathlib.Core.Path.{_≡_, sym, ap, ap₂, _∙_}
-use Prim.Native.Nat.{ℕ, _+_}
+use Prim.Native.Nat.{ℕ}
 use native.Mathlib.Omega.{arith}
 use mathlib.Core.Bool.{false}
 use mathlib.Core.List.{List}
@@ -17,11 +17,6 @@ use Rattle.walk.proofs.Openings.{opened-refused, opened-resynced, opene
 use borrow.Author.Needs.{needs}
 use Rattle.walk.proofs.record.enter.Statement.{statement}
 use Rattle.walk.proofs.record.enter.Tie as tie
-use Rattle.walk.proofs.record.enter.Reads as reads
-use Rattle.walk.proofs.record.enter.Lts as lts
-use Rattle.unsynch.proofs.resync_into.Reads as resync-into-reads
-use Rattle.walk.proofs.record.enter_front.Reads as enter-front-reads
-use Rattle.walk.proofs.record.enter_stored.Reads as enter-stored-reads
 
 resync-into-requires : tie.Need-resync-into-requires
 resync-into-requires c κs = search needs

@@ -7,18 +7,13 @@ use mathlib.Core.Bool.{false}
 use mathlib.Core.List.{List}
 use lib.ListN.{length, take, drop}
 use lib.Seq.{slice, length-slice}
-use Rattle.format.specs.Walk.{Out, behind, insideOf, walked}
+use Rattle.format.specs.Walk.{behind, insideOf, walked}
 use Rattle.walk.specs.Areas.{insideIn}
 use Rattle.walk.proofs.Areas.{still, before-split}
 use Rattle.walk.proofs.Openings.{parsed-refused, parsed-parts, inside-refused, inside-parts, opened-refused, opened-body}
 use borrow.Author.Needs.{needs}
 use Rattle.walk.proofs.record.enter_front.Statement.{statement}
 use Rattle.walk.proofs.record.enter_front.Tie as tie
-use Rattle.walk.proofs.record.enter_front.Reads as reads
-use Rattle.walk.proofs.record.enter_front.Lts as lts
-use Rattle.frame.proofs.body.parse.Reads as parse-reads
-use Rattle.walk.proofs.inside.place.Reads as place-reads
-use Rattle.walk.proofs.run.walk_in.Reads as walk-in-reads
 
 parse-requires : tie.Need-parse-requires
 parse-requires c κs = search needs

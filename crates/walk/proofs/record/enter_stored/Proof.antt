@@ -1,6 +1,6 @@
 -- `walk::record::enter_stored` meets its contract. Assumes nothing.
 use mathlib.Core.Path.{_≡_, sym, _∙_}
-use Prim.Native.Nat.{ℕ, _+_, _-_}
+use Prim.Native.Nat.{_+_, _-_}
 use native.Mathlib.Omega.{arith}
 use mathlib.Core.Bool.{false}
 use lib.ListN.{length}
@@ -10,11 +10,6 @@ use Rattle.walk.proofs.Openings.{parsed-refused, parsed-parts, inside-r
 use borrow.Author.Needs.{needs}
 use Rattle.walk.proofs.record.enter_stored.Statement.{statement}
 use Rattle.walk.proofs.record.enter_stored.Tie as tie
-use Rattle.walk.proofs.record.enter_stored.Reads as reads
-use Rattle.walk.proofs.record.enter_stored.Lts as lts
-use Rattle.frame.proofs.body.parse.Reads as parse-reads
-use Rattle.walk.proofs.inside.place.Reads as place-reads
-use Rattle.walk.proofs.run.walk.Reads as walk-reads
 
 parse-requires : tie.Need-parse-requires
 parse-requires c κs = search needs

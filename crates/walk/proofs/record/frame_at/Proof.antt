@@ -1,5 +1,5 @@
 -- `walk::record::frame_at` meets its contract. Assumes nothing.
-use mathlib.Core.Path.{_≡_, sym, ap, _∙_}
+use mathlib.Core.Path.{sym, ap, _∙_}
 use Prim.Native.Nat.{ℕ, _+_, _≤_}
 use native.Mathlib.Omega.{arith}
 use mathlib.Core.List.{List}
@@ -13,16 +13,6 @@ use Rattle.walk.proofs.Openings.{shown-nothing, shown-refused, body-ref
 use borrow.Author.Needs.{needs}
 use Rattle.walk.proofs.record.frame_at.Statement.{statement}
 use Rattle.walk.proofs.record.frame_at.Tie as tie
-use Rattle.walk.proofs.record.frame_at.Reads as reads
-use Rattle.walk.proofs.record.frame_at.Lts as lts
-use Rattle.frame.proofs.heads.decode.Reads as decode-reads
-use Rattle.walk.proofs.choices.beyond.Reads as beyond-reads
-use Rattle.walk.proofs.choices.either.Reads as either-reads
-use Rattle.walk.proofs.choices.is_resynced.Reads as is-resynced-reads
-use Rattle.walk.proofs.choices.least.Reads as least-reads
-use Rattle.walk.proofs.choices.shown_kind.Reads as shown-kind-reads
-use Rattle.walk.proofs.record.enter.Reads as enter-reads
-use Rattle.walk.proofs.record.record_of.Reads as record-of-reads
 
 least-requires : tie.Need-least-requires
 least-requires c κs = search needs

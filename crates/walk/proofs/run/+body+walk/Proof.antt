@@ -1,16 +1,15 @@
 -- `walk::run::body` and `walk` meet their contracts. Each call has fewer bytes than the last, two for each byte, so that a body is more than
 -- its run. Assumes nothing.
 use mathlib.Core.Path.{_≡_, refl, sym, ap, _∙_}
-use mathlib.Core.Bool.{false}
 use mathlib.Core.List.{List}
 use Prim.Native.Nat.{ℕ, _+_, _-_, _*_, _≤_, _<_}
 use native.Mathlib.Omega.{arith}
 use borrow.Author.Needs.{needs}
-use lib.ListN.{length, drop}
+use lib.ListN.{length}
 use lib.Seq.{slice}
 use Rattle.lists.proofs.Slices.{slice-cut}
 use Rattle.format.specs.Unsynch.{resynchronised}
-use Rattle.format.specs.Walk.{Out, resyncedOf, bodyOf, walked}
+use Rattle.format.specs.Walk.{Out, bodyOf, walked}
 use Rattle.unsynch.specs.declared.Put.{Put}
 use Rattle.unsynch.specs.Puts.{intoOf}
 use Rattle.walk.specs.Areas.{insideIn}

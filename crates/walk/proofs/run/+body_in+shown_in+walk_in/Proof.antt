@@ -1,27 +1,24 @@
 -- `walk::run::body_in`, `shown_in` and `walk_in` meet their contracts. Each call has fewer bytes than the last: three for each byte, so that
 -- a body as it is stored is more than the same as it is shown, and that more than its run. Assumes nothing.
-use mathlib.Core.Path.{_≡_, refl, sym, ap, _∙_, subst}
+use mathlib.Core.Path.{_≡_, refl, sym, ap, _∙_}
 use mathlib.Core.Bool.{false}
-use mathlib.Core.List.{List, _++_}
-use Prim.Native.Nat.{ℕ, _+_, _-_, _*_, _≤_, _<_, min}
+use mathlib.Core.List.{List}
+use Prim.Native.Nat.{ℕ, _+_, _-_, _*_, _≤_, _<_}
 use native.Mathlib.Omega.{arith}
 use borrow.Author.Needs.{needs}
-use borrow.Rule.Slice.PartMut.{midOf, putMid, same-len-mid}
+use borrow.Rule.Slice.PartMut.{same-len-mid}
 use lib.ListN.{length, take, drop}
 use lib.Seq.{slice, length-slice}
 use Rattle.format.specs.Unsynch.{resynchronised}
 use Rattle.format.specs.Walk.{Out, behind, insideOf, resyncedOf, bodyOf, walked}
-use Rattle.format.specs.declared.Kind.{Kind}
 use Rattle.format.proofs.Unsynch.{resync-shorter}
 use Rattle.unsynch.specs.Puts.{intoOf}
 use Rattle.walk.specs.Areas.{insideIn, inArea}
 use Rattle.walk.specs.Insides.{insideAt}
-use Rattle.walk.specs.Steps.{stepAt}
 use Rattle.walk.specs.declared.inside.Inside.{Inside}
-use Rattle.walk.specs.declared.steps.Step.{Step}
 use Rattle.walk.proofs.Insides.{looked-refused, run-from, run-walked}
-use Rattle.walk.proofs.Onwards.{Onward, stopped, onward}
-use Rattle.walk.proofs.Areas.{ran, area-start, still, halt, go-on, Fitted, put-bytes, put-refused, put-inside, part-back, before-split, in-area, fitted-room, as-resynced, as-stored}
+use Rattle.walk.proofs.Onwards.{stopped, onward}
+use Rattle.walk.proofs.Areas.{ran, area-start, still, halt, go-on, put-bytes, put-refused, put-inside, part-back, before-split, in-area, fitted-room, as-resynced, as-stored}
 use borrow.Fn.Kinds.{In}
 use borrow.Fn.PlainCycle.{Measures, is, falls, and}
 use Rattle.walk.proofs.run.body_in.Reads as body-in

@@ -5,8 +5,6 @@ use borrow.Author.Tests.{eq-eqb, ne-eqb}
 use borrow.Author.Needs.{needs}
 use Rattle.walk.proofs.steps.left_over.Statement.{statement}
 use Rattle.walk.proofs.steps.left_over.Tie as tie
-use Rattle.walk.proofs.steps.left_over.Reads as reads
-use Rattle.walk.proofs.steps.left_over.Lts as lts
 
 -- src/steps.rt:36:13
 returns : tie.Need-returns

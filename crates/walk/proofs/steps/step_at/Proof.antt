@@ -11,13 +11,6 @@ use Rattle.walk.proofs.Onwards.{placed, step-nothing, step-refused, ste
 use borrow.Author.Needs.{needs}
 use Rattle.walk.proofs.steps.step_at.Statement.{statement}
 use Rattle.walk.proofs.steps.step_at.Tie as tie
-use Rattle.walk.proofs.steps.step_at.Reads as reads
-use Rattle.walk.proofs.steps.step_at.Lts as lts
-use Rattle.frame.proofs.heads.decode.Reads as decode-reads
-use Rattle.walk.proofs.choices.is_resynced.Reads as is-resynced-reads
-use Rattle.walk.proofs.choices.is_unfit.Reads as is-unfit-reads
-use Rattle.walk.proofs.choices.shown_kind.Reads as shown-kind-reads
-use Rattle.walk.proofs.steps.left_over.Reads as left-over-reads
 
 -- src/steps.rt:47:11
 decode-requires : tie.Need-decode-requires
