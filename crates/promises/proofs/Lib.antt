@@ -7,3 +7,4 @@ pub mod RoundTrip
 pub mod NoSync
 pub mod Bounds
 pub mod Samples
+pub mod OneAnswer

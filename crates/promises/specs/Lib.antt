@@ -3,3 +3,4 @@ pub mod Written
 pub mod Reading
 pub mod Promises
 pub mod Samples
+pub mod OneAnswer

@@ -8,21 +8,21 @@ ghost use mathlib.Core.Bool.{_||_};
 ghost use Rattle.format.specs.Walk.{shownKind, isResynced, unfit};
 
 // The smaller of two numbers.
-pub fn least(a: usize, b: usize) -> usize
+pub(crate) fn least(a: usize, b: usize) -> usize
     ensures { λ r. ⌜ r ≡ min a b ⌝ }
 {
     if a < b { a } else { b }
 }
 
 // How much a is more than b, or 0.
-pub fn beyond(a: usize, b: usize) -> usize
+pub(crate) fn beyond(a: usize, b: usize) -> usize
     ensures { λ r. ⌜ r ≡ a - b ⌝ }
 {
     if b < a { a - b } else { 0 }
 }
 
 // What a frame's body is: a compressed one is raw.
-pub fn shown_kind(version: Version, id: u32, compressed: bool) -> Kind
+pub(crate) fn shown_kind(version: Version, id: u32, compressed: bool) -> Kind
     ensures { λ r. ⌜ r ≡ shownKind version id compressed ⌝ }
 {
     if compressed {
@@ -33,14 +33,14 @@ pub fn shown_kind(version: Version, id: u32, compressed: bool) -> Kind
 }
 
 // Whether a body is resynchronised by itself: a compressed one is not.
-pub fn is_resynced(compressed: bool, flagged: bool) -> bool
+pub(crate) fn is_resynced(compressed: bool, flagged: bool) -> bool
     ensures { λ r. ⌜ r ≡ isResynced compressed flagged ⌝ }
 {
     if flagged { !compressed } else { false }
 }
 
 // Whether a writer refuses a frame of a run: one that is short, or flagged.
-pub fn is_unfit(strict: bool, short: bool, flagged: bool) -> bool
+pub(crate) fn is_unfit(strict: bool, short: bool, flagged: bool) -> bool
     ensures { λ r. ⌜ r ≡ unfit strict short flagged ⌝ }
 {
     if strict {
@@ -51,7 +51,7 @@ pub fn is_unfit(strict: bool, short: bool, flagged: bool) -> bool
 }
 
 // Whether one of two holds.
-pub fn either(a: bool, b: bool) -> bool
+pub(crate) fn either(a: bool, b: bool) -> bool
     ensures { λ r. ⌜ r ≡ (a || b) ⌝ }
 {
     if a { true } else { b }

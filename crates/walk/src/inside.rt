@@ -20,7 +20,7 @@ pub enum Inside {
 }
 
 // Where the run of a body begins that ends at `to` and has these parts.
-pub fn place(kind: Kind, parts: Parts, to: usize) -> usize
+pub(crate) fn place(kind: Kind, parts: Parts, to: usize) -> usize
     ensures { λ r. ⌜ r ≡ placeOf kind parts to ⌝ }
 {
     let rest = parts.rest;
@@ -59,7 +59,7 @@ fn text(s: &[u8], from: usize, to: usize) -> Inside
 }
 
 // What stands in a body s[from..to]. A text and a raw body are not looked through.
-pub fn look(kind: Kind, s: &[u8], from: usize, to: usize) -> Inside
+pub(crate) fn look(kind: Kind, s: &[u8], from: usize, to: usize) -> Inside
     requires { ⌜ (from ≤ to) × (to ≤ length (now s)) ⌝ }
     ensures { λ r. ⌜ r ≡ insideAt kind from (slice from to (now (s .entry))) ⌝ }
 {

@@ -40,7 +40,14 @@ fn left_over(strict: bool, at: usize, end: usize) -> u8
 }
 
 // What a walk meets at `at`, of s[at..end].
-pub fn step_at(s: &[u8], at: usize, end: usize, version: Version, strict: bool, depth: u8) -> Step
+pub(crate) fn step_at(
+    s: &[u8],
+    at: usize,
+    end: usize,
+    version: Version,
+    strict: bool,
+    depth: u8,
+) -> Step
     requires { ⌜ end ≤ length (now s) ⌝ }
     ensures { λ r. ⌜ r ≡ stepAt strict version depth at (slice at end (now (s .entry))) ⌝ }
 {
