@@ -3,3 +3,4 @@ pub mod Cases
 pub mod Words
 pub mod Refusals
 pub mod Opens
+pub mod Steps

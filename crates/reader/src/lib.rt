@@ -1,6 +1,7 @@
 // Reading a metered tag: the reader's state and its answers. What they mean stands in specs/.
 pub mod headers;
 pub mod opening;
+pub mod stepping;
 
 use format::Record;
 use format::Version;
