@@ -38,6 +38,14 @@ slice-sets o p l h =
     ∙ ap (drop p) (take-at (take p o ++ l) (drop (p + length l) o) (p + length l) f)
     ∙ drop-at (take p o) l p e
 
+-- n elements, copied to the front of another list
+pub slice-copy : (s z copy : List ℕ) (from to n : ℕ) → to ≤ length s → to ≡ from + n → n ≤ length z → copy ≡ sets z 0 (slice from to s)
+    → slice 0 n copy ≡ slice from to s
+slice-copy s z copy from to n le e room is =
+    let l : List ℕ = slice from to s in
+    let m : n ≡ 0 + length l = omega (arith, length-slice from to s le) in
+    ap (λ (k : ℕ). slice 0 k copy) m ∙ ap (slice 0 (0 + length l)) is ∙ slice-sets z 0 l (omega arith)
+
 -- ---- a loop that stores
 
 -- o₀ was to take l₀ from p₀ on; o has still to take l from p on
@@ -90,6 +98,10 @@ module _ {o₀ : List ℕ} {p₀ : ℕ} {l₀ o : List ℕ} {p : ℕ} where
   -- a byte that stands there already
   pub keep : {l : List ℕ} (i d : ℕ) → Storing o₀ p₀ l₀ o p l → Storing o₀ p₀ l₀ (set o i (getD o i d)) p l
   keep i d s = on (sym (set-getD o i d)) s
+
+  -- what is left is stored at once: the place behind the whole, and the buffer with it
+  pub rest : {l : List ℕ} → Storing o₀ p₀ l₀ o p l → _≡_ {A = ℕ × List ℕ} (p + length l, sets o p l) (p₀ + length l₀, sets o₀ p₀ l₀)
+  rest s = λ i. (s .ends i, s .same i)
 
   -- nothing is left: the place behind the whole, and the buffer with it
   pub done : {l : List ℕ} → l ≡ [] → Storing o₀ p₀ l₀ o p l → _≡_ {A = ℕ × List ℕ} (p, o) (p₀ + length l₀, sets o₀ p₀ l₀)

@@ -2,19 +2,20 @@
 use mathlib.Core.Path.{_≡_, refl, sym, ap, _∙_, subst}
 use Prim.Native.Nat.{ℕ, zero, suc, _+_, _-_, _≤_, _<_}
 use native.Mathlib.Omega.{arith}
-use mathlib.Core.Bool.{Bool, true, false, cond, not, _&&_, _||_, or-false}
+use mathlib.Core.Bool.{Bool, true, false, cond, not, _&&_, _||_, or-false, or-assoc}
 use mathlib.Core.List.{List, [], _∷_, _++_}
 use lib.ListN.{length, take, getD}
 use lib.Seq.{slice, length-slice, sets, length-sets}
 use lib.Dec.{eqb, leb}
+use Rattle.lists.proofs.Bools.{or-false as both-false}
 use Rattle.lists.proofs.Slices.{slice-none, slice-next, slice-front}
-use Rattle.lists.proofs.Stores.{slice-sets}
+use Rattle.lists.proofs.Stores.{slice-copy}
 use Rattle.format.specs.Bytes.{pick, onlyIf}
 use Rattle.format.specs.Unsynch.{resync, guards, unsync}
 use Rattle.format.specs.declared.Mode.{Mode}
 use Rattle.format.specs.declared.Mode.the-variants.{Off, Crate, Standard}
 use Rattle.unsynch.specs.declared.loops.How.{How}
-use Rattle.unsynch.specs.Edits.{concerns, resyncBy, unsyncBy, edited, hits, editedAfter, hitsAfter}
+use Rattle.unsynch.specs.Edits.{concerns, resyncBy, unsyncBy, edited, hits, anyFF, editedAfter, hitsAfter}
 
 -- ---- resynchronising and unsynchronising are edits
 
@@ -44,6 +45,17 @@ unsyncs m prev (x ∷ s) =
     one : (g : Bool) (l : List ℕ) → pick g (0 ∷ l) l ≡ onlyIf g 0 l
     one true l = refl
     one false l = refl
+
+-- the loop that looks for an FF
+pub any-turn : (s : List ℕ) (i k to : ℕ) (any w : Bool) → i + k < to → to ≤ length s → (any || anyFF (slice (i + k) to s)) ≡ w
+    → ((any || eqb (getD s (i + k) 0) 255) || anyFF (slice (i + (k + 1)) to s)) ≡ w
+unfolding anyFF
+any-turn s i k to any w lt le e =
+    let next : i + k + 1 ≡ i + (k + 1) = omega arith in
+    or-assoc any (eqb (getD s (i + k) 0) 255) (anyFF (slice (i + (k + 1)) to s))
+    ∙ ap (λ (j : ℕ). any || (eqb (getD s (i + k) 0) 255 || anyFF (slice j to s))) (sym next)
+    ∙ sym (ap (λ (l : List ℕ). any || anyFF l) (slice-next (i + k) to s lt le))
+    ∙ e
 
 -- one byte x before what l the rest becomes: f says that the edit concerns it, g that it inserts
 abbrev turned : Bool → Bool → ℕ → List ℕ → List ℕ
@@ -169,6 +181,37 @@ module _ (how : How) where
         ∙ turned-append f (how .insert) x (editedAfter how s (i + 1) (m + 1)) (editedAfter how s m to)
         ∙ ap (λ (l : List ℕ). l ++ editedAfter how s m to) (sym (edited-next i (m + 1) (omega arith) (omega arith)))
 
+    pub hits-parted : (n i m to : ℕ) → m ≡ i + n → m < to → to ≤ length s → hitsAfter how s i to ≡ hitsAfter how s i (m + 1) + hitsAfter how s m to
+    hits-parted zero i m to e lt le =
+        let here : i ≡ m = omega arith in
+        ap (λ (k : ℕ). hitsAfter how s k to) here ∙ omega (arith, hits-end i (m + 1) (omega arith))
+    hits-parted (suc n) i m to e lt le =
+        let f : Bool = eqb (getD s i 0) 255 && concerns how (getD s (i + 1) 0) in
+        omega (arith, counts i to (omega arith) le f refl, hits-parted n (i + 1) m to (omega arith) lt le, counts i (m + 1) (omega arith) (omega arith) f refl)
+
+    -- behind bytes of which none is FF nothing is edited
+    pub no-ff : (n i m : ℕ) → m ≡ i + n → m < length s → anyFF (slice i m s) ≡ false → hitsAfter how s i (m + 1) ≡ 0
+    unfolding anyFF
+    no-ff zero i m e lt q = hits-end i (m + 1) (omega arith)
+    no-ff (suc n) i m e lt q =
+        let w = both-false (eqb (getD s i 0) 255) (anyFF (slice (i + 1) m s)) (sym (ap anyFF (slice-next i m s (omega arith) (omega arith))) ∙ q) in
+        let f : false ≡ (eqb (getD s i 0) 255 && concerns how (getD s (i + 1) 0)) = sym (ap (λ (b : Bool). b && concerns how (getD s (i + 1) 0)) (w .0)) in
+        omega (arith, counts i (m + 1) (omega arith) (omega arith) false f, no-ff n (i + 1) m (omega arith) lt (w .1))
+
+  -- bytes that the edit does not concern stay as they are
+  unhit : (prev : Bool) (s : List ℕ) → hits how prev s ≡ 0 → edited how prev s ≡ s
+  unfolding edited hits
+  unhit prev [] h = refl
+  unhit prev (x ∷ s) h = one (prev && concerns how x) (unhit (eqb x 255) s) h
+    where
+      one : (g : Bool) → (hits how (eqb x 255) s ≡ 0 → edited how (eqb x 255) s ≡ s) → cond g 1 0 + hits how (eqb x 255) s ≡ 0
+          → turned g (how .insert) x (edited how (eqb x 255) s) ≡ x ∷ s
+      one true e z = absurd (omega arith)
+      one false e z = ap (λ (l : List ℕ). x ∷ l) (e (omega arith))
+
+  pub left-alone : (s : List ℕ) (i to : ℕ) → hitsAfter how s i to ≡ 0 → editedAfter how s i to ≡ slice (i + 1) to s
+  left-alone s i to h = unhit (eqb (getD s i 0) 255) (slice (i + 1) to s) h
+
   -- the same bytes elsewhere
   edited-behind : List ℕ → List ℕ
   edited-behind [] = []
@@ -190,9 +233,5 @@ module _ (how : How) where
   pub in-copy : (s z copy : List ℕ) (from to : ℕ) → from < to → to ≤ length s → to - from ≤ length z → copy ≡ sets z 0 (slice from to s)
       → (length copy ≡ length z) × (editedAfter how copy 0 (to - from) ≡ editedAfter how s from to)
   in-copy s z copy from to lt le room e =
-      let l : List ℕ = slice from to s in
-      let n : 0 + length l ≡ to - from = omega (arith, length-slice from to s le) in
-      let long : length copy ≡ length z = ap length e ∙ length-sets z 0 l in
-      let part : slice 0 (to - from) copy ≡ l =
-      ap (λ (k : ℕ). slice 0 k copy) (sym n) ∙ ap (slice 0 (0 + length l)) e ∙ slice-sets z 0 l (omega arith) in
-      (long, same-part copy s 0 (to - from) from to (omega arith) (omega arith) lt le part)
+      let long : length copy ≡ length z = ap length e ∙ length-sets z 0 (slice from to s) in
+      (long, same-part copy s 0 (to - from) from to (omega arith) (omega arith) lt le (slice-copy s z copy from to (to - from) le (omega arith) room e))

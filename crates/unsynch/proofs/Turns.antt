@@ -6,12 +6,12 @@ use native.Mathlib.Omega.{arith}
 use mathlib.Core.Bool.{Bool, true, false, cond}
 use mathlib.Core.List.{List, [], _∷_}
 use lib.ListN.{length, take, set, getD, length-append}
-use lib.Seq.{sets}
+use lib.Seq.{slice, length-slice, sets}
 use Rattle.lists.proofs.Stores.{take-sets, Storing, lies, by, on, at, put, puts, over, keep}
 use Rattle.format.specs.Bytes.{pick}
 use Rattle.unsynch.specs.declared.loops.How.{How}
-use Rattle.unsynch.specs.Edits.{editedAfter, stored}
-use Rattle.unsynch.proofs.Edits.{parted, same-front}
+use Rattle.unsynch.specs.Edits.{editedAfter, hitsAfter, stored}
+use Rattle.unsynch.proofs.Edits.{parted, left-alone, same-front}
 
 module _ {o₀ : List ℕ} {p₀ : ℕ} {l₀ o : List ℕ} {p : ℕ} {m : List ℕ} (s : Storing o₀ p₀ l₀ o p m) (x : ℕ) (l : List ℕ) where
   -- the byte goes, and the byte before it stays; or it is stored
@@ -64,6 +64,17 @@ module _ (how : How) (s : List ℕ) (i m to : ℕ) (after : i ≤ m) (lt : m < t
               let v = u .1 r o′ (g ∙ ap (λ (l : List ℕ). stored l p o) f) in
               (v .0, ap (λ (z : ℕ × List ℕ). take n (z .1)) g ∙ take-sets n o p (editedAfter how o i (m + 1)) behind ∙ e, v .1),
         )
+
+-- a block of 64 bytes that the edit leaves alone is copied
+module _ (how : How) (s : List ℕ) (i to : ℕ) (lt : i + 64 < to) (le : to ≤ length s) (alone : hitsAfter how s i (i + 65) ≡ 0) where
+  pub block : {o₀ : List ℕ} {p₀ : ℕ} {l₀ o : List ℕ} {p : ℕ} → Storing o₀ p₀ l₀ o p (editedAfter how s i to)
+      → (p + 64 ≤ length o)
+      × ((r : ℕ) (o′ : List ℕ) → _≡_ {A = ℕ × List ℕ} (r, o′) (stored (slice (i + 1) (i + 65) s) p o) → (p ≤ r) × Storing o₀ p₀ l₀ o′ r (editedAfter how s (i + 64) to))
+  block {o} {p} t =
+      let e : i + 65 ≡ i + 64 + 1 = omega arith in
+      let same : slice (i + 1) (i + 65) s ≡ editedAfter how s i (i + 64 + 1) = sym (left-alone how s i (i + 65) alone) ∙ ap (editedAfter how s i) e in
+      let u = piece how s i (i + 64) to (omega arith) lt le t in
+      (omega (arith, u .0, ap length same, length-slice (i + 1) (i + 65) s (omega arith)), λ r o′ g. u .1 r o′ (g ∙ ap (λ (l : List ℕ). stored l p o) same))
 
 -- a byte, and behind it what is left
 pub stored-first : (x at : ℕ) (l u o : List ℕ) → u ≡ x ∷ l → stored l (at + 1) (set o at x) ≡ stored u at o

@@ -34,12 +34,17 @@ edited how prev (x ∷ s) =
     let l = edited how (eqb x 255) s in
     pick (prev && concerns how x) (pick (how .insert) (0 ∷ x ∷ l) l) (x ∷ l)
 
--- how many bytes those are
+-- how many bytes it concerns
 unfoldable pub hits : How → Bool → List ℕ → ℕ
 hits how prev [] = 0
 hits how prev (x ∷ s) = cond (prev && concerns how x) 1 0 + hits how (eqb x 255) s
 
--- the same from behind place from up to place to
+-- whether one of the bytes is FF
+unfoldable pub anyFF : List ℕ → Bool
+anyFF [] = false
+anyFF (x ∷ l) = eqb x 255 || anyFF l
+
+-- edited, and how many it concerns, behind place from up to place to
 abbrev pub editedAfter : How → List ℕ → ℕ → ℕ → List ℕ
 editedAfter how s from to = edited how (eqb (getD s from 0) 255) (slice (from + 1) to s)
 

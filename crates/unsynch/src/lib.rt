@@ -1,4 +1,5 @@
 // Synchsafe numbers, resynchronising and unsynchronising.
+mod blocks;
 mod loops;
 
 use format::Mode;

@@ -1,4 +1,5 @@
 // The loops behind resynchronising and unsynchronising: both are one edit of the bytes directly after an FF.
+use crate::blocks;
 use format::Mode;
 ghost use mathlib.Core.Path.{_≡_};
 ghost use mathlib.Core.Bool.{Bool, true, false, cond, _&&_};
@@ -73,7 +74,7 @@ fn either(x: bool, a: u8, b: u8) -> u8
 }
 
 // Whether the edit concerns b directly after the byte last.
-fn hit(how: How, last: u8, b: u8) -> bool
+pub(crate) fn hit(how: How, last: u8, b: u8) -> bool
     ensures { λ r. ⌜ r ≡ (eqb last 255 && concerns how b) ⌝ }
 {
     (last == 255) & ((how.zero & (b == 0)) | (how.high & (b >= 0xE0)))
@@ -81,6 +82,20 @@ fn hit(how: How, last: u8, b: u8) -> bool
 
 // How many bytes of s behind place from, up to place to, the edit concerns.
 fn hits_after(s: &[u8], from: usize, to: usize, how: How) -> usize
+    requires { ⌜ (from < to) × (to ≤ length (now s)) ⌝ }
+    ensures { λ r. ⌜ r ≡ hitsAfter how (now (s .entry)) from to ⌝ }
+{
+    let mut n: usize = 0;
+    let mut i = from;
+    while i + 64 < to {
+        n += blocks::hits(s, i, how);
+        i += 64;
+    }
+    n + hits_by_byte(s, i, to, how)
+}
+
+// The same, byte by byte.
+fn hits_by_byte(s: &[u8], from: usize, to: usize, how: How) -> usize
     requires { ⌜ (from < to) × (to ≤ length (now s)) ⌝ }
     ensures { λ r. ⌜ r ≡ hitsAfter how (now (s .entry)) from to ⌝ }
 {
@@ -166,7 +181,29 @@ fn insert_bytes(buf: &mut [u8], at: usize, s: &[u8], from: usize, to: usize, how
 }
 
 // Stores what the edit makes of the bytes of s behind place from, up to place to. The answer is the place behind what is stored.
+// A block that the edit leaves alone is copied; where it does not, the next bytes are edited one by one.
 fn edit_after(buf: &mut [u8], at: usize, s: &[u8], from: usize, to: usize, how: How) -> usize
+    requires { ⌜ (from < to) × (to ≤ length (now s)) × (1 ≤ at) ⌝ }
+    requires { ⌜ at + length (editedAfter how (now s) from to) ≤ length (now buf) ⌝ }
+    ensures { λ r. ⌜ (r, now (buf .exit)) ≡ stored (editedAfter how (now (s .entry)) from to) at (now (buf .entry)) ⌝ }
+{
+    let mut o = at;
+    let mut i = from;
+    while i + 64 < to {
+        if blocks::hits(s, i, how) == 0 {
+            o = blocks::copy_behind(buf, o, s, i);
+            i += 64;
+        } else {
+            let last = i + least(to - i - 1, 256);
+            o = edit_by_byte(buf, o, s, i, last + 1, how);
+            i = last;
+        }
+    }
+    edit_by_byte(buf, o, s, i, to, how)
+}
+
+// The same, byte by byte.
+fn edit_by_byte(buf: &mut [u8], at: usize, s: &[u8], from: usize, to: usize, how: How) -> usize
     requires { ⌜ (from < to) × (to ≤ length (now s)) × (1 ≤ at) ⌝ }
     requires { ⌜ at + length (editedAfter how (now s) from to) ≤ length (now buf) ⌝ }
     ensures { λ r. ⌜ (r, now (buf .exit)) ≡ stored (editedAfter how (now (s .entry)) from to) at (now (buf .entry)) ⌝ }
@@ -226,7 +263,7 @@ fn edit_chunk(area: &mut [u8], at: usize, from: usize, to: usize, how: How) -> u
 }
 
 // Stores s[from..to] from `at` on.
-fn copy(buf: &mut [u8], at: usize, s: &[u8], from: usize, to: usize)
+pub(crate) fn copy(buf: &mut [u8], at: usize, s: &[u8], from: usize, to: usize)
     requires { ⌜ (from ≤ to) × (to ≤ length (now s)) × (at + (to - from) ≤ length (now buf)) ⌝ }
     ensures { λ _. ⌜ now (buf .exit) ≡ sets (now (buf .entry)) at (slice from to (now (s .entry))) ⌝ }
 {

@@ -1,8 +1,8 @@
 -- `unsynch::loops::hits_after` meets its contract. Assumes nothing.
-use mathlib.Core.Path.{_≡_}
+use mathlib.Core.Path.{_≡_, ap}
 use Prim.Native.Nat.{_+_, _-_, _≤_, _<_}
 use Rattle.unsynch.specs.Edits.{hitsAfter}
-use Rattle.unsynch.proofs.Edits.{hits-end, counts}
+use Rattle.unsynch.proofs.Edits.{few-after, hits-parted}
 use borrow.Author.Needs.{needs}
 use native.Mathlib.Omega.{arith}
 use Rattle.unsynch.proofs.loops.hits_after.Statement.{statement}
@@ -20,23 +20,14 @@ loop-holds c = omega arith
 add-loop : tie.Need-add-loop Inv-loop μ-loop
 add-loop c = omega arith
 
-shared-slice-read-hit : tie.Need-shared-slice-read-hit Inv-loop μ-loop
-shared-slice-read-hit c = omega arith
-
-add-hit : tie.Need-add-hit Inv-loop μ-loop
-add-hit c = omega arith
-
-shared-slice-read-hit-2 : tie.Need-shared-slice-read-hit-2 Inv-loop μ-loop
-shared-slice-read-hit-2 c = omega arith
-
-hit-requires : tie.Need-hit-requires Inv-loop μ-loop
-hit-requires c κs = search needs
-
-bit-requires : tie.Need-bit-requires Inv-loop μ-loop
-bit-requires c κs = search needs
+hits-requires : tie.Need-hits-requires Inv-loop μ-loop
+hits-requires c κs = omega arith
 
 add-n : tie.Need-add-n Inv-loop μ-loop
-add-n c = omega arith
+add-n c =
+    let a = c .before .before .before .before .args in
+    let L = c .before .before .loop in
+    omega (arith, few-after (a .how) (a .s .now) (L .i) (L .i + 65) (omega arith) (omega arith))
 
 add-i : tie.Need-add-i Inv-loop μ-loop
 add-i c = omega arith
@@ -46,15 +37,25 @@ loop-less c = omega arith
 
 loop-again : tie.Need-loop-again Inv-loop μ-loop
 loop-again c =
-    let a = c .before .before .before .before .before .before .before .args in
-    let L = c .before .before .before .before .before .loop in
-    omega (arith, counts (a .how) (a .s .now) (L .i) (a .to) (omega arith) (omega arith) (c .before .hit .result) (c .before .hit .ensures))
+    let a = c .before .before .before .before .args in
+    let L = c .before .before .loop in
+    let e : L .i + 65 ≡ L .i + 64 + 1 = omega arith in
+    let same = ap (hitsAfter (a .how) (a .s .now) (L .i)) e in
+    let few = few-after (a .how) (a .s .now) (L .i) (L .i + 65) (omega arith) (omega arith) in
+    let both = hits-parted (a .how) (a .s .now) 64 (L .i) (L .i + 64) (a .to) (omega arith) (omega arith) (omega arith) in
+    (omega arith, omega arith, omega (arith, few), omega (arith, both, same))
+
+hits-by-byte-requires : tie.Need-hits-by-byte-requires Inv-loop μ-loop
+hits-by-byte-requires c κs = omega arith
+
+add-result : tie.Need-add-result Inv-loop μ-loop
+add-result c =
+    let a = c .before .before .before .before .args in
+    let L = c .before .before .loop in
+    omega (arith, few-after (a .how) (a .s .now) (L .i) (a .to) (omega arith) (omega arith))
 
 returns : tie.Need-returns Inv-loop μ-loop
-returns c =
-    let a = c .before .before .before .args in
-    let L = c .before .loop in
-    omega (arith, hits-end (a .how) (a .s .now) (L .i) (a .to) (omega arith))
+returns c = omega arith
 
 pub hits-after-spec : {M : Type 1} → statement M
 hits-after-spec =
@@ -64,13 +65,11 @@ hits-after-spec =
     μ-loop
     loop-holds
     add-loop
-    shared-slice-read-hit
-    add-hit
-    shared-slice-read-hit-2
-    hit-requires
-    bit-requires
+    hits-requires
     add-n
     add-i
     loop-less
     loop-again
+    hits-by-byte-requires
+    add-result
     returns)

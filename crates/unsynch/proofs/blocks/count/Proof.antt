@@ -1,0 +1,93 @@
+-- `unsynch::blocks::count` meets its contract. Assumes nothing.
+use mathlib.Core.Path.{_≡_, refl, ap}
+use mathlib.Core.Bool.{Bool, true, false, cond}
+use mir.Val.{boolByte}
+use Prim.Native.Nat.{ℕ, _+_, _-_, _≤_}
+use Rattle.unsynch.specs.Edits.{hitsAfter}
+use Rattle.unsynch.proofs.Edits.{hits-end, counts}
+use borrow.Author.Needs.{needs}
+use native.Mathlib.Omega.{arith}
+use Rattle.unsynch.proofs.blocks.count.Statement.{statement}
+use Rattle.unsynch.proofs.blocks.count.Tie as tie
+
+-- a truth value as a number
+number : (b : Bool) → (boolByte b ≡ cond b 1 0) × (boolByte b ≤ 1)
+number true = (refl, omega arith)
+number false = (refl, omega arith)
+
+abbrev Inv-loop : tie.InvT-loop
+Inv-loop s i how n₀ k₀ n k = (n ≤ k) × (k ≤ 64) × (n + hitsAfter how s (i + k) (i + 65) ≡ hitsAfter how s i (i + 65))
+
+abbrev μ-loop : tie.MeasureT-loop
+μ-loop s i how n₀ k₀ n k = 64 - k
+
+loop-holds : tie.Need-loop-holds Inv-loop μ-loop
+loop-holds c =
+    let a = c .before .args in
+    let here : a .i + 0 ≡ a .i = omega arith in
+    (omega arith, omega arith, omega (arith, ap (λ (j : ℕ). hitsAfter (a .how) (a .s .now) j (a .i + 65)) here))
+
+add-hit : tie.Need-add-hit Inv-loop μ-loop
+add-hit c = omega arith
+
+shared-slice-read-hit : tie.Need-shared-slice-read-hit Inv-loop μ-loop
+shared-slice-read-hit c = omega arith
+
+add-hit-2 : tie.Need-add-hit-2 Inv-loop μ-loop
+add-hit-2 c = omega arith
+
+add-hit-3 : tie.Need-add-hit-3 Inv-loop μ-loop
+add-hit-3 c = omega arith
+
+shared-slice-read-hit-2 : tie.Need-shared-slice-read-hit-2 Inv-loop μ-loop
+shared-slice-read-hit-2 c = omega arith
+
+hit-requires : tie.Need-hit-requires Inv-loop μ-loop
+hit-requires c κs = search needs
+
+cast-n : tie.Need-cast-n Inv-loop μ-loop
+cast-n c = tt
+
+add-n : tie.Need-add-n Inv-loop μ-loop
+add-n c = omega (arith, number (c .hit .result))
+
+add-k : tie.Need-add-k Inv-loop μ-loop
+add-k c = omega arith
+
+loop-less : tie.Need-loop-less Inv-loop μ-loop
+loop-less c = omega arith
+
+loop-again : tie.Need-loop-again Inv-loop μ-loop
+loop-again c =
+    let a = c .before .before .before .before .before .before .args in
+    let L = c .before .before .before .before .loop in
+    let here : a .i + L .k + 1 ≡ a .i + (L .k + 1) = omega arith in
+    let one = counts (a .how) (a .s .now) (a .i + L .k) (a .i + 65) (omega arith) (omega arith) (c .hit .result) (c .hit .ensures) in
+    let same = ap (λ (j : ℕ). hitsAfter (a .how) (a .s .now) j (a .i + 65)) here in
+    (omega (arith, number (c .hit .result)), omega arith, omega (arith, number (c .hit .result), one, same))
+
+returns : tie.Need-returns Inv-loop μ-loop
+returns c =
+    let a = c .before .before .before .args in
+    let L = c .before .loop in
+    omega (arith, hits-end (a .how) (a .s .now) (a .i + L .k) (a .i + 65) (omega arith))
+
+pub count-spec : {M : Type 1} → statement M
+count-spec =
+    tie.close
+    (tie.spec
+    Inv-loop
+    μ-loop
+    loop-holds
+    add-hit
+    shared-slice-read-hit
+    add-hit-2
+    add-hit-3
+    shared-slice-read-hit-2
+    hit-requires
+    cast-n
+    add-n
+    add-k
+    loop-less
+    loop-again
+    returns)

@@ -1,0 +1,31 @@
+-- `unsynch::blocks::hits` meets its contract. Assumes nothing.
+use mathlib.Core.Path.{_≡_, sym, ap, _∙_}
+use Prim.Native.Nat.{ℕ, _+_}
+use Rattle.unsynch.specs.Edits.{hitsAfter}
+use Rattle.unsynch.proofs.Edits.{no-ff}
+use native.Mathlib.Omega.{arith}
+use borrow.Author.Needs.{needs}
+use Rattle.unsynch.proofs.blocks.hits.Statement.{statement}
+use Rattle.unsynch.proofs.blocks.hits.Tie as tie
+
+any-ff-requires : tie.Need-any-ff-requires
+any-ff-requires c κs = search needs
+
+count-requires : tie.Need-count-requires
+count-requires c κs = search needs
+
+cast-result : tie.Need-cast-result
+cast-result c = search needs
+
+returns : tie.Need-returns
+returns c = search needs
+
+returns-2 : tie.Need-returns-2
+returns-2 c =
+    let a = c .before .before .before .args in
+    let e : a .i + 64 + 1 ≡ a .i + 65 = omega arith in
+    let none = no-ff (a .how) (a .s .now) 64 (a .i) (a .i + 64) (omega arith) (omega arith) (sym (c .before .any-ff .ensures) ∙ c .if1 .left) in
+    sym none ∙ ap (hitsAfter (a .how) (a .s .now) (a .i)) e
+
+pub hits-spec : {M : Type 1} → statement M
+hits-spec = tie.close (tie.spec any-ff-requires count-requires cast-result returns returns-2)

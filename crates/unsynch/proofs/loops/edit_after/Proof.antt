@@ -1,0 +1,119 @@
+-- `unsynch::loops::edit_after` meets its contract. Assumes nothing.
+use mathlib.Core.Path.{_≡_, sym, ap, _∙_}
+use mathlib.Core.List.{List}
+use Prim.Native.Nat.{ℕ, _+_, _-_, _≤_, _<_}
+use lib.ListN.{length}
+use Rattle.lists.proofs.Stores.{Storing, begin, lies, rest}
+use Rattle.unsynch.specs.Edits.{editedAfter, stored}
+use Rattle.unsynch.proofs.Edits.{left-alone}
+use Rattle.unsynch.proofs.Turns.{piece, block}
+use borrow.Author.Needs.{needs}
+use native.Mathlib.Omega.{arith}
+use Rattle.unsynch.proofs.loops.edit_after.Statement.{statement}
+use Rattle.unsynch.proofs.loops.edit_after.Tie as tie
+
+abbrev Inv-loop : tie.InvT-loop
+Inv-loop buf₀ at s from to how o₀ i₀ buf o i =
+    (from ≤ i) × (i < to) × (1 ≤ o) × Storing buf₀ at (editedAfter how s from to) buf o (editedAfter how s i to)
+
+abbrev μ-loop : tie.MeasureT-loop
+μ-loop buf₀ at s from to how o₀ i₀ buf o i = to - i
+
+loop-holds : tie.Need-loop-holds Inv-loop μ-loop
+loop-holds c = (omega arith, omega arith, omega arith, begin _ _ _ (omega arith))
+
+add-loop : tie.Need-add-loop Inv-loop μ-loop
+add-loop c = omega arith
+
+hits-requires : tie.Need-hits-requires Inv-loop μ-loop
+hits-requires c κs = omega arith
+
+copy-behind-requires : tie.Need-copy-behind-requires Inv-loop μ-loop
+copy-behind-requires c κs =
+    let a = c .before .before .before .before .before .before .before .args in
+    let L = c .before .before .before .before .loop in
+    let alone = sym (c .before .before .hits .ensures) ∙ c .before .if1 .taken in
+    (omega arith, block (a .how) (a .s .now) (L .i) (a .to) (omega arith) (omega arith) alone (L .inv .3) .0)
+
+add-i : tie.Need-add-i Inv-loop μ-loop
+add-i c = omega arith
+
+loop-less : tie.Need-loop-less Inv-loop μ-loop
+loop-less c = omega arith
+
+loop-again : tie.Need-loop-again Inv-loop μ-loop
+loop-again c =
+    let a = c .before .before .before .before .before .before .before .before .before .before .args in
+    let L = c .before .before .before .before .before .before .before .loop in
+    let alone = sym (c .before .before .before .before .before .hits .ensures) ∙ c .before .before .before .before .if1 .taken in
+    let stores = c .before .before .copy-behind in
+    let t = block (a .how) (a .s .now) (L .i) (a .to) (omega arith) (omega arith) alone (L .inv .3) .1 (stores .result) (stores .last .0) (stores .ensures) in
+    (omega arith, omega arith, omega (arith, t .0), t .1)
+
+sub-least : tie.Need-sub-least Inv-loop μ-loop
+sub-least c = omega arith
+
+sub-least-2 : tie.Need-sub-least-2 Inv-loop μ-loop
+sub-least-2 c = omega arith
+
+least-requires : tie.Need-least-requires Inv-loop μ-loop
+least-requires c κs = search needs
+
+add-last : tie.Need-add-last Inv-loop μ-loop
+add-last c = omega arith
+
+add-edit-by-byte : tie.Need-add-edit-by-byte Inv-loop μ-loop
+add-edit-by-byte c = omega arith
+
+edit-by-byte-requires : tie.Need-edit-by-byte-requires Inv-loop μ-loop
+edit-by-byte-requires c κs =
+    let a = c .before .before .before .before .before .before .before .before .args in
+    let L = c .before .before .before .before .before .loop in
+    let last = L .i + c .before .least .result in
+    (omega arith, piece (a .how) (a .s .now) (L .i) last (a .to) (omega arith) (omega arith) (omega arith) (L .inv .3) .0)
+
+loop-less-2 : tie.Need-loop-less-2 Inv-loop μ-loop
+loop-less-2 c = omega arith
+
+loop-again-2 : tie.Need-loop-again-2 Inv-loop μ-loop
+loop-again-2 c =
+    let a = c .before .before .before .before .before .before .before .before .before .before .before .args in
+    let L = c .before .before .before .before .before .before .before .before .loop in
+    let last = L .i + c .before .before .before .before .least .result in
+    let stores = c .before .before .edit-by-byte in
+    let t = piece (a .how) (a .s .now) (L .i) last (a .to) (omega arith) (omega arith) (omega arith) (L .inv .3) .1 (stores .result) (stores .last .0) (stores .ensures) in
+    (omega arith, omega arith, omega (arith, t .0), t .1)
+
+edit-by-byte-requires-2 : tie.Need-edit-by-byte-requires-2 Inv-loop μ-loop
+edit-by-byte-requires-2 c κs = (omega arith, lies (c .before .before .loop .inv .3))
+
+same-length : tie.Need-same-length Inv-loop μ-loop
+same-length c = c .before .before .edit-by-byte2 .kept .0 ∙ c .before .before .before .before .before .loop .inv .3 .long
+
+returns : tie.Need-returns Inv-loop μ-loop
+returns c = c .before .before .edit-by-byte2 .ensures ∙ rest (c .before .before .before .before .before .loop .inv .3)
+
+pub edit-after-spec : {M : Type 1} → statement M
+edit-after-spec =
+    tie.close
+    (tie.spec
+    Inv-loop
+    μ-loop
+    loop-holds
+    add-loop
+    hits-requires
+    copy-behind-requires
+    add-i
+    loop-less
+    loop-again
+    sub-least
+    sub-least-2
+    least-requires
+    add-last
+    add-edit-by-byte
+    edit-by-byte-requires
+    loop-less-2
+    loop-again-2
+    edit-by-byte-requires-2
+    same-length
+    returns)
