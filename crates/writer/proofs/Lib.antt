@@ -6,6 +6,8 @@ pub mod Closed
 pub mod Fitting
 pub mod Lengths
 pub mod Order
+pub mod Adds
+pub mod Ranges
 pub mod Puts
 pub mod Digits
 pub mod Layouts

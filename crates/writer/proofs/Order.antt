@@ -5,14 +5,14 @@ use mathlib.Core.Bool.{Bool, true, false}
 use mathlib.Core.List.{List, [], _∷_, _++_}
 use Rattle.format.specs.Bytes.{pick, first}
 use Rattle.format.specs.Record.{Content, text, popularimeter, table, chapter, contents, raw, Rec}
-use Rattle.format.specs.Encode.{idCheck, rawCheck, sizeChecks, isLost, refusalOf}
+use Rattle.format.specs.Encode.{idCheck, rawCheck, recordChecks, sizeChecks, isLost, refusalOf}
 use Rattle.format.specs.declared.Version.{Version}
 use Rattle.format.specs.declared.Mode.{Mode}
 use Rattle.writer.specs.Checks.{contentChecks, earlyChecks, lateChecks}
 use Rattle.writer.proofs.Firsts.{in-front, behind, only}
 
 -- a content: 12, 27, 28, then the rest
-pub in-order : (v : Version) (c : Content) → first (contentChecks v c) ≡ first (first (earlyChecks c) ∷ lateChecks v c)
+in-order : (v : Version) (c : Content) → first (contentChecks v c) ≡ first (first (earlyChecks c) ∷ lateChecks v c)
 unfolding first
 in-order v c = by c ∙ in-front (earlyChecks c) (lateChecks v c)
   where
@@ -24,19 +24,19 @@ in-order v c = by c ∙ in-front (earlyChecks c) (lateChecks v c)
     by (contents element t o children run) = refl
     by (raw body) = refl
 
+-- a record down to 34: its heading, then its content
+pub in-steps : (v : Version) (r : Rec)
+    → first (recordChecks v r) ≡ first (first (idCheck v r ∷ rawCheck v r ∷ []) ∷ first (earlyChecks (r .content)) ∷ lateChecks v (r .content))
+in-steps v r =
+    in-front (idCheck v r ∷ rawCheck v r ∷ []) (contentChecks v (r .content)) ∙ behind _ _ _ (in-order v (r .content))
+
 unless : (t : Bool) (l : List ℕ) → first (pick t [] l) ≡ first (pick t 0 (first l) ∷ [])
 unfolding first
 unless true l = refl
 unless false l = sym (only (first l))
 
--- a record: its heading, its content and, unless it is skipped, its size
-pub in-steps : (v : Version) (m : Mode) (altered : Bool) (r : Rec)
-    → refusalOf v m altered r
-    ≡ first (first (idCheck v r ∷ rawCheck v r ∷ [])
-    ∷ first (contentChecks v (r .content))
-    ∷ pick (isLost v altered (r .id)) 0 (first (sizeChecks v m r))
-    ∷ [])
+-- all of it: and, unless it is skipped, its size
+pub with-size : (v : Version) (m : Mode) (altered : Bool) (r : Rec)
+    → refusalOf v m altered r ≡ first (first (recordChecks v r) ∷ pick (isLost v altered (r .id)) 0 (first (sizeChecks v m r)) ∷ [])
 unfolding refusalOf
-in-steps v m altered r =
-    in-front (idCheck v r ∷ rawCheck v r ∷ []) _
-    ∙ behind _ _ _ (in-front (contentChecks v (r .content)) _ ∙ behind _ _ _ (unless (isLost v altered (r .id)) (sizeChecks v m r)))
+with-size v m altered r = in-front (recordChecks v r) _ ∙ behind _ _ _ (unless (isLost v altered (r .id)) (sizeChecks v m r))

@@ -1,6 +1,7 @@
 // Writing a metered tag: the writer's state and its answers. What they mean stands in specs/.
+mod add;
 mod bodies;
-mod contents;
+mod checks;
 mod counter;
 mod frames;
 mod ids;

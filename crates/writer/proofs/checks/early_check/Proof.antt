@@ -1,10 +1,10 @@
--- `writer::contents::early_check` meets its contract: each kind has one of the checks, a table of contents two. Assumes nothing.
+-- `writer::checks::early_check` meets its contract: each kind has one of the checks, a table of contents two. Assumes nothing.
 use mathlib.Core.Path.{sym, _∙_}
 use Rattle.format.specs.Bytes.{first}
 use Rattle.writer.proofs.Firsts.{only}
 use borrow.Author.Needs.{needs}
-use Rattle.writer.proofs.contents.early_check.Statement.{statement}
-use Rattle.writer.proofs.contents.early_check.Tie as tie
+use Rattle.writer.proofs.checks.early_check.Statement.{statement}
+use Rattle.writer.proofs.checks.early_check.Tie as tie
 
 enum-known-fields : tie.Need-enum-known-fields
 enum-known-fields c = search needs
