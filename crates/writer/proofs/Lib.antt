@@ -14,3 +14,4 @@ pub mod Layouts
 pub mod Smalls
 pub mod Packs
 pub mod Heads
+pub mod Finishes

@@ -8,3 +8,4 @@ pub mod Layouts
 pub mod Smalls
 pub mod Packs
 pub mod Plans
+pub mod Finishes

@@ -1,8 +1,10 @@
 // Writing a metered tag: the writer's state and its answers. What they mean stands in specs/.
-mod add;
+pub mod add;
+pub mod begin;
 mod bodies;
 mod checks;
 mod counter;
+pub mod finish;
 mod frames;
 mod ids;
 mod names;
