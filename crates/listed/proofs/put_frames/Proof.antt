@@ -1,0 +1,78 @@
+-- `listed::put_frames` meets its contract. Assumes nothing.
+use mathlib.Core.Path.{_∙_}
+use Prim.Native.Nat.{_-_}
+use native.Mathlib.Omega.{arith}
+use lib.ListN.{length}
+use borrow.Author.Needs.{needs}
+use Rattle.listed.proofs.Puts.{Listing, begins, last, again, ends}
+use Rattle.listed.proofs.put_frames.Statement.{statement}
+use Rattle.listed.proofs.put_frames.Tie as tie
+
+abbrev Inv-loop : tie.InvT-loop
+Inv-loop work₀ out₀ tag at behind₀ moved₀ number₀ work out behind moved number = Listing tag work₀ out₀ behind₀ moved₀ work out behind moved number
+
+abbrev μ-loop : tie.MeasureT-loop
+μ-loop work₀ out₀ tag at behind₀ moved₀ number₀ work out behind moved number = length tag - number
+
+loop-holds : tie.Need-loop-holds Inv-loop μ-loop
+loop-holds c =
+    let a = c .before .before .before .args in
+    begins (a .tag .now) (a .work .now) (a .out .now) (a .at) (a .reader)
+
+put-step-requires : tie.Need-put-step-requires Inv-loop μ-loop
+put-step-requires c κs = search needs
+
+enum-known-placed : tie.Need-enum-known-placed Inv-loop μ-loop
+enum-known-placed c = search needs
+
+same-length : tie.Need-same-length Inv-loop μ-loop
+same-length c = c .before .before .before .before .before .before .before .put-step .kept .0 ∙ c .before .before .before .before .before .before .before .before .before .before .before .loop .inv .works
+
+same-length-2 : tie.Need-same-length-2 Inv-loop μ-loop
+same-length-2 c = c .before .before .before .before .before .before .before .put-step .kept .1 .0 ∙ c .before .before .before .before .before .before .before .before .before .before .before .loop .inv .outs
+
+returns : tie.Need-returns Inv-loop μ-loop
+returns c = last (c .before .before .before .before .before .before .before .before .before .before .before .loop .inv) (c .before .before .before .before .before .before .before .before .before .before .loop-test .taken) (c .before .before .before .before .before .before .before .put-step .ensures) (c .before .placed .given .1)
+
+enum-known-next : tie.Need-enum-known-next Inv-loop μ-loop
+enum-known-next c = search needs
+
+add-number : tie.Need-add-number Inv-loop μ-loop
+add-number c = search needs
+
+loop-less : tie.Need-loop-less Inv-loop μ-loop
+loop-less c = omega arith
+
+loop-again : tie.Need-loop-again Inv-loop μ-loop
+loop-again c =
+    let p = c .before .before .before .before .before .before .before .put-step in
+    again (c .before .before .before .before .before .before .before .before .before .before .before .loop .inv) (c .before .before .before .before .before .before .before .before .before .before .loop-test .taken) (p .ensures) (p .kept .0) (p .kept .1 .0) (c .before .next .given .1)
+
+same-length-3 : tie.Need-same-length-3 Inv-loop μ-loop
+same-length-3 c = c .before .loop .inv .works
+
+same-length-4 : tie.Need-same-length-4 Inv-loop μ-loop
+same-length-4 c = c .before .loop .inv .outs
+
+returns-2 : tie.Need-returns-2 Inv-loop μ-loop
+returns-2 c = ends (c .before .loop .inv) (c .loop-test .left)
+
+pub put-frames-spec : {M : Type 1} → statement M
+put-frames-spec =
+    tie.close
+    (tie.spec
+    Inv-loop
+    μ-loop
+    loop-holds
+    put-step-requires
+    enum-known-placed
+    same-length
+    same-length-2
+    returns
+    enum-known-next
+    add-number
+    loop-less
+    loop-again
+    same-length-3
+    same-length-4
+    returns-2)

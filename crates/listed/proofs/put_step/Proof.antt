@@ -1,0 +1,102 @@
+-- `listed::put_step` meets its contract. Assumes nothing.
+use Rattle.listed.proofs.Puts.{on, full, at-end, at-refusal}
+use borrow.Author.Needs.{needs}
+use Rattle.listed.proofs.put_step.Statement.{statement}
+use Rattle.listed.proofs.put_step.Tie as tie
+
+step-requires : tie.Need-step-requires
+step-requires c κs = search needs
+
+enum-known-record : tie.Need-enum-known-record
+enum-known-record c = search needs
+
+put-record-requires : tie.Need-put-record-requires
+put-record-requires c κs = search needs
+
+enum-known-behind : tie.Need-enum-known-behind
+enum-known-behind c = search needs
+
+enum-told : tie.Need-enum-told
+enum-told c = search needs
+
+enum-told-2 : tie.Need-enum-told-2
+enum-told-2 c = search needs
+
+end-line-requires : tie.Need-end-line-requires
+end-line-requires c κs = search needs
+
+enum-known-k : tie.Need-enum-known-k
+enum-known-k c = search needs
+
+refused-line-requires : tie.Need-refused-line-requires
+refused-line-requires c κs = search needs
+
+same-length : tie.Need-same-length
+same-length c = search needs
+
+same-length-2 : tie.Need-same-length-2
+same-length-2 c = search needs
+
+returns : tie.Need-returns
+returns c =
+    let a = c .before .before .before .before .before .before .before .before .before .before .before .before .before .before .before .before .before .before .args in
+    on (a .reader) (a .number) (a .at) (a .tag .now) (a .work .now) (a .out .now) (c .before .before .before .before .before .before .before .before .before .before .before .before .before .step .ensures) (c .before .before .before .before .before .before .before .before .before .«record» .given .1) (c .before .before .before .before .before .put-record .ensures) (c .before .behind .given .1)
+
+same-length-3 : tie.Need-same-length-3
+same-length-3 c = search needs
+
+same-length-4 : tie.Need-same-length-4
+same-length-4 c = search needs
+
+returns-2 : tie.Need-returns-2
+returns-2 c =
+    let a = c .before .before .before .before .before .before .before .before .before .before .before .before .before .before .before .before .before .args in
+    full (a .reader) (a .number) (a .at) (a .tag .now) (a .work .now) (a .out .now) (c .before .before .before .before .before .before .before .before .before .before .before .before .step .ensures) (c .before .before .before .before .before .before .before .before .«record» .given .1) (c .before .before .before .before .put-record .ensures) (c .enum-told .given .1)
+
+same-length-5 : tie.Need-same-length-5
+same-length-5 c = search needs
+
+same-length-6 : tie.Need-same-length-6
+same-length-6 c = search needs
+
+returns-3 : tie.Need-returns-3
+returns-3 c =
+    let a = c .before .before .before .before .before .before .before .before .before .before .before .before .before .args in
+    at-end (a .reader) (a .number) (a .at) (a .tag .now) (a .work .now) (a .out .now) (c .before .before .before .before .before .before .before .before .step .ensures) (c .before .before .before .before .enum-told2 .given .1) (c .before .before .end-line .ensures)
+
+same-length-7 : tie.Need-same-length-7
+same-length-7 c = search needs
+
+same-length-8 : tie.Need-same-length-8
+same-length-8 c = search needs
+
+returns-4 : tie.Need-returns-4
+returns-4 c =
+    let a = c .before .before .before .before .before .before .before .before .before .before .before .before .before .before .args in
+    at-refusal (a .reader) (a .number) (a .at) (a .tag .now) (a .work .now) (a .out .now) (c .before .before .before .before .before .before .before .before .before .step .ensures) (c .before .before .before .before .before .k .given .1) (c .before .before .refused-line .ensures)
+
+pub put-step-spec : {M : Type 1} → statement M
+put-step-spec =
+    tie.close
+    (tie.spec
+    step-requires
+    enum-known-record
+    put-record-requires
+    enum-known-behind
+    enum-told
+    enum-told-2
+    end-line-requires
+    enum-known-k
+    refused-line-requires
+    same-length
+    same-length-2
+    returns
+    same-length-3
+    same-length-4
+    returns-2
+    same-length-5
+    same-length-6
+    returns-3
+    same-length-7
+    same-length-8
+    returns-4)
