@@ -1,0 +1,206 @@
+/*
+ * Streamvault: reads and writes ID3v2 tags (2.2, 2.3 and 2.4).
+ *
+ * Link the static library, target/staticlib/libcapi.a (`rt staticlib capi`). It is for x86-64 Linux, and needs memcpy
+ * from the C library and nothing else. It allocates nothing, keeps nothing between calls and calls nothing back, so any
+ * thread may use it.
+ *
+ * Every function answers 0, or the number of a refusal; sv_step also SV_END. The caller lends every buffer:
+ *
+ * - A buffer is a pointer and a count of its elements, one directly after the other. The count may be 0, and the pointer
+ *   then null.
+ * - A buffer that a call may change (one without const) must not overlap another buffer of the same call.
+ * - What a tag, a reader, a record or a writer is lies in words of 64 bits, at the places named below. More words may be
+ *   lent than named; those behind are never changed. Fewer are refused with SV_NO_ROOM, and nothing at all is changed.
+ * - No call trusts what it is lent. Words that no call leaves are refused: those of a reader or of a writer with
+ *   SV_UNKNOWN_VERSION, those of a record with SV_WRONG_ID.
+ *
+ * Reading: sv_open, then sv_step with the same tag, work buffer and reader until it answers something other than 0.
+ * Writing: sv_begin, sv_add for each record, sv_finish.
+ */
+#ifndef STREAMVAULT_H
+#define STREAMVAULT_H
+
+#include <stddef.h>
+#include <stdint.h>
+
+#ifdef __cplusplus
+extern "C" {
+#endif
+
+/* ---- answers besides 0 */
+
+/* sv_step: there is no further frame. */
+#define SV_END 256
+
+/* Refusals, in the tag header. */
+#define SV_NO_TAG 1                /* fewer than ten bytes, or they do not begin with "ID3" */
+#define SV_UNKNOWN_VERSION 2       /* the edition is not 2.2, 2.3 or 2.4; or a version, mode, mark or state that is none */
+#define SV_UNKNOWN_FLAGS 3         /* one of the low four flag bits of the tag header is set */
+#define SV_COMPRESSED_TAG 4        /* a 2.2 tag that is compressed as a whole */
+#define SV_MISSING_BYTES 5         /* bytes are missing: of the extended header, of a data length, or of a 2.3 body */
+#define SV_SMALL_EXTENDED_HEADER 6 /* the extended header's size is below 6 */
+
+/* Refusals, in a frame that is read. */
+#define SV_ID_NOT_UTF8 7           /* a frame's id is not UTF-8 */
+#define SV_ENCRYPTED 8             /* a frame is encrypted */
+#define SV_GROUPED 9               /* a frame belongs to a group */
+#define SV_SMALL_FRAME 10          /* a 2.3 frame with a data length has a size below 4 */
+#define SV_MISSING_FIELD 11        /* a field of a frame's body is missing */
+#define SV_UNKNOWN_ENCODING 12     /* a text's encoding is over 3 */
+#define SV_TOO_DEEP 13             /* frames lie inside one another at depth 9 */
+#define SV_WORK_TOO_SMALL 14       /* the work buffer does not hold what is to be resynchronised */
+
+/* Refusals, on writing. */
+#define SV_NO_ROOM 20              /* the result is longer than the room lent, or a buffer is shorter than what it has to hold */
+#define SV_WRONG_ID 21             /* the id is not 3 (2.2) or 4 characters of A-Z and 0-9, or not of the record's kind; or no record */
+#define SV_EMPTY_BODY 22           /* a 2.2 body is empty */
+#define SV_LONG_BODY 23            /* a 2.2 body is over 16,777,215 bytes */
+#define SV_TOO_LONG 24             /* a stored body, or the frames with the padding, have 2^28 bytes or more */
+#define SV_NOT_WRITABLE 25         /* a raw record under an id of a kind, or a record marked short or compressed */
+#define SV_TEXT_ENDS_EARLY 26      /* a reader would end the text early */
+#define SV_ZERO_IN_NAME 27         /* the user or the element id holds a zero */
+#define SV_WRONG_CHILDREN 28       /* over 255 children, or some are given and do not end in a zero */
+#define SV_WRONG_RUN 29            /* the run of subframes is refused, short, padded, not used up, too deep or unsynchronised */
+
+/* Refusals of lookup tables; the first three also on reading. */
+#define SV_WRONG_WIDTH 30          /* a width of a lookup table is not 1 to 32 */
+#define SV_WIDTHS_NOT_IN_FOURS 31  /* the widths' sum is no multiple of 4 */
+#define SV_WIDTHS_OVER_64 32       /* the widths' sum is over 64 */
+#define SV_WRONG_DEVIATION 33      /* a deviation lacks its pair or does not fit its width, or a step is 2^24 or more */
+#define SV_ODD_REFERENCES 34       /* the widths sum to 4 and the references are odd in number */
+
+/* ---- the words of a header */
+
+#define SV_HEADER_WORDS 4
+#define SV_HEADER_VERSION 0 /* 2, 3 or 4, for 2.2, 2.3 and 2.4 */
+#define SV_HEADER_FLAGS 1   /* the flag byte */
+#define SV_HEADER_SIZE 2    /* bytes of the tag behind its ten header bytes */
+#define SV_HEADER_EXT 3     /* the extended header's size, 0 without one */
+
+/* ---- the words of a reader */
+
+#define SV_READER_WORDS 7
+#define SV_READER_VERSION 0 /* 2, 3 or 4 */
+#define SV_READER_IN_WORK 1 /* 1 where the frames lie in the work buffer, 0 where they lie in the tag */
+#define SV_READER_BEGIN 2   /* the place of the first frame byte in that buffer */
+#define SV_READER_AT 3      /* the place of the next frame */
+#define SV_READER_END 4     /* the place behind the last frame byte */
+#define SV_READER_STOP 5    /* one of SV_STOP_... */
+#define SV_READER_NUMBER 6  /* the refusal, where the reader was refused; else 0 */
+
+#define SV_STOP_RUNNING 0
+#define SV_STOP_ENDED 1
+#define SV_STOP_REFUSED 2
+
+/* ---- the words of a record, read or to be written */
+
+#define SV_RECORD_WORDS 19
+#define SV_RECORD_KIND 0         /* one of SV_KIND_... */
+#define SV_RECORD_ID 1           /* the id's bytes as one number, highest first: POPM is 0x504F504D, POP is 0x504F50 */
+#define SV_RECORD_SHORT 2        /* 1 where the tag's end cuts the body */
+#define SV_RECORD_COMPRESSED 3   /* 1 where the body is compressed, and so shown as it is stored */
+#define SV_RECORD_AT 9           /* the place of the frame's header, counted from the first frame byte */
+#define SV_RECORD_IN_WORK 10     /* 1 where the parts below lie in the work buffer, 0 where they lie in the tag */
+#define SV_RECORD_BODY_START 11  /* the whole body */
+#define SV_RECORD_BODY_LEN 12
+#define SV_RECORD_NAME_START 13  /* the user, or the element id */
+#define SV_RECORD_NAME_LEN 14
+#define SV_RECORD_NAMES_START 15 /* the children, each closed by a zero */
+#define SV_RECORD_NAMES_LEN 16
+#define SV_RECORD_REST_START 17  /* the text, the packed references, the run of subframes, or the raw body */
+#define SV_RECORD_REST_LEN 18
+
+/* The numbers of a record, by its kind; those that a kind lacks are 0 when read, and not looked at when written. */
+#define SV_TEXT_ENCODING 4
+#define SV_POPULARIMETER_RATING 4
+#define SV_POPULARIMETER_COUNTER 5
+#define SV_TABLE_FRAMES 4
+#define SV_TABLE_BYTES 5
+#define SV_TABLE_MILLIS 6
+#define SV_TABLE_BITS_FOR_BYTES 7
+#define SV_TABLE_BITS_FOR_MILLIS 8
+#define SV_CHAPTER_START_TIME 4
+#define SV_CHAPTER_END_TIME 5
+#define SV_CHAPTER_START_OFFSET 6
+#define SV_CHAPTER_END_OFFSET 7
+#define SV_CONTENTS_TOP_LEVEL 4
+#define SV_CONTENTS_ORDERED 5
+
+#define SV_KIND_TEXT 0
+#define SV_KIND_POPULARIMETER 1
+#define SV_KIND_TABLE 2
+#define SV_KIND_CHAPTER 3
+#define SV_KIND_CONTENTS 4
+#define SV_KIND_RAW 5
+
+/* ---- the words of a writer */
+
+#define SV_WRITER_WORDS 4
+#define SV_WRITER_VERSION 0 /* 2, 3 or 4 */
+#define SV_WRITER_MODE 1    /* one of SV_MODE_... */
+#define SV_WRITER_ALTERED 2 /* 1 where frames that an altered file loses are left out */
+#define SV_WRITER_USED 3    /* bytes of the collecting buffer that hold frames */
+
+/* What is done against false synchronisation: nothing; a zero after FF before 00; also before E0 to FF (2.4.0 text). */
+#define SV_MODE_OFF 0
+#define SV_MODE_CRATE 1
+#define SV_MODE_STANDARD 2
+
+/* ---- the word of a count */
+
+#define SV_COUNT_WORDS 1
+
+/* ---- reading */
+
+/* The fields of the header at the front of a tag. A refusal changes nothing. */
+uint32_t sv_header(const uint8_t *tag, size_t tag_len, uint64_t *header, size_t header_len);
+
+/*
+ * Opens a tag: a reader at its first frame. An unsynchronised 2.2 or 2.3 tag is resynchronised to the front of the work
+ * buffer. A work buffer as long as the tag suffices for that, and to read all that this library writes; in other 2.4 tags
+ * unsynchronised chapters inside chapters can need up to eight times as much. A refusal changes nothing.
+ */
+uint32_t sv_open(const uint8_t *tag, size_t tag_len, uint8_t *work, size_t work_len, uint64_t *reader, size_t reader_len);
+
+/*
+ * The next frame of the top level as a record, or SV_END. The parts of a record that lie in the work buffer stay until
+ * the next step. At the end and on a refusal the record's words stay as they were. An ended reader answers SV_END again,
+ * a refused one its number.
+ */
+uint32_t sv_step(const uint8_t *tag, size_t tag_len, uint8_t *work, size_t work_len, uint64_t *reader, size_t reader_len,
+                 uint64_t *record, size_t record_len);
+
+/*
+ * All deviations of a lookup table, two by two (bytes, milliseconds), from its packed references, which are the rest of
+ * its record. The count is that of the numbers put. On a refusal it is 0 and nothing else changes.
+ */
+uint32_t sv_references(const uint64_t *record, size_t record_len, const uint8_t *rest, size_t rest_len,
+                       uint32_t *deviations, size_t deviations_len, uint64_t *count, size_t count_len);
+
+/* ---- writing */
+
+/* Begins a writer with no frames. A refusal changes nothing. */
+uint32_t sv_begin(uint64_t version, uint64_t mode, uint64_t altered, uint64_t *writer, size_t writer_len);
+
+/*
+ * Appends a record as one frame to the collecting buffer. Its bytes are given apart: those that its kind lacks are not
+ * looked at, nor are the record's words from SV_RECORD_AT on. The count is that of the bytes appended, 0 for a frame that
+ * is left out because the writer is marked altered. On a refusal it is 0 and nothing else changes.
+ */
+uint32_t sv_add(const uint64_t *record, size_t record_len, const uint8_t *name, size_t name_len, const uint8_t *names,
+                size_t names_len, const uint8_t *rest, size_t rest_len, const uint32_t *deviations, size_t deviations_len,
+                uint8_t *buffer, size_t buffer_len, uint64_t *writer, size_t writer_len, uint64_t *count, size_t count_len);
+
+/*
+ * Writes the tag to the output buffer: header, frames, padding of zeros. The count is its length. On a refusal it is 0
+ * and nothing else changes.
+ */
+uint32_t sv_finish(uint64_t padding, const uint8_t *buffer, size_t buffer_len, uint8_t *output, size_t output_len,
+                   const uint64_t *writer, size_t writer_len, uint64_t *count, size_t count_len);
+
+#ifdef __cplusplus
+}
+#endif
+
+#endif

@@ -1,0 +1,141 @@
+//! Sums the popularimeters of sound files by user, and lists the frames of a tag.
+
+mod args;
+mod files;
+mod list;
+mod progress;
+mod report;
+mod show;
+mod sum;
+
+use args::{Command, Format};
+use files::Files;
+use progress::Progress;
+use std::ffi::OsString;
+use std::fs::File;
+use std::io::{self, BufWriter, IsTerminal, Write};
+use std::path::{Path, PathBuf};
+use std::process::ExitCode;
+use sum::Sum;
+
+/// Everything was read.
+const ALL_READ: u8 = 0;
+/// Something was refused, short or not readable.
+const NOT_ALL: u8 = 1;
+/// The words given make no command.
+const BAD_USAGE: u8 = 2;
+
+fn main() -> ExitCode {
+    let words: Vec<OsString> = std::env::args_os().skip(1).collect();
+    let progress = Progress::new(io::stderr().is_terminal());
+    let mut out = BufWriter::new(io::stdout().lock());
+    let status = run(&words, &mut out, &mut io::stderr(), progress);
+    // what reads the output may have gone away: nobody is left to tell
+    let flushed = out.flush();
+    match (status, flushed) {
+        (Ok(status), Ok(())) => ExitCode::from(status),
+        (Err(error), _) | (_, Err(error)) if error.kind() == io::ErrorKind::BrokenPipe => ExitCode::from(NOT_ALL),
+        (Err(error), _) | (_, Err(error)) => {
+            eprintln!("streamvault: {error}");
+            ExitCode::from(NOT_ALL)
+        }
+    }
+}
+
+/// Does what the words say and gives the exit status. An error is one of writing.
+fn run(words: &[OsString], out: &mut dyn Write, err: &mut dyn Write, progress: Progress) -> io::Result<u8> {
+    match args::parse(words) {
+        Ok(Command::Help) => write!(out, "{}", args::HELP).map(|()| ALL_READ),
+        Ok(Command::Version) => writeln!(out, "streamvault {}", env!("CARGO_PKG_VERSION")).map(|()| ALL_READ),
+        Ok(Command::Sum { format, paths }) => run_sum(format, paths, out, err, progress),
+        Ok(Command::List { file }) => run_list(&file, out, err),
+        Err(message) => {
+            writeln!(err, "streamvault: {message}\n\n{}", args::USAGE)?;
+            Ok(BAD_USAGE)
+        }
+    }
+}
+
+/// The sum over all files below the paths.
+fn run_sum(
+    format: Format,
+    paths: Vec<PathBuf>,
+    out: &mut dyn Write,
+    err: &mut dyn Write,
+    progress: Progress,
+) -> io::Result<u8> {
+    let sum = match Sum::over(Files::below(paths), progress) {
+        Ok(sum) => sum,
+        Err(too_large) => {
+            writeln!(err, "streamvault: {too_large}")?;
+            return Ok(NOT_ALL);
+        }
+    };
+    match format {
+        Format::Table => report::table(&sum, out)?,
+        Format::Json => report::json(&sum, out)?,
+        Format::Csv => {
+            report::csv(&sum, out)?;
+            report::problems(&sum, err)?;
+        }
+    }
+    Ok(if sum.all_read() { ALL_READ } else { NOT_ALL })
+}
+
+/// The listing of one file, or of standard input.
+fn run_list(file: &Path, out: &mut dyn Write, err: &mut dyn Write) -> io::Result<u8> {
+    let mut tag = Vec::new();
+    let read = if file == Path::new("-") {
+        files::read_tag(io::stdin().lock(), &mut tag)
+    } else {
+        File::open(file).and_then(|input| files::read_tag(input, &mut tag))
+    };
+    if let Err(error) = read {
+        writeln!(err, "streamvault: {}: {error}", show::path(file))?;
+        return Ok(NOT_ALL);
+    }
+    let ended = list::list(&tag, out)?;
+    Ok(if ended { ALL_READ } else { NOT_ALL })
+}
+
+#[cfg(test)]
+mod tests {
+    use super::*;
+
+    /// Runs the program within the test: its status, standard output and standard error.
+    fn said(words: &[&str]) -> (u8, String, String) {
+        let words: Vec<OsString> = words.iter().map(OsString::from).collect();
+        let (mut out, mut err) = (Vec::new(), Vec::new());
+        let status = run(&words, &mut out, &mut err, Progress::new(false)).unwrap();
+        (status, String::from_utf8(out).unwrap(), String::from_utf8(err).unwrap())
+    }
+
+    #[test]
+    fn help_names_both_commands_and_every_status() {
+        let (status, out, err) = said(&["--help"]);
+        assert_eq!((status, err.as_str()), (ALL_READ, ""));
+        for part in ["streamvault sum", "streamvault list", "--csv", "--json", "hex:", "0 ", "1 ", "2 "] {
+            assert!(out.contains(part), "{part}");
+        }
+    }
+
+    #[test]
+    fn bad_usage_is_status_2_and_prints_nothing() {
+        for words in [&[][..], &["sum"], &["list"], &["list", "a", "b"], &["sum", "--xml", "a"], &["drop", "a"]] {
+            let (status, out, err) = said(words);
+            assert_eq!((status, out.as_str()), (BAD_USAGE, ""), "{words:?}");
+            assert!(err.starts_with("streamvault: "), "{words:?}");
+        }
+    }
+
+    #[test]
+    fn what_is_not_there_is_status_1() {
+        let missing = "no such folder/at all";
+        let (status, out, _) = said(&["sum", missing]);
+        assert_eq!(status, NOT_ALL);
+        assert!(out.contains(missing));
+        let (status, out, err) = said(&["list", missing]);
+        assert_eq!((status, out.as_str()), (NOT_ALL, ""));
+        assert!(err.contains(missing));
+    }
+}

@@ -1,0 +1,48 @@
+//! Reads and writes ID3v2 tags (2.2, 2.3 and 2.4) through a library that is proved to do what its definitions say.
+//!
+//! The library is written in Rattle and linked as a static library for x86-64 Linux; this crate is the thin layer over its
+//! C interface. It decides nothing about the format: what a tag says, and what is refused, is the library's answer.
+//!
+//! - [`header`] and [`Reader`] read a tag that lies in memory, [`read`] all of it at once.
+//! - [`Writer`] makes a tag of records.
+//! - [`references`] unpacks a lookup table.
+//! - A [`Refusal`] is a number and its meaning.
+//!
+//! ```
+//! use streamvault::{Content, Mode, Reader, Version, Writer};
+//!
+//! // write a tag
+//! let mut writer = Writer::new(Version::Id3v23, Mode::Crate);
+//! writer.add(b"POPM", &Content::Popularimeter { user: b"room 7", rating: 0, counter: 90 })?;
+//! let tag = writer.finish(16)?;
+//!
+//! // and read it
+//! let mut minutes = 0;
+//! let mut reader = Reader::open(&tag, Vec::new())?;
+//! while let Some(frame) = reader.next_frame() {
+//!     let frame = frame?;
+//!     if let (Content::Popularimeter { counter, .. }, false) = (frame.content, frame.short) {
+//!         minutes += counter;
+//!     }
+//! }
+//! assert_eq!(minutes, 90);
+//! # Ok::<(), streamvault::Refusal>(())
+//! ```
+
+#![warn(missing_docs)]
+
+pub mod calls;
+mod id;
+mod kinds;
+mod reader;
+mod record;
+mod refusal;
+pub mod sys;
+mod writer;
+
+pub use id::Id;
+pub use kinds::{Encoding, Kind, Mode, Version};
+pub use reader::{header, read, Header, Reader, Records, Work};
+pub use record::{references, Content, Frame, Record, Reference, Table};
+pub use refusal::Refusal;
+pub use writer::Writer;
