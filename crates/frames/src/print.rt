@@ -7,6 +7,12 @@ use prints::decimal;
 use prints::either;
 use prints::say;
 
+// Two numbers.
+fn two(a: u32, b: u32) {
+    decimal(a as u64);
+    decimal(b as u64);
+}
+
 // A kind and its numbers.
 fn fields(f: Fields) {
     match f {
@@ -28,10 +34,8 @@ fn fields(f: Fields) {
         } => {
             say(b" table");
             decimal(frames as u64);
-            decimal(bytes as u64);
-            decimal(millis as u64);
-            decimal(bits_for_bytes as u64);
-            decimal(bits_for_millis as u64);
+            two(bytes, millis);
+            two(bits_for_bytes as u32, bits_for_millis as u32);
         }
         Fields::Chapter {
             start_time,
@@ -40,10 +44,8 @@ fn fields(f: Fields) {
             end_offset,
         } => {
             say(b" chapter");
-            decimal(start_time as u64);
-            decimal(end_time as u64);
-            decimal(start_offset as u64);
-            decimal(end_offset as u64);
+            two(start_time, end_time);
+            two(start_offset, end_offset);
         }
         Fields::Contents { top_level, ordered } => {
             say(b" contents");
@@ -74,20 +76,25 @@ fn span(word: &[u8], s: Span) {
 // A record and the place behind it.
 pub fn frame(r: Record, next: usize) {
     let h = r.heading;
-    let body = r.body;
-    let name = r.name;
-    let names = r.names;
-    let rest = r.rest;
     heading(h);
     say(b" at");
     decimal(r.at as u64);
     either(r.in_work, b" work", b" tag");
+    spans(r);
+    say(b" next");
+    decimal(next as u64);
+}
+
+// The spans of a record.
+fn spans(r: Record) {
+    let body = r.body;
+    let name = r.name;
+    let names = r.names;
+    let rest = r.rest;
     span(b" body", body);
     span(b" name", name);
     span(b" names", names);
     span(b" rest", rest);
-    say(b" next");
-    decimal(next as u64);
 }
 
 // What a room holds: its length, its first 64 bytes and, if there are more, the sums of all.
