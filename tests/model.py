@@ -1,6 +1,7 @@
-"""Document 01 ("The metered tag") as a plain model, written from its sentences and not from the code of this repository.
+"""Document 01 ("The metered tag") as a plain model, sentence by sentence; it shares no code with the crates.
 
 Each function names the section of document 01 that it says. Where that leaves a choice, the settled reading is told beside it.
+The spans of a record are no matter of document 01: they are laid out as crates/format/specs/Record.antt has them.
 Bytes are `bytes`, a lent buffer is a `bytearray` that a call changes in place, and a refusal is the exception `Refused`.
 Editions are 2, 3 and 4; modes are "off", "crate" and "standard"; kinds are the words of the listing.
 """
