@@ -1,0 +1,82 @@
+//! What several tests use: running programs, a folder of one's own, and a generator of numbers.
+#![allow(dead_code)]
+
+use std::fs;
+use std::path::{Path, PathBuf};
+use std::process::{Command, Output};
+
+/// A command that runs an x86-64 program. `STREAMVAULT_RUNNER` names an emulator with its words, where one is needed.
+pub fn command(program: impl AsRef<Path>) -> Command {
+    let runner = std::env::var("STREAMVAULT_RUNNER").unwrap_or_default();
+    let mut words = runner.split_whitespace();
+    let Some(first) = words.next() else {
+        return Command::new(program.as_ref());
+    };
+    let mut command = Command::new(first);
+    command.args(words).arg(program.as_ref());
+    command
+}
+
+/// Standard output and the exit status of a command that printed text.
+pub fn said(output: &Output) -> (String, i32) {
+    let text = String::from_utf8(output.stdout.clone()).expect("text");
+    (text, output.status.code().expect("an exit status"))
+}
+
+/// The top of the repository.
+pub fn root() -> PathBuf {
+    Path::new(env!("CARGO_MANIFEST_DIR")).join("..")
+}
+
+/// An empty folder of this name below cargo's own for tests.
+pub fn folder(name: &str) -> PathBuf {
+    let folder = Path::new(env!("CARGO_TARGET_TMPDIR")).join(name);
+    if folder.exists() {
+        fs::remove_dir_all(&folder).unwrap();
+    }
+    fs::create_dir_all(&folder).unwrap();
+    folder
+}
+
+/// A generator of numbers, the same ones each time: splitmix64.
+pub struct Numbers(pub u64);
+
+impl Numbers {
+    /// Any number.
+    pub fn any(&mut self) -> u64 {
+        self.0 = self.0.wrapping_add(0x9E37_79B9_7F4A_7C15);
+        let mut z = self.0;
+        z = (z ^ (z >> 30)).wrapping_mul(0xBF58_476D_1CE4_E5B9);
+        z = (z ^ (z >> 27)).wrapping_mul(0x94D0_49BB_1331_11EB);
+        z ^ (z >> 31)
+    }
+
+    /// A number below `limit`.
+    pub fn below(&mut self, limit: usize) -> usize {
+        (self.any() % limit as u64) as usize
+    }
+
+    /// True once in `n` times.
+    pub fn once_in(&mut self, n: usize) -> bool {
+        self.below(n) == 0
+    }
+
+    /// One of these.
+    pub fn one<'a, T>(&mut self, of: &'a [T]) -> &'a T {
+        &of[self.below(of.len())]
+    }
+
+    /// So many bytes. Those that the format treats in a special way come often.
+    pub fn bytes(&mut self, len: usize) -> Vec<u8> {
+        (0..len).map(|_| self.byte()).collect()
+    }
+
+    /// One such byte.
+    pub fn byte(&mut self) -> u8 {
+        if self.once_in(2) {
+            *self.one(&[0x00, 0xFF, 0xE0, 0xDF, 0x01, 0x02, 0x7F, 0x80])
+        } else {
+            self.any() as u8
+        }
+    }
+}
