@@ -100,10 +100,10 @@ fn hits_by_byte(s: &[u8], from: usize, to: usize, how: How) -> usize
     ensures { λ r. ⌜ r ≡ hitsAfter how (now (s .entry)) from to ⌝ }
 {
     let mut n: usize = 0;
-    let mut i = from;
-    while i + 1 < to {
-        n += bit(hit(how, s[i], s[i + 1]));
-        i += 1;
+    let mut k = from;
+    while k + 1 < to {
+        n += bit(hit(how, s[k], s[k + 1]));
+        k += 1;
     }
     n
 }
@@ -181,7 +181,7 @@ fn insert_bytes(buf: &mut [u8], at: usize, s: &[u8], from: usize, to: usize, how
 }
 
 // Stores what the edit makes of the bytes of s behind place from, up to place to. The answer is the place behind what is stored.
-// A block that the edit leaves alone is copied; where it does not, the next bytes are edited one by one.
+// A block that the edit leaves alone is copied. Where it does not, the next bytes are edited one by one, the more the more often that was so.
 fn edit_after(buf: &mut [u8], at: usize, s: &[u8], from: usize, to: usize, how: How) -> usize
     requires { ⌜ (from < to) × (to ≤ length (now s)) × (1 ≤ at) ⌝ }
     requires { ⌜ at + length (editedAfter how (now s) from to) ≤ length (now buf) ⌝ }
@@ -189,14 +189,17 @@ fn edit_after(buf: &mut [u8], at: usize, s: &[u8], from: usize, to: usize, how: 
 {
     let mut o = at;
     let mut i = from;
+    let mut run: usize = 64;
     while i + 64 < to {
         if blocks::hits(s, i, how) == 0 {
             o = blocks::copy_behind(buf, o, s, i);
             i += 64;
+            run = 64;
         } else {
-            let last = i + least(to - i - 1, 256);
+            let last = i + least(to - i - 1, run);
             o = edit_by_byte(buf, o, s, i, last + 1, how);
             i = last;
+            run = least(run + run, 1024);
         }
     }
     edit_by_byte(buf, o, s, i, to, how)
@@ -244,7 +247,7 @@ fn edit_in_after(area: &mut [u8], at: usize, from: usize, to: usize, how: How) -
     let mut o = at;
     let mut i = from;
     while i + 1 < to {
-        let last = i + least(to - i - 1, 256);
+        let last = i + least(to - i - 1, 1024);
         o = edit_chunk(area, o, i, last + 1, how);
         i = last;
     }
@@ -253,11 +256,11 @@ fn edit_in_after(area: &mut [u8], at: usize, from: usize, to: usize, how: How) -
 
 // Stores what the edit makes of the bytes of an area behind place from, up to place to, by way of a copy of them.
 fn edit_chunk(area: &mut [u8], at: usize, from: usize, to: usize, how: How) -> usize
-    requires { ⌜ (from < to) × (to ≤ from + 257) × (to ≤ length (now area)) × (1 ≤ at) ⌝ }
+    requires { ⌜ (from < to) × (to ≤ from + 1025) × (to ≤ length (now area)) × (1 ≤ at) ⌝ }
     requires { ⌜ at + length (editedAfter how (now area) from to) ≤ length (now area) ⌝ }
     ensures { λ r. ⌜ (r, now (area .exit)) ≡ stored (editedAfter how (now (area .entry)) from to) at (now (area .entry)) ⌝ }
 {
-    let mut chunk = [0u8; 257];
+    let mut chunk = [0u8; 1025];
     copy(&mut chunk, 0, &area[..], from, to);
     edit_after(area, at, &chunk, 0, to - from, how)
 }

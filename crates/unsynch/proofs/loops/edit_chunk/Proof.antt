@@ -25,7 +25,7 @@ sub-edit-after c = search needs
 edit-after-requires : tie.Need-edit-after-requires
 edit-after-requires c κs =
     let a = c .before .before .before .before .before .before .before .args in
-    let e = in-copy (a .how) (a .area .now) (replicate 257 0) (c .before .before .before .copy .last .0) (a .from) (a .to) (omega arith) (omega arith) (omega arith) (c .before .before .before .copy .ensures) in
+    let e = in-copy (a .how) (a .area .now) (replicate 1025 0) (c .before .before .before .copy .last .0) (a .from) (a .to) (omega arith) (omega arith) (omega arith) (c .before .before .before .copy .ensures) in
     (omega arith, omega (arith, ap length (e .1)))
 
 same-length : tie.Need-same-length
@@ -34,7 +34,7 @@ same-length c = search needs
 returns : tie.Need-returns
 returns c =
     let a = c .before .before .before .before .before .before .before .before .before .before .args in
-    let e = in-copy (a .how) (a .area .now) (replicate 257 0) (c .before .before .before .before .before .before .copy .last .0) (a .from) (a .to) (omega arith) (omega arith) (omega arith) (c .before .before .before .before .before .before .copy .ensures) in
+    let e = in-copy (a .how) (a .area .now) (replicate 1025 0) (c .before .before .before .before .before .before .copy .last .0) (a .from) (a .to) (omega arith) (omega arith) (omega arith) (c .before .before .before .before .before .before .copy .ensures) in
     c .before .before .edit-after .ensures ∙ ap (λ (l : List ℕ). stored l (a .at) (a .area .now)) (e .1)
 
 pub edit-chunk-spec : {M : Type 1} → statement M

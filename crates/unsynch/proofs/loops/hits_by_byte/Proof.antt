@@ -9,10 +9,10 @@ use Rattle.unsynch.proofs.loops.hits_by_byte.Statement.{statement}
 use Rattle.unsynch.proofs.loops.hits_by_byte.Tie as tie
 
 abbrev Inv-loop : tie.InvT-loop
-Inv-loop s from to how n₀ i₀ n i = (from ≤ i) × (i < to) × (n ≤ i - from) × (n + hitsAfter how s i to ≡ hitsAfter how s from to)
+Inv-loop s from to how n₀ k₀ n k = (from ≤ k) × (k < to) × (n ≤ k - from) × (n + hitsAfter how s k to ≡ hitsAfter how s from to)
 
 abbrev μ-loop : tie.MeasureT-loop
-μ-loop s from to how n₀ i₀ n i = to - i
+μ-loop s from to how n₀ k₀ n k = to - k
 
 loop-holds : tie.Need-loop-holds Inv-loop μ-loop
 loop-holds c = omega arith
@@ -38,8 +38,8 @@ bit-requires c κs = search needs
 add-n : tie.Need-add-n Inv-loop μ-loop
 add-n c = omega arith
 
-add-i : tie.Need-add-i Inv-loop μ-loop
-add-i c = omega arith
+add-k : tie.Need-add-k Inv-loop μ-loop
+add-k c = omega arith
 
 loop-less : tie.Need-loop-less Inv-loop μ-loop
 loop-less c = omega arith
@@ -48,13 +48,13 @@ loop-again : tie.Need-loop-again Inv-loop μ-loop
 loop-again c =
     let a = c .before .before .before .before .before .before .before .args in
     let L = c .before .before .before .before .before .loop in
-    omega (arith, counts (a .how) (a .s .now) (L .i) (a .to) (omega arith) (omega arith) (c .before .hit .result) (c .before .hit .ensures))
+    omega (arith, counts (a .how) (a .s .now) (L .k) (a .to) (omega arith) (omega arith) (c .before .hit .result) (c .before .hit .ensures))
 
 returns : tie.Need-returns Inv-loop μ-loop
 returns c =
     let a = c .before .before .before .args in
     let L = c .before .loop in
-    omega (arith, hits-end (a .how) (a .s .now) (L .i) (a .to) (omega arith))
+    omega (arith, hits-end (a .how) (a .s .now) (L .k) (a .to) (omega arith))
 
 pub hits-by-byte-spec : {M : Type 1} → statement M
 hits-by-byte-spec =
@@ -70,7 +70,7 @@ hits-by-byte-spec =
     hit-requires
     bit-requires
     add-n
-    add-i
+    add-k
     loop-less
     loop-again
     returns)
