@@ -22,9 +22,6 @@ use Rattle.writer.proofs.Firsts.{refused, passed, only}
 use Rattle.writer.proofs.Order.{with-size}
 
 module _ (w : Writer) (r : Rec) (b : List ℕ) where
-  abbrev checked : ℕ
-  checked = first (recordChecks (w .version) r)
-
   abbrev lost : Bool
   lost = isLost (w .version) (w .altered) (r .id)
 

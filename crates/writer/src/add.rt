@@ -84,6 +84,7 @@ fn append(
 
 impl Writer {
     // Adds a record as a frame: refused with nothing changed, skipped where an altered file loses it, or put behind the frames there.
+    // It also tells that the heading's numbers are of their types, which a caller cannot see inside an enum.
     pub fn add(
         self,
         buffer: &mut [u8],
@@ -100,11 +101,12 @@ impl Writer {
         let mode = self.mode;
         let altered = self.altered;
         let id = heading.id;
+        let lost = is_lost(version, altered, id);
         let k = record_check(version, heading, name, names, rest, deviations);
         if k != 0 {
             return Added::Refused(k, self);
         }
-        if is_lost(version, altered, id) {
+        if lost {
             return Added::Accepted(0, self);
         }
         let size = measure_frame(version, mode, heading, name, names, rest, deviations);

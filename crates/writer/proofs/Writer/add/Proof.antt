@@ -22,7 +22,7 @@ fits s =
 
 -- its checks passed
 sound : (c : tie.Else1) →
-    let s = c .before .before .before .before .before .before .before in
+    let s = c .before .before .before .before .before .before .before .before in
     first (recordChecks (s .args .self .version) (given s)) ≡ 0
 sound c = sym (c .before .record-check .ensures) ∙ c .if1 .left
 
@@ -30,28 +30,28 @@ sound c = sym (c .before .record-check .ensures) ∙ c .if1 .left
 kept : (c : tie.Else2) →
     let s = c .before .before .before .before .before .before .before .before .before in
     isLost (s .args .self .version) (s .args .self .altered) (given s .id) ≡ false
-kept c = sym (c .before .is-lost .ensures) ∙ c .if2 .left
+kept c = sym (c .before .before .before .is-lost .ensures) ∙ c .if2 .left
+
+is-lost-requires : tie.Need-is-lost-requires
+is-lost-requires c κs = search needs
 
 record-check-requires : tie.Need-record-check-requires
 record-check-requires c κs = search needs
 
 returns : tie.Need-returns
 returns c =
-    let s = c .before .before .before .before .before .before .before in
+    let s = c .before .before .before .before .before .before .before .before in
     (unsound (s .args .self) (given s) (s .args .buffer .now) _ (c .before .record-check .ensures) (c .if1 .taken), fits s)
-
-is-lost-requires : tie.Need-is-lost-requires
-is-lost-requires c κs = search needs
 
 returns-2 : tie.Need-returns-2
 returns-2 c =
     let s = c .before .before .before .before .before .before .before .before .before in
-    (skipped (s .args .self) (given s) (s .args .buffer .now) (sound (c .before .before)) (sym (c .before .is-lost .ensures) ∙ c .if2 .taken), fits s)
+    (skipped (s .args .self) (given s) (s .args .buffer .now) (sound (c .before)) (sym (c .before .before .before .is-lost .ensures) ∙ c .if2 .taken), fits s)
 
 measure-frame-requires : tie.Need-measure-frame-requires
 measure-frame-requires c κs =
     let s = c .before .before .before .before .before .before .before .before .before in
-    puttable (s .args .self .version) (given s) (sound (c .before .before))
+    puttable (s .args .self .version) (given s) (sound (c .before))
 
 size-check-requires : tie.Need-size-check-requires
 size-check-requires c κs = search needs
@@ -61,14 +61,14 @@ returns-3 c =
     let s = c .before .before .before .before .before .before .before .before .before .before .before .before in
     let w = s .args .self in
     let size = c .before .size-check .ensures ∙ size-refusal (w .version) (w .mode) (given s) _ (c .before .before .measure-frame .ensures) in
-    (too-long w (given s) (s .args .buffer .now) (sound (c .before .before .before .before .before)) (kept (c .before .before .before)) _ size (c .if3 .taken), fits s)
+    (too-long w (given s) (s .args .buffer .now) (sound (c .before .before .before .before)) (kept (c .before .before .before)) _ size (c .if3 .taken), fits s)
 
 append-requires : tie.Need-append-requires
 append-requires c κs =
     let s = c .before .before .before .before .before .before .before .before .before .before .before .before .before in
     let w = s .args .self in
     let exact = exact-size (w .version) _ _ (c .before .before .before .measure-frame .ensures) (sym (c .before .before .size-check .ensures) ∙ c .before .if3 .left) in
-    (puttable (w .version) (given s) (sound (c .before .before .before .before .before .before)), (exact .0, exact .1))
+    (puttable (w .version) (given s) (sound (c .before .before .before .before .before)), (exact .0, exact .1))
 
 same-length : tie.Need-same-length
 same-length c = search needs
@@ -79,15 +79,15 @@ returns-4 c =
     let w = s .args .self in
     let none = sym (c .before .before .before .before .before .size-check .ensures) ∙ c .before .before .before .before .if3 .left in
     let size = sym (size-refusal (w .version) (w .mode) (given s) _ (c .before .before .before .before .before .before .measure-frame .ensures)) ∙ none in
-    (c .before .before .append .ensures ∙ appended w (given s) (s .args .buffer .now) (sound (c .before .before .before .before .before .before .before .before .before)) (kept (c .before .before .before .before .before .before .before)) size, fits s)
+    (c .before .before .append .ensures ∙ appended w (given s) (s .args .buffer .now) (sound (c .before .before .before .before .before .before .before .before)) (kept (c .before .before .before .before .before .before .before)) size, fits s)
 
 pub add-spec : {M : Type 1} → statement M
 add-spec =
     tie.close
     (tie.spec
+    is-lost-requires
     record-check-requires
     returns
-    is-lost-requires
     returns-2
     measure-frame-requires
     size-check-requires
