@@ -181,7 +181,7 @@ fn insert_bytes(buf: &mut [u8], at: usize, s: &[u8], from: usize, to: usize, how
 }
 
 // Stores what the edit makes of the bytes of s behind place from, up to place to. The answer is the place behind what is stored.
-// A block that the edit leaves alone is copied. Where it does not, the next bytes are edited one by one, the more the more often that was so.
+// A block that the edit leaves alone is copied. From one that it changes on, bytes are edited one by one, twice as many each time in a row.
 fn edit_after(buf: &mut [u8], at: usize, s: &[u8], from: usize, to: usize, how: How) -> usize
     requires { ⌜ (from < to) × (to ≤ length (now s)) × (1 ≤ at) ⌝ }
     requires { ⌜ at + length (editedAfter how (now s) from to) ≤ length (now buf) ⌝ }

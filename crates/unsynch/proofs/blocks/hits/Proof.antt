@@ -1,6 +1,6 @@
 -- `unsynch::blocks::hits` meets its contract. Assumes nothing.
 use mathlib.Core.Path.{_≡_, sym, ap, _∙_}
-use Prim.Native.Nat.{ℕ, _+_}
+use Prim.Native.Nat.{_+_}
 use Rattle.unsynch.specs.Edits.{hitsAfter}
 use Rattle.unsynch.proofs.Edits.{no-ff}
 use native.Mathlib.Omega.{arith}

@@ -1,11 +1,8 @@
 -- `unsynch::loops::edit_after` meets its contract. Assumes nothing.
-use mathlib.Core.Path.{_≡_, sym, ap, _∙_}
-use mathlib.Core.List.{List}
-use Prim.Native.Nat.{ℕ, _+_, _-_, _≤_, _<_}
-use lib.ListN.{length}
+use mathlib.Core.Path.{sym, _∙_}
+use Prim.Native.Nat.{_+_, _-_, _≤_, _<_}
 use Rattle.lists.proofs.Stores.{Storing, begin, lies, rest}
-use Rattle.unsynch.specs.Edits.{editedAfter, stored}
-use Rattle.unsynch.proofs.Edits.{left-alone}
+use Rattle.unsynch.specs.Edits.{editedAfter}
 use Rattle.unsynch.proofs.Turns.{piece, block}
 use borrow.Author.Needs.{needs}
 use native.Mathlib.Omega.{arith}

@@ -3,7 +3,6 @@ use mathlib.Core.Path.{_≡_, ap}
 use Prim.Native.Nat.{_+_, _-_, _≤_, _<_}
 use Rattle.unsynch.specs.Edits.{hitsAfter}
 use Rattle.unsynch.proofs.Edits.{few-after, hits-parted}
-use borrow.Author.Needs.{needs}
 use native.Mathlib.Omega.{arith}
 use Rattle.unsynch.proofs.loops.hits_after.Statement.{statement}
 use Rattle.unsynch.proofs.loops.hits_after.Tie as tie
