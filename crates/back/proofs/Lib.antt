@@ -1,0 +1,2 @@
+-- The promise of a record there and back.
+pub mod Trips

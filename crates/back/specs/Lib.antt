@@ -1,0 +1,2 @@
+-- A record there and back.
+pub mod Trips
