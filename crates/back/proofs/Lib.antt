@@ -1,2 +1,3 @@
--- The promise of a record there and back.
+-- The promise of a record there and back, and the calls put together.
 pub mod Trips
+pub mod Calls

@@ -1,16 +1,19 @@
 -- A record there and back: the calls are those of a written tag and of its reading, so the round trip says what they give. Assumes nothing.
 use mathlib.Core.Path.{_≡_, refl, sym, ap, _∙_}
-use Prim.Native.Nat.{ℕ, zero, suc, _^_, _≤_}
+use Prim.Native.Nat.{ℕ, zero, suc, _+_, _-_, _^_, _≤_}
 use native.Mathlib.Omega.{arith}
 use mathlib.Core.Bool.{Bool, true, false, _||_}
 use mathlib.Core.List.{List, [], _∷_}
-use lib.ListN.{length, take, length-take}
+use lib.ListN.{length, take, drop, length-take}
 use lib.Seq.{sets, slice, length-sets}
 use lib.Dec.{ltb, leb, eqb}
+use borrow.Author.Tests.{ltb-false}
+use Rattle.lists.proofs.Bools.{or-false}
 use Rattle.format.specs.Bytes.{pick}
-use Rattle.format.specs.Record.{Rec, Fits, viewOf}
+use Rattle.format.specs.Record.{partsOf, Rec, Fits, viewOf}
 use Rattle.format.specs.Encode.{regionBytes, tagOf}
-use Rattle.format.specs.Walk.{headOf, shownOf, onShown, frameOf}
+use Rattle.format.specs.Frame.{headOf}
+use Rattle.format.specs.Walk.{isResynced, shownKind, shownBody, bodyOf, walked, recordOf, shownOf, onShown, frameOf}
 use Rattle.format.specs.declared.Version.{Version}
 use Rattle.format.specs.declared.Head.{Head}
 use Rattle.format.specs.declared.Shown.{Shown}
@@ -47,7 +50,14 @@ module _ (r r′ : Reader) where
   unfolding onShown
   shown-still v inWork begin at s room Head.Nothing e = refl
   shown-still v inWork begin at s room (Head.Refused k) e = refl
-  shown-still v inWork begin at s room (Head.Found id compressed flagged short start len) e = absurd (none-shown _ _ _ e)
+  shown-still v inWork begin at s room (Head.Found id compressed flagged short start len) e =
+      let resynced = isResynced compressed flagged in
+      let stored = take len (drop start s) in
+      let kind = shownKind v id compressed in
+      let place = pick resynced 0 (at + start) in
+      let b = shownBody resynced stored in
+      let rec = recordOf id short compressed (at - begin) (resynced || inWork) place (length b) (partsOf v kind place b) in
+      absurd (none-shown (bodyOf resynced (walked false v 2) kind stored room .0) rec (at + (start + len)) e)
 
   run-still : (inWork : Bool) (tag work : List ℕ) → runStep inWork r tag work .0 ≡ Step.End r′ → runStep inWork r tag work .1 ≡ work
   unfolding frameOf
@@ -125,17 +135,26 @@ module _ (tag : List ℕ) (first : Rec) where
 
 -- ---- there and back
 
-finish-length : (w : Writer) (padding : ℕ) (buffer output : List ℕ) → length (finishOf w padding buffer output .1) ≡ length output
+-- the tag lies in the output
+abbrev pub Within : Wrote → List ℕ → Type 0
+Within (Wrote.Tag n) output = n ≤ length output
+Within (Wrote.Refused k) output = Unit {0}
+
+-- finishing leaves the output as long as it was, and the tag lies there
+pub finish-told : (w : Writer) (padding : ℕ) (buffer output : List ℕ) →
+    let o = finishOf w padding buffer output in (length (o .1) ≡ length output) × Within (wroteAs (o .0)) (o .1)
 unfolding finishOf
-finish-length w padding buffer output =
+finish-told w padding buffer output =
     let tag = tagOf (w .version) (w .mode) padding (take (w .used) buffer) in
-    by (leb (2 ^ 28) (length (regionBytes (w .version) (w .mode) padding (take (w .used) buffer)))) (ltb (length buffer) (w .used) || ltb (length output) (length tag)) tag
+    by tag (leb (2 ^ 28) (length (regionBytes (w .version) (w .mode) padding (take (w .used) buffer)))) (ltb (length buffer) (w .used) || ltb (length output) (length tag))
+    (λ t. ltb-false (length output) (length tag) (or-false (ltb (length buffer) (w .used)) (ltb (length output) (length tag)) t .1))
   where
-    by : (s t : Bool) (tag : List ℕ) → length ((pick {A = Finishing} s (Finished.Refused 24 w, output)
-        (pick t (Finished.Refused 20 w, output) (Finished.Done (length tag) w, sets output 0 tag))) .1) ≡ length output
-    by true t tag = refl
-    by false true tag = refl
-    by false false tag = length-sets output 0 tag
+    by : (tag : List ℕ) (s t : Bool) → (t ≡ false → length tag ≤ length output) →
+        let o : Finishing = pick s (Finished.Refused 24 w, output) (pick t (Finished.Refused 20 w, output) (Finished.Done (length tag) w, sets output 0 tag)) in
+        (length (o .1) ≡ length output) × Within (wroteAs (o .0)) (o .1)
+    by tag true t h = (refl, tt)
+    by tag false true h = (refl, tt)
+    by tag false false h = (length-sets output 0 tag, rw (length-sets output 0 tag) (h refl))
 
 as-kept : (r : Rec) (n : ℕ) (output : List ℕ) (o : Only) (work : List ℕ) → Shows r (take n output) o work → Kept r (backAs n o) output work
 as-kept r n output (Only.One rec) work h = h
@@ -163,7 +182,7 @@ module _ (version mode padding : ℕ) (r : Rec) (buffer output work : List ℕ) 
             finishes = e;
             reported = refl;
           } in
-          let long : length o ≡ length output = sym (ap (λ (z : Finishing). length (z .1)) e) ∙ finish-length w₁ padding b output in
+          let long : length o ≡ length output = sym (ap (λ (z : Finishing). length (z .1)) e) ∙ finish-told w₁ padding b output .0 in
           let there : length (take k o) ≤ length work = omega (arith, length-take k o) in
           as-kept r k o (readOf (take k o) work .0) (readOf (take k o) work .1)
           (read-shows (take k o) r work (round-trip version mode padding (r ∷ []) (take k o) work all there .0))

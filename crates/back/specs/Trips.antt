@@ -38,6 +38,11 @@ onBegun padding r buffer output (Begun.Refused k) = (Wrote.Refused k, (buffer, o
 unfoldable pub writeOf : ℕ → ℕ → ℕ → Rec → List ℕ → List ℕ → Writing
 writeOf version mode padding r buffer output = onBegun padding r buffer output (beginOf version mode false)
 
+-- the numbers of a record that was written are of the types that the code has for them
+abbrev pub FitsIn : Wrote → Rec → Type 0
+FitsIn (Wrote.Tag n) r = Fits (r .content)
+FitsIn (Wrote.Refused k) r = Unit {0}
+
 -- ---- reading: open, a step that shows a record, a step that meets the end
 
 -- the answer, and the work buffer

@@ -1,0 +1,46 @@
+-- `back::reading::read_one` meets its contract. Assumes nothing.
+use mathlib.Core.Path.{_∙_}
+use Rattle.back.specs.Trips.{onOpened, readOf}
+use Rattle.back.proofs.Calls.{answered}
+use borrow.Author.Needs.{needs}
+use Rattle.back.proofs.reading.read_one.Statement.{statement}
+use Rattle.back.proofs.reading.read_one.Tie as tie
+
+open-requires : tie.Need-open-requires
+open-requires c κs = search needs
+
+enum-known-opened : tie.Need-enum-known-opened
+enum-known-opened c = search needs
+
+first-requires : tie.Need-first-requires
+first-requires c κs = search needs
+
+enum-told : tie.Need-enum-told
+enum-told c = search needs
+
+same-length : tie.Need-same-length
+same-length c = search needs
+
+returns : tie.Need-returns
+unfolding readOf
+returns c = c .before .before .first .ensures ∙ answered (onOpened (c .before .before .before .before .before .before .before .before .before .before .before .before .before .args .tag .now)) (c .before .before .before .before .before .opened .given .1) (c .before .before .before .before .before .before .before .before .before .«open» .ensures)
+
+same-length-2 : tie.Need-same-length-2
+same-length-2 c = search needs
+
+returns-2 : tie.Need-returns-2
+unfolding readOf
+returns-2 c = answered (onOpened (c .before .before .before .before .before .before .before .before .args .tag .now)) (c .enum-told .given .1) (c .before .before .before .before .«open» .ensures)
+
+pub read-one-spec : {M : Type 1} → statement M
+read-one-spec =
+    tie.close
+    (tie.spec
+    open-requires
+    enum-known-opened
+    first-requires
+    enum-told
+    same-length
+    returns
+    same-length-2
+    returns-2)
