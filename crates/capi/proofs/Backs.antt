@@ -1,0 +1,166 @@
+-- What is stored in words is loaded again, and the words behind stay. Assumes nothing.
+use mathlib.Core.Path.{_≡_, refl, ap, _∙_}
+use Prim.Native.Nat.{ℕ, suc, _+_, _^_, _≤_, _<_}
+use native.Mathlib.Omega.{arith}
+use mathlib.Core.Bool.{Bool, true, false}
+use mathlib.Core.List.{List, [], _∷_, _++_}
+use lib.ListN.{length, set, getD, drop, List·getD-append}
+use lib.Seq.{sets, sets-eq, drop-set-lt}
+use lib.Dec.{leb, eqb}
+use borrow.Author.Tests.{le-leb, lt-ltb}
+use Rattle.format.specs.Header.{versionOf}
+use Rattle.format.specs.declared.Version.{Version}
+use Rattle.format.specs.declared.Mode.{Mode}
+use Rattle.format.specs.declared.Fields.{Fields}
+use Rattle.format.specs.declared.Record.{Record}
+use Rattle.reader.specs.declared.Header.{Header}
+use Rattle.reader.specs.declared.Stop.{Stop}
+use Rattle.reader.specs.declared.Reader.{Reader}
+use Rattle.writer.specs.Writer.{modeOf}
+use Rattle.writer.specs.declared.Writer.{Writer}
+use Rattle.capi.specs.declared.words.GivenReader.{GivenReader}
+use Rattle.capi.specs.declared.words.GivenWriter.{GivenWriter}
+use Rattle.capi.specs.declared.records.GivenFields.{GivenFields}
+use Rattle.capi.specs.declared.records.GivenHeading.{GivenHeading}
+use Rattle.capi.specs.Words.{word, flag, isFlag, isVersion, versionNumber, modeNumber, stopNumber, failure, isStop, stopOf, readerList, readerWords, readerOf, headerWords, writerList, writerWords, writerOf, numbersOf, headingList, placeList, recordWords, fieldsOf, headingOf, StopFits, FieldsFit, HeadingFits}
+
+-- ---- words
+
+-- a word that was stored
+stored : (words l : List ℕ) (i : ℕ) → i < length l → length l ≤ length words → word i (sets words 0 l) ≡ getD l i 0
+stored words l i h fits = ap (λ (m : List ℕ). getD m i 0) (sets-eq l words 0 (omega arith)) ∙ List·getD-append l (drop (0 + length l) words) 0 i h
+
+-- the words behind stay
+pub behind : (words : List ℕ) (p : ℕ) (l : List ℕ) (n : ℕ) → p + length l ≤ n → drop n (sets words p l) ≡ drop n words
+behind words p [] n h = refl
+behind words p (x ∷ l) n h = behind (set words p x) (suc p) l n (omega arith) ∙ drop-set-lt n words p x (omega arith)
+
+-- ---- single words
+
+version-known : (v : Version) → isVersion (versionNumber v) ≡ true
+version-known Version.Id3v22 = refl
+version-known Version.Id3v23 = refl
+version-known Version.Id3v24 = refl
+
+version-back : (v : Version) → versionOf (versionNumber v) ≡ v
+version-back Version.Id3v22 = refl
+version-back Version.Id3v23 = refl
+version-back Version.Id3v24 = refl
+
+flag-known : (b : Bool) → isFlag (flag b) ≡ true
+flag-known true = refl
+flag-known false = refl
+
+flag-back : (b : Bool) → eqb (flag b) 1 ≡ b
+flag-back true = refl
+flag-back false = refl
+
+mode-known : (m : Mode) → leb (modeNumber m) 2 ≡ true
+mode-known Mode.Off = refl
+mode-known Mode.Crate = refl
+mode-known Mode.Standard = refl
+
+mode-back : (m : Mode) → modeOf (modeNumber m) ≡ m
+mode-back Mode.Off = refl
+mode-back Mode.Crate = refl
+mode-back Mode.Standard = refl
+
+stop-known : (s : Stop) → StopFits s → isStop (stopNumber s) (failure s) ≡ true
+stop-known Stop.Running fits = refl
+stop-known Stop.Ended fits = refl
+stop-known (Stop.Failed k) fits = rw (le-leb 1 k (fits .0), le-leb k 255 (fits .1))
+
+stop-back : (s : Stop) → stopOf (stopNumber s) (failure s) ≡ s
+stop-back Stop.Running = refl
+stop-back Stop.Ended = refl
+stop-back (Stop.Failed k) = refl
+
+fields-back : (f : Fields) → FieldsFit f → fieldsOf (numbersOf f .kind) (numbersOf f .a) (numbersOf f .b) (numbersOf f .c) (numbersOf f .d) (numbersOf f .e) ≡ GivenFields.Good f
+unfolding fieldsOf
+fields-back (Fields.Text e) fits = rw (lt-ltb e 256 fits)
+fields-back (Fields.Popularimeter r c) fits = rw (lt-ltb r 256 fits)
+fields-back (Fields.Table f b m v w) fits = rw (lt-ltb f (2 ^ 16) (fits .0), lt-ltb b (2 ^ 32) (fits .1), lt-ltb m (2 ^ 32) (fits .2), lt-ltb v 256 (fits .3), lt-ltb w 256 (fits .4))
+fields-back (Fields.Chapter a b c d) fits = rw (lt-ltb a (2 ^ 32) (fits .0), lt-ltb b (2 ^ 32) (fits .1), lt-ltb c (2 ^ 32) (fits .2), lt-ltb d (2 ^ 32) (fits .3))
+fields-back (Fields.Contents t o) fits = rw (flag-known t, flag-known o, flag-back t, flag-back o)
+fields-back Fields.Raw fits = refl
+
+-- ---- readers, writers and headings
+
+pub reader-back : (r : Reader) (words : List ℕ) → 7 ≤ length words → StopFits (r .stop) → readerOf (readerWords r words) ≡ GivenReader.Good r
+unfolding readerOf readerWords
+reader-back r words h fits =
+    let at : (i : ℕ) → i < 7 → word i (sets words 0 (readerList r)) ≡ getD (readerList r) i 0 = λ i k. stored words (readerList r) i k h in
+    rw (
+      at 0 (omega arith),
+      at 1 (omega arith),
+      at 2 (omega arith),
+      at 3 (omega arith),
+      at 4 (omega arith),
+      at 5 (omega arith),
+      at 6 (omega arith),
+      version-known (r .version),
+      version-back (r .version),
+      flag-known (r .in_work),
+      flag-back (r .in_work),
+      stop-known (r .stop) fits,
+      stop-back (r .stop),
+    )
+
+pub writer-back : (w : Writer) (words : List ℕ) → 4 ≤ length words → writerOf (writerWords w words) ≡ GivenWriter.Good w
+unfolding writerOf writerWords
+writer-back w words h =
+    let at : (i : ℕ) → i < 4 → word i (sets words 0 (writerList w)) ≡ getD (writerList w) i 0 = λ i k. stored words (writerList w) i k h in
+    rw (
+      at 0 (omega arith),
+      at 1 (omega arith),
+      at 2 (omega arith),
+      at 3 (omega arith),
+      version-known (w .version),
+      version-back (w .version),
+      mode-known (w .mode),
+      mode-back (w .mode),
+      flag-known (w .altered),
+      flag-back (w .altered),
+    )
+
+-- what a step stores as a record, adding takes for the same heading
+pub heading-back : (r : Record) (words : List ℕ) → 19 ≤ length words → HeadingFits (r .heading) → headingOf (recordWords r words) ≡ GivenHeading.Good (r .heading)
+unfolding headingOf recordWords
+heading-back r words h fits =
+    let l = headingList (r .heading) ++ placeList r in
+    let at : (i : ℕ) → i < 19 → word i (sets words 0 l) ≡ getD l i 0 = λ i k. stored words l i k h in
+    rw (
+      at 0 (omega arith),
+      at 1 (omega arith),
+      at 2 (omega arith),
+      at 3 (omega arith),
+      at 4 (omega arith),
+      at 5 (omega arith),
+      at 6 (omega arith),
+      at 7 (omega arith),
+      at 8 (omega arith),
+      lt-ltb (r .heading .id) (2 ^ 32) (fits .0),
+      flag-known (r .heading .short),
+      flag-back (r .heading .short),
+      flag-known (r .heading .compressed),
+      flag-back (r .heading .compressed),
+      fields-back (r .heading .fields) (fits .1),
+    )
+
+-- ---- the words behind those that are named
+
+pub header-behind : (h : Header) (words : List ℕ) → drop 4 (headerWords h words) ≡ drop 4 words
+unfolding headerWords
+header-behind h words = behind words 0 (versionNumber (h .version) ∷ h .flags ∷ h .size ∷ h .ext ∷ []) 4 (omega arith)
+
+pub reader-behind : (r : Reader) (words : List ℕ) → drop 7 (readerWords r words) ≡ drop 7 words
+unfolding readerWords
+reader-behind r words = behind words 0 (readerList r) 7 (omega arith)
+
+pub writer-behind : (w : Writer) (words : List ℕ) → drop 4 (writerWords w words) ≡ drop 4 words
+unfolding writerWords
+writer-behind w words = behind words 0 (writerList w) 4 (omega arith)
+
+pub record-behind : (r : Record) (words : List ℕ) → drop 19 (recordWords r words) ≡ drop 19 words
+unfolding recordWords
+record-behind r words = behind words 0 (headingList (r .heading) ++ placeList r) 19 (omega arith)

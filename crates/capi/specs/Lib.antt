@@ -1,0 +1,3 @@
+-- What the exported functions answer, and the words that they lend on.
+pub mod Words
+pub mod Calls
