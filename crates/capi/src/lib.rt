@@ -5,23 +5,43 @@ mod words;
 
 use crate::records::GivenHeading;
 use crate::records::load_heading;
+use crate::records::store_record;
+use crate::words::GivenReader;
+use crate::words::GivenWriter;
+use crate::words::load_reader;
+use crate::words::load_writer;
 use crate::words::store_header;
 use crate::words::store_reader;
+use crate::words::store_writer;
 use format::Fields;
 use format::refusals::NO_ROOM;
+use format::refusals::UNKNOWN_VERSION;
 use format::refusals::WRONG_ID;
 use frame::table::Put;
 use frame::table::unpack;
 use reader::Headed;
 use reader::Opened;
+use reader::Step;
+use writer::Added;
+use writer::Begun;
+use writer::Finished;
 ghost use mathlib.Core.Path.{_≡_};
-ghost use Rattle.capi.specs.Calls.{svHeader, svOpen, referencesOf, svReferences};
+ghost use Rattle.capi.specs.Calls.{svHeader, svOpen, svStep, svBegin, svAdd, svFinish, referencesOf, svReferences};
 
 // Fewer words than a call takes.
 const SHORT: u32 = NO_ROOM as u32;
 
+// Words that are no state of a reader or a writer.
+const NO_STATE: u32 = UNKNOWN_VERSION as u32;
+
 // Words that are no record.
 const NO_RECORD: u32 = WRONG_ID as u32;
+
+// The end of a tag's frames.
+const END: u32 = 256;
+
+// The count of a refused call.
+const NONE: u64 = 0;
 
 // How many words there are of each.
 const HEADER: usize = 4;
@@ -29,6 +49,8 @@ const HEADER: usize = 4;
 const READER: usize = 7;
 
 const RECORD: usize = 19;
+
+const WRITER: usize = 4;
 
 const COUNT: usize = 1;
 
@@ -68,6 +90,134 @@ pub extern "C" fn sv_open(tag: &[u8], work: &mut [u8], reader: &mut [u64]) -> u3
     }
 }
 
+// Reads the next frame into the record's words. The reader's words then say the moved reader, or why it has stopped.
+#[no_mangle]
+pub extern "C" fn sv_step(
+    tag: &[u8],
+    work: &mut [u8],
+    reader: &mut [u64],
+    record: &mut [u64],
+) -> u32
+    ensures { λ r. ⌜ (r, now (work .exit), now (reader .exit), now («record» .exit)) ≡ svStep (now (tag .entry)) (now (work .entry)) (now (reader .entry)) (now («record» .entry)) ⌝ }
+{
+    if (reader.len() < READER) | (record.len() < RECORD) {
+        return SHORT;
+    }
+    let given = load_reader(reader);
+    let GivenReader::Good(r) = given else {
+        return NO_STATE;
+    };
+    let step = r.step(work, tag);
+    match step {
+        Step::Frame(found, next) => {
+            store_reader(reader, next);
+            store_record(record, found);
+            0
+        }
+        Step::End(ended) => {
+            store_reader(reader, ended);
+            END
+        }
+        Step::Refused(k, failed) => {
+            store_reader(reader, failed);
+            k as u32
+        }
+    }
+}
+
+// Begins a writer: version 2, 3 or 4, mode 0 (off), 1 (crate) or 2 (standard), altered 0 or 1.
+#[no_mangle]
+pub extern "C" fn sv_begin(version: u64, mode: u64, altered: u64, writer: &mut [u64]) -> u32
+    ensures { λ r. ⌜ (r, now (writer .exit)) ≡ svBegin version mode altered (now (writer .entry)) ⌝ }
+{
+    if writer.len() < WRITER {
+        return SHORT;
+    }
+    if altered > 1 {
+        return NO_STATE;
+    }
+    if version > 4 {
+        return NO_STATE;
+    }
+    if mode > 2 {
+        return NO_STATE;
+    }
+    let begun = writer::begin::begin(version as u8, mode as u8, altered == 1);
+    match begun {
+        Begun::Ready(w) => {
+            store_writer(writer, w);
+            0
+        }
+        Begun::Refused(k) => k as u32,
+    }
+}
+
+// Adds a record behind the frames that the collecting buffer holds. The count is how many bytes it took there.
+#[no_mangle]
+pub extern "C" fn sv_add(
+    record: &[u64],
+    name: &[u8],
+    names: &[u8],
+    rest: &[u8],
+    deviations: &[u32],
+    buffer: &mut [u8],
+    writer: &mut [u64],
+    count: &mut [u64],
+) -> u32
+    ensures { λ r. ⌜ (r, now (buffer .exit), now (writer .exit), now (count .exit)) ≡ svAdd (now («record» .entry)) (now (name .entry)) (now (names .entry)) (now (rest .entry)) (now (deviations .entry)) (now (buffer .entry)) (now (writer .entry)) (now (count .entry)) ⌝ }
+{
+    if (record.len() < RECORD) | ((writer.len() < WRITER) | (count.len() < COUNT)) {
+        return SHORT;
+    }
+    count[0] = NONE;
+    let state = load_writer(writer);
+    let GivenWriter::Good(w) = state else {
+        return NO_STATE;
+    };
+    let given = load_heading(record);
+    let GivenHeading::Good(h) = given else {
+        return NO_RECORD;
+    };
+    let added = w.add(buffer, h, name, names, rest, deviations);
+    match added {
+        Added::Accepted(n, next) => {
+            store_writer(writer, next);
+            count[0] = n as u64;
+            0
+        }
+        Added::Refused(k, _) => k as u32,
+    }
+}
+
+// Finishes a tag: its header, the frames of the collecting buffer and the padding. The count is how many bytes these are.
+#[no_mangle]
+pub extern "C" fn sv_finish(
+    padding: u64,
+    buffer: &[u8],
+    output: &mut [u8],
+    writer: &[u64],
+    count: &mut [u64],
+) -> u32
+    ensures { λ r. ⌜ (r, now (output .exit), now (count .exit)) ≡ svFinish padding (now (buffer .entry)) (now (output .entry)) (now (writer .entry)) (now (count .entry)) ⌝ }
+{
+    if (writer.len() < WRITER) | (count.len() < COUNT) {
+        return SHORT;
+    }
+    count[0] = NONE;
+    let state = load_writer(writer);
+    let GivenWriter::Good(w) = state else {
+        return NO_STATE;
+    };
+    let finished = w.finish(output, buffer, padding as usize);
+    match finished {
+        Finished::Done(n, _) => {
+            count[0] = n as u64;
+            0
+        }
+        Finished::Refused(k, _) => k as u32,
+    }
+}
+
 // Puts the deviations of a table to the front of a buffer that has the room; other fields have none.
 fn references(out: &mut [u32], fields: Fields, rest: &[u8]) -> Put
     ensures { λ r. ⌜ (r, now (out .exit)) ≡ referencesOf fields (now (rest .entry)) (now (out .entry)) ⌝ }
@@ -95,7 +245,7 @@ pub extern "C" fn sv_references(
     if (record.len() < RECORD) | (count.len() < COUNT) {
         return SHORT;
     }
-    count[0] = 0;
+    count[0] = NONE;
     let given = load_heading(record);
     let GivenHeading::Good(h) = given else {
         return NO_RECORD;
