@@ -1,0 +1,75 @@
+//! Makes the files below `samples/`: a month's folder that is read whole, and files that are damaged.
+//!
+//!     cargo run --example make_samples -- ../samples
+//!
+//! `tests/samples.rs` holds the files there against what this makes.
+
+use std::path::{Path, PathBuf};
+use std::{fs, io};
+use streamvault::{Content, Encoding, Id, Mode, Refusal, Version, Writer};
+
+/// What stands for the sound behind a tag: the head of an MPEG frame, and silence.
+const SOUND: [u8; 16] = [0xFF, 0xFB, 0x90, 0x64, 0, 0, 0, 0, 0, 0, 0, 0, 0, 0, 0, 0];
+
+fn main() -> Result<(), Box<dyn std::error::Error>> {
+    let Some(folder) = std::env::args_os().nth(1) else {
+        return Err("name the folder to make them in".into());
+    };
+    for (name, bytes) in samples()? {
+        write(&Path::new(&folder).join(name), &bytes)?;
+    }
+    Ok(())
+}
+
+fn write(path: &Path, bytes: &[u8]) -> io::Result<()> {
+    if let Some(folder) = path.parent() {
+        fs::create_dir_all(folder)?;
+    }
+    fs::write(path, bytes)
+}
+
+/// Every file with its bytes.
+pub fn samples() -> Result<Vec<(PathBuf, Vec<u8>)>, Refusal> {
+    let old = tag(Version::Id3v22, Mode::Off, "Old song", &[(b"room 1", 17)])?;
+    let one = tag(Version::Id3v24, Mode::Off, "First song", &[(b"room 1", 125)])?;
+    let two = tag(Version::Id3v23, Mode::Standard, "Second song", &[(b"room 2", 65_280)])?;
+    let shared = [(&b"room 1"[..], 1 << 32), (b"room 2", 3), (b"caf\xE9", 0)];
+    let three = tag(Version::Id3v24, Mode::Standard, "Third song", &shared)?;
+    let last_cut = |tag: &[u8]| tag[..tag.len() - PADDING - 1].to_vec();
+    Ok(vec![
+        ("march/archive/old.mp3".into(), file(&old)),
+        ("march/first.mp3".into(), file(&one)),
+        ("march/second.mp3".into(), file(&two)),
+        ("march/third.mp3".into(), file(&three)),
+        ("march/no-tag.mp3".into(), SOUND.to_vec()),
+        (
+            "damaged/short.mp3".into(),
+            last_cut(&tag(Version::Id3v24, Mode::Off, "Cut", &[(b"room 1", 7), (b"room 2", 300)])?),
+        ),
+        (
+            "damaged/refused.mp3".into(),
+            last_cut(&tag(Version::Id3v23, Mode::Off, "Cut", &[(b"room 1", 7), (b"room 2", 300)])?),
+        ),
+    ])
+}
+
+/// Zeros behind the frames of a tag.
+const PADDING: usize = 8;
+
+/// A tag with a title and popularimeters.
+fn tag(version: Version, mode: Mode, title: &str, users: &[(&[u8], u64)]) -> Result<Vec<u8>, Refusal> {
+    let three = version == Version::Id3v22;
+    let (title_id, user_id) =
+        if three { (Id::from(b"TT2"), Id::from(b"POP")) } else { (Id::from(b"TIT2"), Id::from(b"POPM")) };
+    let mut writer = Writer::new(version, mode);
+    writer.add(title_id, &Content::Text { encoding: Encoding::Latin1, text: title.as_bytes() })?;
+    for &(user, counter) in users {
+        writer.add(user_id, &Content::Popularimeter { user, rating: 0, counter })?;
+    }
+    writer.finish(PADDING)
+}
+
+/// A tag with sound behind it.
+fn file(tag: &[u8]) -> Vec<u8> {
+    [tag, &SOUND].concat()
+}

@@ -1,0 +1,141 @@
+//! Hard use of the C interface: random and damaged tags, words that no call leaves, buffers of every small length.
+//!
+//! Every buffer lies beside pages that may not be touched. Every answer is held against the rules of the interface, and
+//! every buffer against what a call may change. The numbers are the same in each run; `STREAMVAULT_HARD_CASES` says how many
+//! cases there are (20,000 if it does not), `STREAMVAULT_HARD_FROM` with which the run begins.
+
+#[path = "../common/mod.rs"]
+mod common;
+mod fence;
+mod reading;
+mod tags;
+mod words;
+mod writing;
+
+use common::Numbers;
+use fence::Fenced;
+use std::collections::BTreeSet;
+use streamvault::sys::SV_END;
+
+/// What each function may answer, apart from the number that a refused reader keeps. 32 cannot be met, since no width is
+/// over 32.
+const HEADERS: &[u32] = &[0, 1, 2, 3, 4, 5, 6, 20];
+const OPENS: &[u32] = &[0, 1, 2, 3, 4, 5, 6, 14, 20];
+const STEPS: &[u32] = &[0, SV_END, 2, 5, 7, 8, 9, 10, 11, 12, 13, 14, 20, 30, 31];
+const BEGINS: &[u32] = &[0, 2, 20];
+const ADDS: &[u32] = &[0, 2, 12, 20, 21, 22, 23, 24, 25, 26, 27, 28, 29, 30, 31, 33, 34];
+const FINISHES: &[u32] = &[0, 2, 20, 24];
+const REFERENCES: &[u32] = &[0, 20, 21, 30];
+
+/// What only bodies of 2^24 and 2^28 bytes are answered, which are not made here.
+const NOT_MET: [(&str, u32); 2] = [("add", 23), ("add", 24)];
+
+fn setting(name: &str, otherwise: u64) -> u64 {
+    match std::env::var(name) {
+        Ok(text) => text.parse().unwrap_or_else(|_| panic!("{name} is no number: {text}")),
+        Err(_) => otherwise,
+    }
+}
+
+/// Says which case it was when a check fails.
+struct Case(u64);
+
+impl Drop for Case {
+    fn drop(&mut self) {
+        if std::thread::panicking() {
+            eprintln!("in case {}: STREAMVAULT_HARD_FROM={} begins with it", self.0, self.0);
+        }
+    }
+}
+
+#[test]
+fn hard_use() {
+    let from = setting("STREAMVAULT_HARD_FROM", 0);
+    let cases = setting("STREAMVAULT_HARD_CASES", 20_000);
+    let mut buffers = Buffers::new();
+    for number in from..from + cases {
+        let _case = Case(number);
+        let mut numbers = Numbers(number.wrapping_mul(0x1000_0000_01B3));
+        match number % 8 {
+            0 | 1 => buffers.reading(&mut numbers),
+            2 => buffers.step_from_any_words(&mut numbers),
+            3 => buffers.header(&mut numbers),
+            4 => buffers.begin(&mut numbers),
+            5 => buffers.add(&mut numbers),
+            6 => buffers.finish(&mut numbers),
+            _ => buffers.references(&mut numbers),
+        }
+    }
+    if cases >= 20_000 {
+        buffers.all_was_met();
+    }
+}
+
+#[test]
+fn what_is_accepted_is_read_back() {
+    let cases = setting("STREAMVAULT_HARD_CASES", 20_000) / 20;
+    for number in 0..cases {
+        let _case = Case(number);
+        tags::there_and_back(&mut Numbers(number ^ 0xBAC4));
+    }
+}
+
+// ---- buffers and calls
+
+/// A buffer for each parameter; `state` holds the words of a header, a reader or a writer.
+struct Buffers {
+    tag: Fenced<u8>,
+    work: Fenced<u8>,
+    output: Fenced<u8>,
+    name: Fenced<u8>,
+    names: Fenced<u8>,
+    rest: Fenced<u8>,
+    deviations: Fenced<u32>,
+    state: Fenced<u64>,
+    record: Fenced<u64>,
+    count: Fenced<u64>,
+    /// Every answer that was met, by the function's name.
+    met: BTreeSet<(&'static str, u32)>,
+}
+
+impl Buffers {
+    fn new() -> Buffers {
+        Buffers {
+            tag: Fenced::new(),
+            work: Fenced::new(),
+            output: Fenced::new(),
+            name: Fenced::new(),
+            names: Fenced::new(),
+            rest: Fenced::new(),
+            deviations: Fenced::new(),
+            state: Fenced::new(),
+            record: Fenced::new(),
+            count: Fenced::new(),
+            met: BTreeSet::new(),
+        }
+    }
+
+    /// Notes an answer, which has to be one that the function may give.
+    fn meet(&mut self, name: &'static str, may: &[u32], answer: u32) {
+        assert!(may.contains(&answer), "{name} answered {answer}");
+        self.met.insert((name, answer));
+    }
+
+    /// Every answer was met: the cases are not all of one sort.
+    fn all_was_met(&self) {
+        let functions = [
+            ("header", HEADERS),
+            ("open", OPENS),
+            ("step", STEPS),
+            ("begin", BEGINS),
+            ("add", ADDS),
+            ("finish", FINISHES),
+            ("references", REFERENCES),
+        ];
+        for (name, may) in functions {
+            let wanted = may.iter().map(|answer| (name, *answer)).filter(|case| !NOT_MET.contains(case));
+            let missing: Vec<_> = wanted.filter(|case| !self.met.contains(case)).collect();
+            assert!(missing.is_empty(), "not met: {missing:?}");
+        }
+    }
+}

@@ -1,0 +1,258 @@
+//! Tags and records for hard use: well formed, cut, damaged and senseless.
+
+use crate::common::Numbers;
+use streamvault::sys::*;
+use streamvault::{read, references, Content, Encoding, Id, Mode, Record, Refusal, Table, Version, Writer};
+
+/// A number that four characters make.
+const fn id4(id: &[u8; 4]) -> u64 {
+    u32::from_be_bytes(*id) as u64
+}
+
+/// A number that three characters make.
+const fn id3(id: &[u8; 3]) -> u64 {
+    u32::from_be_bytes([0, id[0], id[1], id[2]]) as u64
+}
+
+/// Kinds with ids that fit them in some edition, and some that fit in none.
+pub const KINDS_AND_IDS: [(u64, u64); 16] = [
+    (SV_KIND_TEXT, id4(b"TIT2")),
+    (SV_KIND_TEXT, id4(b"TLEN")),
+    (SV_KIND_TEXT, id3(b"TT2")),
+    (SV_KIND_TEXT, id4(b"TXXX")),
+    (SV_KIND_POPULARIMETER, id4(b"POPM")),
+    (SV_KIND_POPULARIMETER, id3(b"POP")),
+    (SV_KIND_TABLE, id4(b"MLLT")),
+    (SV_KIND_TABLE, id3(b"MLL")),
+    (SV_KIND_CHAPTER, id4(b"CHAP")),
+    (SV_KIND_CHAPTER, id4(b"POPM")),
+    (SV_KIND_CONTENTS, id4(b"CTOC")),
+    (SV_KIND_RAW, id4(b"PRIV")),
+    (SV_KIND_RAW, id4(b"TXXX")),
+    (SV_KIND_RAW, id3(b"UFI")),
+    (SV_KIND_RAW, id4(b"TIT2")),
+    (SV_KIND_RAW, id4(b"\xC3\xA9AB")),
+];
+
+/// Bytes for a part of a record: none, a few, or a run of frames.
+pub fn part(numbers: &mut Numbers) -> Vec<u8> {
+    match numbers.below(5) {
+        0 => Vec::new(),
+        1 => b"name".to_vec(),
+        2 => b"one\0two\0".to_vec(),
+        3 => frames(numbers, 3, 3),
+        _ => {
+            let len = numbers.below(20);
+            numbers.bytes(len)
+        }
+    }
+}
+
+/// A tag of any sort.
+pub fn any(numbers: &mut Numbers) -> Vec<u8> {
+    let mut tag = match numbers.below(8) {
+        0 => {
+            let len = numbers.below(40);
+            numbers.bytes(len)
+        }
+        1 => Vec::new(),
+        2 | 3 => written(numbers).map_or_else(|_| Vec::new(), |(tag, _)| tag),
+        _ => made(numbers),
+    };
+    match numbers.below(4) {
+        0 => {
+            let len = numbers.below(tag.len() + 1);
+            tag.truncate(len);
+        }
+        1 => damage(numbers, &mut tag),
+        _ => {}
+    }
+    tag
+}
+
+/// Changes a few bytes.
+fn damage(numbers: &mut Numbers, tag: &mut [u8]) {
+    for _ in 0..numbers.below(4) {
+        if !tag.is_empty() {
+            let at = numbers.below(tag.len());
+            tag[at] = numbers.byte();
+        }
+    }
+}
+
+/// A tag whose header is mostly right, around frames with any flags.
+fn made(numbers: &mut Numbers) -> Vec<u8> {
+    let edition = 2 + numbers.below(3) as u8;
+    let flags = *numbers.one(&[0, 0, 0, 0x80, 0x80, 0x40, 0xC0, 0x20, 0x01]);
+    let mut region = Vec::new();
+    if flags & 0x40 != 0 {
+        region.extend([0, 0, 0, *numbers.one(&[5, 6, 10, 20]), 0, 0]);
+    }
+    region.extend(frames(numbers, edition, 4));
+    region.extend(vec![0; numbers.below(12)]);
+    let size = if numbers.once_in(8) { numbers.below(300) } else { region.len() };
+    let mut tag = b"ID3".to_vec();
+    tag.extend([edition, 0, flags]);
+    tag.extend(synchsafe(size));
+    tag.extend(region);
+    tag
+}
+
+fn synchsafe(n: usize) -> [u8; 4] {
+    [n >> 21, n >> 14, n >> 7, n].map(|byte| byte as u8 & 0x7F)
+}
+
+/// Frames one after another, chapters among them down to a depth.
+fn frames(numbers: &mut Numbers, edition: u8, depth: usize) -> Vec<u8> {
+    if numbers.once_in(30) {
+        return nested(numbers, edition);
+    }
+    (0..numbers.below(4)).flat_map(|_| frame(numbers, edition, depth)).collect()
+}
+
+fn frame(numbers: &mut Numbers, edition: u8, depth: usize) -> Vec<u8> {
+    let (kind, id) = *numbers.one(&KINDS_AND_IDS);
+    let body = body(numbers, kind, edition, depth);
+    let flags =
+        if numbers.once_in(2) { 0 } else { *numbers.one(&[1, 2, 2, 2, 3, 8, 9, 10, 0x80, 0x80, 4, 0x20, 0x40]) };
+    let size = if numbers.once_in(12) { *numbers.one(&[0, 3, 4, 40, 200]) } else { body.len() };
+    [&head(edition, id, size, flags)[..], &body].concat()
+}
+
+/// The header of a frame.
+fn head(edition: u8, id: u64, size: usize, flags: u8) -> Vec<u8> {
+    let (id, plain) = ((id as u32).to_be_bytes(), (size as u32).to_be_bytes());
+    match edition {
+        2 => [&id[1..], &plain[1..]].concat(),
+        3 => [&id[..], &plain, &[0, flags]].concat(),
+        _ => [&id[..], &synchsafe(size), &[0, flags]].concat(),
+    }
+}
+
+/// Chapters inside one another, about as deep as they may be.
+fn nested(numbers: &mut Numbers, edition: u8) -> Vec<u8> {
+    let mut run = Vec::new();
+    for _ in 0..7 + numbers.below(4) {
+        let body = [&[0; 17][..], &run].concat();
+        let flags = *numbers.one(&[0, 0, 2]);
+        run = [&head(edition, id4(b"CHAP"), body.len(), flags)[..], &body].concat();
+    }
+    run
+}
+
+/// A body that mostly fits its kind.
+fn body(numbers: &mut Numbers, kind: u64, edition: u8, depth: usize) -> Vec<u8> {
+    let len = numbers.below(12);
+    let some = numbers.bytes(len);
+    let inner = if depth == 0 { Vec::new() } else { frames(numbers, edition, depth - 1) };
+    match kind {
+        SV_KIND_TEXT => [&[numbers.below(5) as u8], &some[..]].concat(),
+        SV_KIND_POPULARIMETER => [b"user\0", &some[..]].concat(),
+        SV_KIND_TABLE => {
+            let widths = [numbers.below(34) as u8, 4 * numbers.below(9) as u8];
+            [&[0, 1, 0, 0, 2, 0, 0, 3], &widths[..], &some].concat()
+        }
+        SV_KIND_CHAPTER => [&b"c\0"[..], &[0; 16], &inner].concat(),
+        SV_KIND_CONTENTS => [&b"t\0\x03\x02a\0b\0"[..], &inner].concat(),
+        _ => some,
+    }
+}
+
+// ---- records
+
+/// A tag that was written, and the records that were accepted.
+pub fn written(numbers: &mut Numbers) -> Result<(Vec<u8>, Vec<Record>), Refusal> {
+    let version = *numbers.one(&[Version::Id3v22, Version::Id3v23, Version::Id3v24]);
+    let mode = *numbers.one(&[Mode::Off, Mode::Crate, Mode::Standard]);
+    let mut writer = Writer::new(version, mode);
+    let mut accepted = Vec::new();
+    for _ in 0..numbers.below(6) {
+        let record = record(numbers, version);
+        if writer.add_record(&record).is_ok() {
+            accepted.push(record);
+        }
+    }
+    let tag = writer.finish(numbers.below(16))?;
+    Ok((tag, accepted))
+}
+
+/// A record that is mostly accepted.
+fn record(numbers: &mut Numbers, version: Version) -> Record {
+    let kind = numbers.below(6) as u64;
+    let three = version == Version::Id3v22;
+    let fits = |(of, id): &&(u64, u64)| *of == kind && (*id < 1 << 24) == three;
+    let ids: Vec<_> = KINDS_AND_IDS.iter().filter(fits).map(|(_, id)| *id as u32).collect();
+    let id = if ids.is_empty() { Id::from(b"PRIV") } else { Id::from_number(*numbers.one(&ids)) };
+    Record::new(id, content(numbers, kind, version))
+}
+
+fn content(numbers: &mut Numbers, kind: u64, version: Version) -> Content<Vec<u8>> {
+    let len = numbers.below(12);
+    let some = numbers.bytes(len);
+    let name: Vec<u8> = numbers.bytes(4).into_iter().filter(|byte| *byte != 0).collect();
+    let run = run(numbers, version);
+    match kind {
+        SV_KIND_TEXT => {
+            let encoding = *numbers.one(&[Encoding::Latin1, Encoding::Utf16, Encoding::Utf16Be, Encoding::Utf8]);
+            Content::Text { encoding, text: some }
+        }
+        SV_KIND_POPULARIMETER => {
+            let counter = numbers.any() >> numbers.below(64);
+            Content::Popularimeter { user: name, rating: numbers.byte(), counter }
+        }
+        SV_KIND_TABLE => table(numbers, some),
+        SV_KIND_CHAPTER => {
+            let [start_time, end_time, start_offset, end_offset] = [(); 4].map(|()| numbers.any() as u32);
+            Content::Chapter { element: name, start_time, end_time, start_offset, end_offset, run }
+        }
+        SV_KIND_CONTENTS => Content::Contents {
+            element: name,
+            top_level: numbers.once_in(2),
+            ordered: numbers.once_in(2),
+            children: b"a\0bb\0"[..*numbers.one(&[0, 2, 5])].to_vec(),
+            run,
+        },
+        _ => Content::Raw { body: some },
+    }
+}
+
+fn table(numbers: &mut Numbers, packed: Vec<u8>) -> Content<Vec<u8>> {
+    let bits_for_bytes = 1 + numbers.below(32) as u8;
+    let bits_for_millis = 4 - bits_for_bytes % 4 + 4 * numbers.below(7) as u8;
+    let [bytes, millis] = [(); 2].map(|()| numbers.any() as u32 >> 8);
+    let table = Table { frames: numbers.any() as u16, bytes, millis, bits_for_bytes, bits_for_millis };
+    Content::Table { table, packed }
+}
+
+/// A run of subframes as a writer makes it.
+fn run(numbers: &mut Numbers, version: Version) -> Vec<u8> {
+    if version == Version::Id3v22 || numbers.once_in(2) {
+        return Vec::new();
+    }
+    let mut writer = Writer::new(version, Mode::Off);
+    let text = Content::Text { encoding: Encoding::Latin1, text: b"inner" };
+    let counter = Content::Popularimeter { user: b"inner", rating: 1, counter: numbers.any() };
+    let both = writer.add(b"TIT2", &text).and_then(|_| writer.add(b"POPM", &counter));
+    both.and_then(|_| writer.finish(0)).map_or_else(|_| Vec::new(), |tag| tag[10..].to_vec())
+}
+
+/// Writes records and reads them back: what was accepted is there, in order, whole and equal.
+pub fn there_and_back(numbers: &mut Numbers) {
+    let (tag, accepted) = written(numbers).expect("a small tag is finished");
+    let found = read(&tag).expect("a finished tag is read");
+    assert_eq!(found.len(), accepted.len());
+    for (found, accepted) in found.iter().zip(&accepted) {
+        assert_eq!(compared(found), compared(accepted));
+    }
+}
+
+/// A record with its references unpacked: bits behind the last one are not written.
+fn compared(record: &Record) -> (Record, Vec<streamvault::Reference>) {
+    let mut record = record.clone();
+    let mut unpacked = Vec::new();
+    if let Content::Table { table, packed } = &mut record.content {
+        unpacked = references(table, packed).expect("the widths were accepted");
+        packed.clear();
+    }
+    (record, unpacked)
+}
