@@ -41,6 +41,7 @@ fn refuse_other_targets() {
 fn archive() -> PathBuf {
     if let Some(folder) = env::var_os("STREAMVAULT_LIB_DIR") {
         let path = Path::new(&folder).join(ARCHIVE);
+        println!("cargo:rerun-if-changed={}", path.display());
         return given(path, "STREAMVAULT_LIB_DIR names a folder without it");
     }
     let root = Path::new(&variable("CARGO_MANIFEST_DIR")).join("..");
@@ -51,6 +52,7 @@ fn archive() -> PathBuf {
         prove(&root);
         return given(left, "rt staticlib capi left none");
     }
+    println!("cargo:rerun-if-changed={}", left.display());
     given(
         left,
         "rt is not on the path to build it. Run `rt staticlib capi` in the repository, or name its folder by STREAMVAULT_LIB_DIR",

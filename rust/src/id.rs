@@ -74,7 +74,7 @@ mod tests {
     #[test]
     fn ids_of_three_and_four_bytes() {
         assert_eq!(Id::from(b"TT2").as_bytes(), b"TT2");
-        assert_eq!(Id::of(0x54_54_32), Id::from(b"TT2"));
+        assert_eq!(Id::of(0x0054_5432), Id::from(b"TT2"));
         assert_eq!(Id::of(0x5449_5432), Id::from(b"TIT2"));
         assert_ne!(Id::from(b"TT2"), Id::from(b"TT2\0"));
     }

@@ -59,6 +59,13 @@ fn minutes_says_what_is_refused_and_what_is_short() {
 }
 
 #[test]
+fn hard_use_in_c_has_known_answers() {
+    let program = compiled("hard", &folder("hard"));
+    let want = "2000 cases, every answer known\n";
+    assert_eq!(said(&command(&program).arg("2000").output().unwrap()), (want.to_string(), 0));
+}
+
+#[test]
 fn the_header_is_also_cplusplus() {
     let compiler = std::env::var("CXX").unwrap_or_else(|_| "c++".to_string());
     let there = Command::new(&compiler).arg("--version").output();
