@@ -65,3 +65,15 @@ holds (l ∷ ls) at work out {q} {w} {o} e = by (placedOf (l .text) at out .0) (
     by Placed.Full s put go e =
         let p : Placed.Full ≡ Placed.Upto q = ap (λ (x : Outcome). x .0) e in
         absurd (let z : _≡_ {A = ℕ} 0 1 = cc in omega arith)
+
+-- ---- what was put ends inside the buffer
+
+pub line-within : (t : List ℕ) (at : ℕ) (out : List ℕ) {x : Placed} {o : List ℕ} → _≡_ {A = Placed × List ℕ} (x, o) (placedOf t at out) → {q : ℕ}
+    → x ≡ Placed.Upto q → at ≤ length out → q ≤ length o
+line-within t at out {o = o} e is h =
+    placed t at out (sym e ∙ ap {B = Placed × List ℕ} (λ (p : Placed). (p, o)) is) .within h
+
+pub lines-within : (ls : List Line) (work out : List ℕ) {x : Placed} {w o : List ℕ} → _≡_ {A = Outcome} (x, (w, o)) (putLines ls 0 work out) → {q : ℕ}
+    → x ≡ Placed.Upto q → q ≤ length o
+lines-within ls work out {w = w} {o = o} e is =
+    holds ls 0 work out (sym e ∙ ap {B = Outcome} (λ (p : Placed). (p, (w, o))) is) .within (omega arith)
