@@ -6,7 +6,7 @@ use lines::Placed;
 use lines::refused_line;
 use listed::list;
 ghost use mathlib.Core.Path.{_≡_};
-ghost use lib.ListN.{length};
+ghost use lib.ListN.{length, replicate};
 ghost use Rattle.listed.specs.Lines.{linesOf};
 ghost use Rattle.listed.specs.Turns.{putLines};
 
@@ -37,8 +37,8 @@ fn is_more() -> bool {
 }
 
 // A megabyte of zeros: room for the text of any tag of 65,536 bytes, whose lines have at most ten bytes for each of a frame's.
-fn room_for_text() -> [u8; 1_048_576]
-    ensures { λ r. ⌜ 1048576 ≡ length r ⌝ }
+pub fn room_for_text() -> [u8; 1_048_576]
+    ensures { λ r. ⌜ (r ≡ replicate 1048576 0) × (1048576 ≡ length r) ⌝ }
 {
     [0; 1_048_576]
 }

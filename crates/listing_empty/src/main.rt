@@ -1,0 +1,4 @@
+// The listing program with no input.
+fn main() {
+    show::run();
+}

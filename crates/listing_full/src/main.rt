@@ -1,0 +1,4 @@
+// The listing program with an input that just fits.
+fn main() {
+    show::run();
+}

@@ -1,0 +1,4 @@
+// The listing program with an input of one byte too many.
+fn main() {
+    show::run();
+}
