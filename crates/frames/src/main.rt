@@ -5,7 +5,9 @@ mod print;
 use format::Shown;
 use format::Version;
 use prints::decimal;
-use prints::four;
+use prints::input::next_bytes;
+use prints::input::next_u8;
+use prints::input::next_u32;
 use prints::say;
 use walk::record::frame_at;
 
@@ -29,16 +31,16 @@ fn version(edition: u8) -> Version {
     }
 }
 
-// A case as its first bytes say it.
-fn case_of(h: &[u8; 22]) -> Case {
+// A case whose edition was read.
+fn next_case(edition: &[u8; 1]) -> Case {
     Case {
-        version: version(h[0]),
-        in_work: h[1] != 0,
-        room: four(h[2], h[3], h[4], h[5]),
-        begin: four(h[6], h[7], h[8], h[9]),
-        at: four(h[10], h[11], h[12], h[13]),
-        end: four(h[14], h[15], h[16], h[17]),
-        len: four(h[18], h[19], h[20], h[21]),
+        version: version(edition[0]),
+        in_work: next_u8() != 0,
+        room: next_u32(),
+        begin: next_u32(),
+        at: next_u32(),
+        end: next_u32(),
+        len: next_u32(),
     }
 }
 
@@ -72,23 +74,17 @@ fn replay(case: Case, s: &[u8]) {
     shown(case, &mut space[..n], s);
 }
 
-// Reads the bytes of a case, for which there is this space.
-fn read(case: Case, space: &mut [u8]) {
-    let got = io::read_full(0, space);
-    replay(case, &space[..got]);
-}
-
 // Reads a case and replays it, and answers whether there was one.
 fn next(number: u64) -> bool {
-    let mut head = [0u8; 22];
-    if io::read_full(0, &mut head) < 22 {
+    let mut edition = [0u8; 1];
+    if io::read_full(0, &mut edition) < 1 {
         return false;
     }
     io::print_decimal(1, number);
-    let case = case_of(&head);
+    let case = next_case(&edition);
     let mut space = [0u8; 65536];
-    let n = io::count(case.len as isize, &space);
-    read(case, &mut space[..n]);
+    let n = next_bytes(&mut space, case.len);
+    replay(case, &space[..n]);
     true
 }
 

@@ -1,4 +1,6 @@
-// What the programs that replay test data print to standard output, and how they read numbers.
+// What the programs that replay test data print to standard output, and how they read them.
+pub mod input;
+
 ghost use mathlib.Core.Path.{_≡_};
 ghost use Prim.Native.Nat.{_+_, _*_, _<_};
 

@@ -1,0 +1,42 @@
+// Reading test data from standard input, numbers with the highest byte first. What is missing at the end counts as 0.
+use crate::four;
+ghost use Rattle.io.specs.Counts.{Counts};
+
+// A byte.
+fn of_one(b: &[u8; 1]) -> u8 {
+    b[0]
+}
+
+// The number that four bytes say.
+fn of_four(b: &[u8; 4]) -> u32 {
+    four(b[0], b[1], b[2], b[3])
+}
+
+// The next byte.
+pub fn next_u8() -> u8 {
+    let mut b = [0u8; 1];
+    io::read_full(0, &mut b);
+    of_one(&b)
+}
+
+// The number in the next four bytes.
+pub fn next_u32() -> u32 {
+    let mut b = [0u8; 4];
+    io::read_full(0, &mut b);
+    of_four(&b)
+}
+
+// The number in the next eight bytes.
+pub fn next_u64() -> u64 {
+    let high = next_u32() as u64;
+    let low = next_u32() as u64;
+    high * 4294967296 + low
+}
+
+// Puts the next n bytes at the front of a space, or as many as it takes, and answers how many there were.
+pub fn next_bytes(space: &mut [u8], n: u32) -> usize
+    ensures { λ r. ⌜ Counts r (now (space .exit)) ⌝ }
+{
+    let most = io::count(n as isize, space);
+    io::read_full(0, &mut space[..most])
+}
