@@ -81,8 +81,8 @@ pub enum Kind {
 pub enum Stop {
     /// Quietly: no frame header, or a zero, or as many bytes as the header counts. So many bytes are left.
     End { at: usize, left: usize },
-    /// By an error; `content` says that it came from the body and not from the frame's own header.
-    Refused { at: usize, id: Vec<u8>, content: bool, failure: Failure },
+    /// By an error; `content` says that it came from the body and not from the frame's own header. So many bytes are left from there.
+    Refused { at: usize, left: usize, id: Vec<u8>, flags: u16, content: bool, failure: Failure },
     Panic { at: usize, message: String },
     /// Not asked: chapters may be nested so deep that the crate's recursion would end the process. Not comparable.
     Stack { levels: usize },
@@ -256,7 +256,7 @@ impl Walk<'_> {
                             at += took;
                             counted += said as u64;
                         }
-                        _ => return (found, Stop::Refused { at, id, content, failure }),
+                        _ => return (found, Stop::Refused { at, left, id, flags: self.flags(bytes), content, failure }),
                     }
                 }
             }
@@ -265,12 +265,16 @@ impl Walk<'_> {
 
     #[allow(clippy::too_many_arguments)]
     fn item(&self, path: Vec<usize>, at: usize, bytes: &[u8], said: usize, named: String, body: Vec<u8>, kind: Kind) -> Item {
-        let flags = match self.version {
-            Version::Id3v22 => 0,
-            _ => u16::from_be_bytes([bytes[8], bytes[9]]),
-        };
+        let flags = self.flags(bytes);
         let id = bytes[..id_len(self.version)].to_vec();
         Item { path, at, took: bytes.len(), said, id, named, flags, body, kind }
+    }
+
+    fn flags(&self, bytes: &[u8]) -> u16 {
+        match self.version {
+            Version::Id3v22 => 0,
+            _ => u16::from_be_bytes([bytes[8], bytes[9]]),
+        }
     }
 
     fn kind(&mut self, frame: &Frame, body: &[u8], path: &[usize]) -> Kind {
@@ -344,12 +348,7 @@ impl Walk<'_> {
 
     /// A chapter is refused with the error of a subframe: the run is walked to it for its number.
     fn number_inside(&mut self, id: &[u8], body: &[u8], path: &[usize], failure: &mut Failure) {
-        let run = match id {
-            b"CHAP" => chapter_run(body),
-            b"CTOC" => contents_run(body),
-            _ => None,
-        };
-        let Some(run) = run else { return };
+        let Some(run) = run_of(id, body) else { return };
         if path.len() >= LISTED_DEPTH {
             return;
         }
@@ -395,6 +394,20 @@ pub(crate) fn body_of(version: Version, bytes: &[u8]) -> Option<(usize, Vec<u8>)
         },
         _ => None,
     }
+}
+
+/// The run of subframes in the body of a chapter or a table of contents, where its own parts are all there.
+pub fn run_of<'a>(id: &[u8], body: &'a [u8]) -> Option<&'a [u8]> {
+    match id {
+        b"CHAP" => chapter_run(body),
+        b"CTOC" => contents_run(body),
+        _ => None,
+    }
+}
+
+/// Where the crate ends a text of an encoding, in bytes behind the encoding byte.
+pub fn text_end(version: Version, encoding: u8, data: &[u8]) -> Option<usize> {
+    encoding_of(encoding).map(|encoding| inner::text_end(version, encoding, data))
 }
 
 /// Behind a name and its zero.

@@ -56,7 +56,7 @@ pub fn lines(reading: &Reading) -> Vec<String> {
     match &reading.stop {
         None => {}
         Some(Stop::End { at, left }) => out.push(format!("stop end at {at} left {left}")),
-        Some(Stop::Refused { at, id, content, failure }) => {
+        Some(Stop::Refused { at, id, content, failure, .. }) => {
             let level = if *content { "content" } else { "frame" };
             out.push(format!("stop refused at {at} id {} level {level} {}", hex(id), failure_line(failure)));
         }

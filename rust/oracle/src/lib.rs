@@ -10,10 +10,11 @@ mod put;
 mod selfcheck;
 
 pub use ask::{
-    big_stack, levels, read, read_past, read_uncut, Failure, Header, Item, Kind, Reading, Stop, BIG_STACK, MOST_LEVELS,
+    big_stack, levels, read, read_past, read_uncut, run_of, text_end, Failure, Header, Item, Kind, Reading, Stop, BIG_STACK, MOST_LEVELS,
 };
 pub use form::{failure_line, hex, lines, parse_list, unhex, written_line};
 pub use put::{write, Fields, List, Record, Subs, Unwritten};
+pub use id3::Version;
 pub use selfcheck::{agrees, sample, Sample};
 
 use std::any::Any;

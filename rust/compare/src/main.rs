@@ -1,0 +1,216 @@
+//! Compares the new library with the crate id3 1.17.2, both linked into this program.
+//!
+//!     compare [--readings N] [--writings N] [--seed S] [--short BYTES] [--cuts N] [--threads N]
+//!     compare read HEX      both answers to a tag
+//!     compare write LIST    the verdict on a list of records, in the oracle's form
+//!
+//! It ends with 0 where every difference is of a listed class.
+mod classes;
+mod form;
+mod library;
+mod reads;
+mod shrink;
+mod work;
+mod writes;
+
+use classes::ALL;
+use compare::lists;
+use compare::sources::{shorts, Source};
+use library::Library;
+use oracle::List;
+use reads::Comparison;
+use std::process::ExitCode;
+use std::time::Instant;
+use work::Tally;
+
+/// What is asked for.
+#[derive(Clone, Copy)]
+struct Options {
+    readings: u64,
+    writings: u64,
+    seed: u64,
+    short: u32,
+    cuts: u64,
+    threads: usize,
+}
+
+fn main() -> ExitCode {
+    oracle::quiet();
+    let words: Vec<String> = std::env::args().skip(1).collect();
+    let words: Vec<&str> = words.iter().map(String::as_str).collect();
+    match words[..] {
+        ["read", hex] => one_tag(hex),
+        ["write", list] => one_list(list),
+        _ => match options(&words) {
+            Ok(options) => all(options),
+            Err(why) => {
+                eprintln!("compare: {why}");
+                ExitCode::from(2)
+            }
+        },
+    }
+}
+
+fn options(words: &[&str]) -> Result<Options, String> {
+    let threads = std::thread::available_parallelism().map_or(1, |n| n.get());
+    let mut out = Options { readings: 10_000_000, writings: 1_000_000, seed: 1, short: 3, cuts: 3000, threads };
+    for pair in words.chunks(2) {
+        let [name, value] = pair else { return Err(format!("no value for {}", pair[0])) };
+        let value: u64 = value.parse().map_err(|_| format!("not a number: {value}"))?;
+        match *name {
+            "--readings" => out.readings = value,
+            "--writings" => out.writings = value,
+            "--seed" => out.seed = value,
+            "--short" => out.short = value.min(3) as u32,
+            "--cuts" => out.cuts = value,
+            "--threads" => out.threads = value.max(1) as usize,
+            _ => return Err(format!("unknown: {name}")),
+        }
+    }
+    Ok(out)
+}
+
+fn all(options: Options) -> ExitCode {
+    let mut reading = Tally::default();
+    for source in sources(options) {
+        let tally = timed(&source.name(), || readings(&source, options.threads));
+        reading.join(&Tally { kept: Vec::new(), ..tally });
+    }
+    let name = format!("lists of records, seed {}", options.seed);
+    let writing = timed(&name, || writings(options));
+    report("readings", &reading);
+    report("writings", &writing);
+    if reading.unlisted + writing.unlisted == 0 {
+        ExitCode::SUCCESS
+    } else {
+        ExitCode::FAILURE
+    }
+}
+
+fn sources(options: Options) -> Vec<Source> {
+    let mut out = vec![Source::Generated { seed: options.seed, count: options.readings }];
+    if options.cuts > 0 {
+        out.push(Source::cuts(options.seed, options.cuts));
+    }
+    if options.short > 0 {
+        out.extend(shorts(options.short));
+    }
+    out
+}
+
+// runs, and says what became of it
+fn timed(name: &str, run: impl FnOnce() -> Tally) -> Tally {
+    let began = Instant::now();
+    let tally = run();
+    println!("{name}: {} cases, {} unlisted, {:.1} s", tally.cases, tally.unlisted, began.elapsed().as_secs_f64());
+    tally
+}
+
+fn readings(source: &Source, threads: usize) -> Tally {
+    let tally = work::run(&source.name(), source.count(), threads, |index, comparison| {
+        let mut tag = Vec::new();
+        source.tag(index, &mut tag);
+        comparison.tag(&tag);
+    });
+    for (index, what) in tally.kept.clone() {
+        let mut tag = Vec::new();
+        source.tag(index, &mut tag);
+        println!("UNLISTED case {index}: {what}");
+        println!("    {}", oracle::hex(&tag));
+        println!("    shrunk: {}", oracle::hex(&shrunk_tag(tag, what)));
+    }
+    tally
+}
+
+fn shrunk_tag(tag: Vec<u8>, what: String) -> Vec<u8> {
+    oracle::big_stack(move || {
+        let mut library = Library::default();
+        shrink::tag(&tag, &mut |less| {
+            let mut comparison = Comparison::new(&mut library);
+            comparison.tag(less);
+            comparison.unlisted.as_deref() == Some(&what)
+        })
+    })
+}
+
+fn writings(options: Options) -> Tally {
+    let tally = work::run("lists of records", options.writings, options.threads, |index, comparison| {
+        comparison.list(&lists::list(options.seed, index));
+    });
+    for (index, what) in tally.kept.clone() {
+        let list = lists::list(options.seed, index);
+        println!("UNLISTED list {index}: {what}");
+        println!("    {}", form::list(&list));
+        println!("    shrunk: {}", form::list(&shrunk_list(list, what)));
+    }
+    tally
+}
+
+fn shrunk_list(list: List, what: String) -> List {
+    oracle::big_stack(move || {
+        let mut library = Library::default();
+        shrink::list(&list, &mut |less| {
+            let mut comparison = Comparison::new(&mut library);
+            comparison.list(less);
+            comparison.unlisted.as_deref() == Some(&what)
+        })
+    })
+}
+
+fn report(name: &str, tally: &Tally) {
+    println!("{name}: {} cases, {} agreements", tally.cases, tally.agreed);
+    for (class, count) in ALL.iter().zip(&tally.listed) {
+        if *count > 0 {
+            println!("    {count:>10}  {}", class.name());
+        }
+    }
+    println!("    {:>10}  unlisted", tally.unlisted);
+}
+
+fn one_tag(hex: &str) -> ExitCode {
+    let tag = match oracle::unhex(hex) {
+        Ok(tag) => tag,
+        Err(why) => {
+            eprintln!("compare: {why}");
+            return ExitCode::from(2);
+        }
+    };
+    oracle::big_stack(move || {
+        let mut library = Library::default();
+        println!("the crate:");
+        oracle::lines(&oracle::read_past(&tag)).iter().for_each(|line| println!("    {line}"));
+        println!("here:");
+        println!("    {:#?}", library.read(&tag));
+        let mut comparison = Comparison::new(&mut library);
+        comparison.tag(&tag);
+        verdict(&comparison)
+    })
+}
+
+fn one_list(text: &str) -> ExitCode {
+    let list = match oracle::parse_list(text) {
+        Ok(list) => list,
+        Err(why) => {
+            eprintln!("compare: {why}");
+            return ExitCode::from(2);
+        }
+    };
+    oracle::big_stack(move || {
+        let mut library = Library::default();
+        let answer = oracle::write(list.version, list.unsynchronisation, list.padding, list.file_altered, &list.records);
+        println!("the crate: {}", oracle::written_line(&answer));
+        let mut comparison = Comparison::new(&mut library);
+        comparison.list(&list);
+        verdict(&comparison)
+    })
+}
+
+fn verdict(comparison: &Comparison) -> ExitCode {
+    println!("listed: {}", form::classes(&comparison.listed));
+    println!("unlisted: {}", comparison.unlisted.as_deref().unwrap_or("nothing"));
+    if comparison.unlisted.is_none() {
+        ExitCode::SUCCESS
+    } else {
+        ExitCode::FAILURE
+    }
+}
