@@ -1,4 +1,5 @@
 //! The new library's answers, through its C interface, as plain values.
+use streamvault::calls::{self, Given};
 use streamvault::sys;
 
 /// What the library took a tag for.
@@ -49,9 +50,9 @@ pub enum Stop {
     Refused { at: usize, number: u32 },
 }
 
-/// A record to be written, apart from its marks.
+/// A record to be written, without marks.
 #[allow(missing_docs)]
-pub struct Given<'a> {
+pub struct Entry<'a> {
     pub kind: u64,
     pub id: u64,
     pub numbers: [u64; 5],
@@ -88,7 +89,7 @@ impl Library {
         }
         let mut seen = Seen { header: header(tag), frames: Vec::new(), stop: Stop::End { at: 0 } };
         let mut reader = [0; sys::SV_READER_WORDS];
-        let opened = open(tag, &mut self.work[..room], &mut reader);
+        let opened = calls::open(tag, &mut self.work[..room], &mut reader);
         match seen.header {
             Err(number) => {
                 assert_eq!(number, opened, "header and open answer differently");
@@ -105,7 +106,7 @@ impl Library {
         loop {
             let before = reader[sys::SV_READER_AT];
             let at = (before - reader[sys::SV_READER_BEGIN]) as usize;
-            match step(tag, &mut self.work[..room], reader, &mut record) {
+            match calls::step(tag, &mut self.work[..room], reader, &mut record) {
                 0 => {
                     let took = (reader[sys::SV_READER_AT] - before) as usize;
                     frames.push(frame(&record, tag, &self.work[..room], took));
@@ -119,8 +120,7 @@ impl Library {
     /// Begins a writer over a collecting buffer of so many bytes.
     pub fn begin(&mut self, edition: u8, mode: u64, altered: bool, room: usize) -> Writer {
         let mut words = [0; sys::SV_WRITER_WORDS];
-        // SAFETY: the words are a live array of their length
-        let number = unsafe { sys::sv_begin(edition.into(), mode, altered.into(), words.as_mut_ptr(), words.len()) };
+        let number = calls::begin(edition.into(), mode, altered.into(), &mut words);
         assert_eq!(0, number, "a writer is not begun");
         Writer { words, buffer: vec![UNTOUCHED; room] }
     }
@@ -128,33 +128,15 @@ impl Library {
 
 impl Writer {
     /// Adds a record: the refusal or 0, and the count.
-    pub fn add(&mut self, given: &Given) -> (u32, usize) {
+    pub fn add(&mut self, entry: &Entry) -> (u32, usize) {
         let mut record: Words = [0; sys::SV_RECORD_WORDS];
-        record[sys::SV_RECORD_KIND] = given.kind;
-        record[sys::SV_RECORD_ID] = given.id;
-        record[4..9].copy_from_slice(&given.numbers);
+        record[sys::SV_RECORD_KIND] = entry.kind;
+        record[sys::SV_RECORD_ID] = entry.id;
+        record[4..9].copy_from_slice(&entry.numbers);
+        let Entry { name, names, rest, deviations, .. } = *entry;
+        let given = Given { record: &record, name, names, rest, deviations };
         let mut count = [u64::MAX];
-        // SAFETY: all are live slices given with their own lengths, and those that are changed are borrowed alone
-        let number = unsafe {
-            sys::sv_add(
-                record.as_ptr(),
-                record.len(),
-                given.name.as_ptr(),
-                given.name.len(),
-                given.names.as_ptr(),
-                given.names.len(),
-                given.rest.as_ptr(),
-                given.rest.len(),
-                given.deviations.as_ptr(),
-                given.deviations.len(),
-                self.buffer.as_mut_ptr(),
-                self.buffer.len(),
-                self.words.as_mut_ptr(),
-                self.words.len(),
-                count.as_mut_ptr(),
-                count.len(),
-            )
-        };
+        let number = calls::add(given, &mut self.buffer, &mut self.words, &mut count);
         (number, count[0] as usize)
     }
 
@@ -166,28 +148,14 @@ impl Writer {
     /// Finishes the tag into an output buffer: the refusal or 0, and the count.
     pub fn finish(&self, padding: u64, output: &mut [u8]) -> (u32, usize) {
         let mut count = [u64::MAX];
-        // SAFETY: all are live slices given with their own lengths, and those that are changed are borrowed alone
-        let number = unsafe {
-            sys::sv_finish(
-                padding,
-                self.buffer.as_ptr(),
-                self.buffer.len(),
-                output.as_mut_ptr(),
-                output.len(),
-                self.words.as_ptr(),
-                self.words.len(),
-                count.as_mut_ptr(),
-                count.len(),
-            )
-        };
+        let number = calls::finish(padding, &self.buffer, output, &self.words, &mut count);
         (number, count[0] as usize)
     }
 }
 
 fn header(tag: &[u8]) -> Result<Header, u32> {
     let mut words = [0; sys::SV_HEADER_WORDS];
-    // SAFETY: live slices given with their own lengths
-    match unsafe { sys::sv_header(tag.as_ptr(), tag.len(), words.as_mut_ptr(), words.len()) } {
+    match calls::header(tag, &mut words) {
         0 => Ok(Header {
             edition: words[sys::SV_HEADER_VERSION],
             flags: words[sys::SV_HEADER_FLAGS],
@@ -195,27 +163,6 @@ fn header(tag: &[u8]) -> Result<Header, u32> {
             ext: words[sys::SV_HEADER_EXT],
         }),
         number => Err(number),
-    }
-}
-
-fn open(tag: &[u8], work: &mut [u8], reader: &mut [u64]) -> u32 {
-    // SAFETY: live slices given with their own lengths; the changed ones are borrowed alone
-    unsafe { sys::sv_open(tag.as_ptr(), tag.len(), work.as_mut_ptr(), work.len(), reader.as_mut_ptr(), reader.len()) }
-}
-
-fn step(tag: &[u8], work: &mut [u8], reader: &mut [u64], record: &mut [u64]) -> u32 {
-    // SAFETY: live slices given with their own lengths; the changed ones are borrowed alone
-    unsafe {
-        sys::sv_step(
-            tag.as_ptr(),
-            tag.len(),
-            work.as_mut_ptr(),
-            work.len(),
-            reader.as_mut_ptr(),
-            reader.len(),
-            record.as_mut_ptr(),
-            record.len(),
-        )
     }
 }
 
@@ -249,19 +196,7 @@ fn references(record: &Words, rest: &[u8]) -> Vec<u32> {
     // widths are at least 1 and sum to 4 or more, so that a byte holds at most four numbers
     let mut out = vec![0; 4 * rest.len()];
     let mut count = [u64::MAX];
-    // SAFETY: live slices given with their own lengths; the changed ones are borrowed alone
-    let number = unsafe {
-        sys::sv_references(
-            record.as_ptr(),
-            record.len(),
-            rest.as_ptr(),
-            rest.len(),
-            out.as_mut_ptr(),
-            out.len(),
-            count.as_mut_ptr(),
-            count.len(),
-        )
-    };
+    let number = calls::references(record, rest, &mut out, &mut count);
     assert_eq!(0, number, "references of a table that was read are refused");
     out.truncate(count[0] as usize);
     out

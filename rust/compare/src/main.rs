@@ -8,20 +8,24 @@
 mod classes;
 mod form;
 mod library;
+mod memory;
 mod reads;
 mod shrink;
 mod work;
 mod writes;
 
-use classes::ALL;
+use classes::{Class, ALL};
 use compare::lists;
 use compare::sources::{shorts, Source};
 use library::Library;
 use oracle::List;
-use reads::Comparison;
+use reads::compared;
 use std::process::ExitCode;
 use std::time::Instant;
 use work::Tally;
+
+#[global_allocator]
+static MEMORY: memory::Memory = memory::Memory::new();
 
 /// What is asked for.
 #[derive(Clone, Copy)]
@@ -125,11 +129,7 @@ fn readings(source: &Source, threads: usize) -> Tally {
 fn shrunk_tag(tag: Vec<u8>, what: String) -> Vec<u8> {
     oracle::big_stack(move || {
         let mut library = Library::default();
-        shrink::tag(&tag, &mut |less| {
-            let mut comparison = Comparison::new(&mut library);
-            comparison.tag(less);
-            comparison.unlisted.as_deref() == Some(&what)
-        })
+        shrink::tag(&tag, &mut |less| compared(&mut library, |comparison| comparison.tag(less)).1.as_deref() == Some(&what))
     })
 }
 
@@ -149,11 +149,7 @@ fn writings(options: Options) -> Tally {
 fn shrunk_list(list: List, what: String) -> List {
     oracle::big_stack(move || {
         let mut library = Library::default();
-        shrink::list(&list, &mut |less| {
-            let mut comparison = Comparison::new(&mut library);
-            comparison.list(less);
-            comparison.unlisted.as_deref() == Some(&what)
-        })
+        shrink::list(&list, &mut |less| compared(&mut library, |comparison| comparison.list(less)).1.as_deref() == Some(&what))
     })
 }
 
@@ -181,9 +177,7 @@ fn one_tag(hex: &str) -> ExitCode {
         oracle::lines(&oracle::read_past(&tag)).iter().for_each(|line| println!("    {line}"));
         println!("here:");
         println!("    {:#?}", library.read(&tag));
-        let mut comparison = Comparison::new(&mut library);
-        comparison.tag(&tag);
-        verdict(&comparison)
+        verdict(compared(&mut library, |comparison| comparison.tag(&tag)))
     })
 }
 
@@ -199,16 +193,14 @@ fn one_list(text: &str) -> ExitCode {
         let mut library = Library::default();
         let answer = oracle::write(list.version, list.unsynchronisation, list.padding, list.file_altered, &list.records);
         println!("the crate: {}", oracle::written_line(&answer));
-        let mut comparison = Comparison::new(&mut library);
-        comparison.list(&list);
-        verdict(&comparison)
+        verdict(compared(&mut library, |comparison| comparison.list(&list)))
     })
 }
 
-fn verdict(comparison: &Comparison) -> ExitCode {
-    println!("listed: {}", form::classes(&comparison.listed));
-    println!("unlisted: {}", comparison.unlisted.as_deref().unwrap_or("nothing"));
-    if comparison.unlisted.is_none() {
+fn verdict((listed, unlisted): (Vec<Class>, Option<String>)) -> ExitCode {
+    println!("listed: {}", form::classes(&listed));
+    println!("unlisted: {}", unlisted.as_deref().unwrap_or("nothing"));
+    if unlisted.is_none() {
         ExitCode::SUCCESS
     } else {
         ExitCode::FAILURE

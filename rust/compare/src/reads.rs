@@ -4,6 +4,7 @@ use crate::library::{Frame, Library, Seen, Stop};
 use compare::ids::{framed, is_compressed, is_people, kind_of, version_of, widths_refusal, wrapped, Kind};
 use compare::listing::is_short;
 use oracle::{Item, Kind as Theirs, Reading, Stop as TheirStop};
+use std::panic::{catch_unwind, AssertUnwindSafe};
 
 /// What a comparison found.
 pub struct Comparison<'a> {
@@ -25,9 +26,20 @@ struct Level {
     cut: bool,
 }
 
+/// Runs a comparison; what was listed, and what was not. A panic outside the crate is of no class.
+pub fn compared(library: &mut Library, run: impl FnOnce(&mut Comparison)) -> (Vec<Class>, Option<String>) {
+    let mut comparison = Comparison::new(library);
+    let done = catch_unwind(AssertUnwindSafe(|| run(&mut comparison)));
+    if let Err(payload) = done {
+        let said = payload.downcast_ref::<String>().cloned().unwrap_or_default();
+        comparison.unlisted = Some(format!("a panic in the comparison: {said}"));
+    }
+    (comparison.listed, comparison.unlisted)
+}
+
 impl Comparison<'_> {
     /// A comparison that found nothing yet.
-    pub fn new(library: &mut Library) -> Comparison<'_> {
+    fn new(library: &mut Library) -> Comparison<'_> {
         Comparison { library, listed: Vec::new(), unlisted: None }
     }
 

@@ -4,6 +4,7 @@
 //!
 //! A question is a length of the work buffer, the tag's length, four bytes each and highest first, and the tag. Its answer is
 //! the line `case N` and the lines of the listing. Tags to which a listed difference applies are not among them.
+use compare::ids::kind_of;
 use compare::listing;
 use compare::sources::{shorts, Source};
 use oracle::{Item, Kind, Reading, Stop};
@@ -13,9 +14,11 @@ use std::io::Write;
 /// Tags that are looked through.
 const LOOKED: u64 = 1_500_000;
 /// Questions that are kept.
-const KEPT: usize = 4000;
+const KEPT: usize = 3500;
 /// The longest tag that is kept.
 const LONGEST: usize = 600;
+/// The number of the first question.
+const FIRST: usize = 1;
 
 fn main() {
     oracle::quiet();
@@ -32,9 +35,12 @@ fn main() {
     println!("{} questions, {} bytes; answers, {} bytes", kept.len(), questions.len(), answers.len());
 }
 
-/// The smallest tag of each branch, and of these so many, spread over all branches.
+/// The smallest tags, by branch.
+type Found = BTreeMap<String, Vec<u8>>;
+
+/// The smallest tag of each rough branch, and, spread over all of them, of fine branches by one and by two frames.
 fn chosen(seed: u64) -> Vec<Vec<u8>> {
-    let mut found: BTreeMap<String, Vec<u8>> = BTreeMap::new();
+    let mut found = [Found::new(), Found::new(), Found::new()];
     for source in sources(seed) {
         let mut tag = Vec::new();
         for index in 0..source.count() {
@@ -42,8 +48,20 @@ fn chosen(seed: u64) -> Vec<Vec<u8>> {
             look(&mut found, &tag);
         }
     }
-    let all: Vec<Vec<u8>> = found.into_values().collect();
-    let kept = all.len().min(KEPT);
+    let [rough, one, two] = found.map(|found| found.into_values().collect::<Vec<_>>());
+    println!("{} rough branches, {} by one frame, {} by two", rough.len(), one.len(), two.len());
+    let mut kept = spread(&rough, KEPT);
+    let left = KEPT - kept.len();
+    kept.extend(spread(&one, left / 2));
+    kept.extend(spread(&two, left - left / 2));
+    kept.sort();
+    kept.dedup();
+    kept
+}
+
+/// At most so many of these, from all places.
+fn spread(all: &[Vec<u8>], most: usize) -> Vec<Vec<u8>> {
+    let kept = all.len().min(most);
     (0..kept).map(|i| all[i * all.len() / kept].clone()).collect()
 }
 
@@ -53,31 +71,57 @@ fn sources(seed: u64) -> Vec<Source> {
     out
 }
 
-fn look(found: &mut BTreeMap<String, Vec<u8>>, tag: &[u8]) {
+fn look(found: &mut [Found; 3], tag: &[u8]) {
     if tag.len() > LONGEST {
         return;
     }
-    let branch = branch(&oracle::read_past(tag));
-    if found.get(&branch).is_some_and(|other| other.len() <= tag.len()) {
+    let reading = oracle::read_past(tag);
+    let branches = [rough(&reading, tag.len()), branch(&reading, 1), branch(&reading, 2)];
+    let smaller = |found: &Found, branch: &String| found.get(branch).is_none_or(|other| tag.len() < other.len());
+    let wanted = found.iter().zip(&branches).any(|(found, branch)| smaller(found, branch));
+    if !wanted || listing::lines(tag).is_none() {
         return;
     }
-    if listing::lines(tag).is_some() {
-        found.insert(branch, tag.to_vec());
+    for (found, branch) in found.iter_mut().zip(branches) {
+        if smaller(found, &branch) {
+            found.insert(branch, tag.to_vec());
+        }
     }
 }
 
-/// What was met on the way, in words: edition, flags, the first frames and the end.
-fn branch(reading: &Reading) -> String {
+/// Edition, tag flags, the first frame's kind, flags and mark, and how it ended.
+fn rough(reading: &Reading, len: usize) -> String {
+    let header = match &reading.header {
+        Ok(header) => header,
+        Err(failure) => return format!("header {} {}", failure.number, len.min(17)),
+    };
+    let mut out = format!("{} {:02X}", header.edition, header.flags & 0xC0);
+    if let Some(item) = reading.items.first() {
+        let flags = item.flags & if header.edition == 4 { 3 } else { 0x80 };
+        out += &format!("; {} {flags} {}", kind_name(&item.kind), listing::is_short(item));
+        if let Kind::Refused(failure) = &item.kind {
+            out += &format!(" {} {:?}", failure.number, kind_of(header.edition, &item.id));
+        }
+    }
+    out += &match &reading.stop {
+        Some(Stop::Refused { failure, .. }) => format!("; {} refused {}", reading.items.len().min(1), failure.number),
+        _ => format!("; {} end", reading.items.len().min(2)),
+    };
+    out
+}
+
+/// What was met on the way, in words: edition, flags, the first so many frames and the end.
+fn branch(reading: &Reading, frames: usize) -> String {
     let header = match &reading.header {
         Ok(header) => header,
         Err(failure) => return format!("0 header {}", failure.number),
     };
     let shown = reading.items.iter().take_while(|item| !matches!(item.kind, Kind::Refused(_))).count();
     let mut out = format!("{} {:02X} {}", header.edition, header.flags & 0xC0, size_class(header.ext as usize));
-    for item in reading.items.iter().take(2) {
+    for item in reading.items.iter().take(frames) {
         out += &format!("; {}", frame_branch(item, header.edition));
     }
-    out += &format!("; {} ", shown.min(3));
+    out += &format!("; {} ", shown.min(frames + 1));
     out += &match &reading.stop {
         Some(Stop::End { left, .. }) => format!("end {}", size_class(*left)),
         Some(Stop::Refused { failure, .. }) => format!("refused {}", failure.number),
@@ -155,7 +199,7 @@ fn laid_out(tags: &[Vec<u8>]) -> (Vec<u8>, Vec<u8>) {
         questions.extend((8 * tag.len() as u32).to_be_bytes());
         questions.extend((tag.len() as u32).to_be_bytes());
         questions.extend(tag);
-        let _ = writeln!(answers, "case {n}");
+        let _ = writeln!(answers, "case {}", FIRST + n);
         answers.extend(listing::lines(tag).expect("it had lines when it was chosen"));
     }
     (questions, answers)

@@ -1,7 +1,7 @@
 //! Numbered cases, split over threads, with a progress line.
 use crate::classes::{Class, ALL};
 use crate::library::Library;
-use crate::reads::Comparison;
+use crate::reads::{compared, Comparison};
 use std::io::{IsTerminal, Write};
 use std::sync::atomic::{AtomicU64, Ordering};
 use std::thread;
@@ -98,9 +98,7 @@ fn worker(count: u64, next: &AtomicU64, done: &AtomicU64, case: &(impl Fn(u64, &
             return tally;
         }
         for index in from..count.min(from + BLOCK) {
-            let mut comparison = Comparison::new(&mut library);
-            case(index, &mut comparison);
-            let Comparison { listed, unlisted, .. } = comparison;
+            let (listed, unlisted) = compared(&mut library, |comparison| case(index, comparison));
             tally.add(index, &listed, unlisted);
         }
         done.fetch_add(BLOCK, Ordering::Relaxed);

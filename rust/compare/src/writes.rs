@@ -1,22 +1,22 @@
 //! One list of records, given to both.
 use crate::classes::Class;
-use crate::library::{Given, Writer, UNTOUCHED};
+use crate::library::{Entry, Writer, UNTOUCHED};
 use crate::reads::{closed, number, Comparison};
-use compare::ids::{edition_of, id_len, is_id, is_lost, is_people, kind_of, widths_refusal, wrapped, Kind};
+use compare::ids::{edition_of, is_id, is_lost, is_people, kind_of, widths_refusal, wrapped, Kind};
 use oracle::{Fields, List, Record, Subs, Unwritten};
 
 /// The run of a chapter's subframes, or the number with which one of them is refused.
 type Run = Result<Vec<u8>, u32>;
 
-/// Room for every list that is made.
-const ROOM: usize = 1 << 14;
+/// Padding above it is not made: there is no room for it, here or at the crate.
+const FAR: usize = 1 << 14;
 
 impl Comparison<'_> {
     /// Adds the records one by one, each refusal being foretold; what was accepted is written by both and compared.
     pub fn list(&mut self, list: &List) {
         let edition = edition_of(list.version);
         let mode = u64::from(list.unsynchronisation);
-        let mut writer = self.library.begin(edition, mode, list.file_altered, ROOM);
+        let mut writer = self.library.begin(edition, mode, list.file_altered, room(&list.records));
         let mut accepted = Vec::new();
         for record in &list.records {
             let run = self.run(list, record);
@@ -36,10 +36,9 @@ impl Comparison<'_> {
 
     // a record that was accepted or refused as foretold; true where it was accepted
     fn add(&mut self, writer: &mut Writer, list: &List, record: &Record, run: &[u8]) -> bool {
-        let edition = edition_of(list.version);
         let foretold = self.refusal(list, record, run);
         let before = writer.used();
-        let (answer, count) = add(writer, edition, record, run);
+        let (answer, count) = add(writer, record, run);
         if answer != foretold {
             self.fault(|| format!("a record is answered {answer}, and {foretold} was foretold"));
         }
@@ -104,7 +103,7 @@ impl Comparison<'_> {
             Ok(tag) => tag,
             Err(why) => return self.fault(|| format!("only the crate refuses: {why:?}")),
         };
-        let mut output = vec![UNTOUCHED; 2 * ROOM];
+        let mut output = vec![UNTOUCHED; output_room(list)];
         let (answer, count) = writer.finish(list.padding as u64, &mut output);
         let size = (theirs.len() - 10) as u128 + if is_far(list) { list.padding as u128 } else { 0 };
         let foretold = if size >= 1 << 28 {
@@ -131,10 +130,10 @@ impl Comparison<'_> {
         let mode = u64::from(list.unsynchronisation);
         let write = |library: &mut crate::library::Library, room: usize| {
             let mut writer = library.begin(edition, mode, list.file_altered, room);
-            let answers: Vec<u32> = accepted.iter().map(|(record, run)| add(&mut writer, edition, record, run).0).collect();
+            let answers: Vec<u32> = accepted.iter().map(|(record, run)| add(&mut writer, record, run).0).collect();
             (writer, answers)
         };
-        let (writer, _) = write(self.library, ROOM);
+        let (writer, _) = write(self.library, room(&list.records));
         let used = writer.used();
         let (exact, answers) = write(self.library, used);
         self.must(answers.iter().all(|n| *n == 0) && exact.buffer[..] == writer.buffer[..used], "a collecting buffer that is exactly full");
@@ -142,7 +141,7 @@ impl Comparison<'_> {
             let (_, answers) = write(self.library, used - 1);
             self.must(answers.contains(&20) && answers.iter().all(|n| *n == 0 || *n == 20), "a collecting buffer that is one byte short");
         }
-        let mut output = vec![UNTOUCHED; 2 * ROOM];
+        let mut output = vec![UNTOUCHED; output_room(list)];
         let (number, count) = writer.finish(list.padding as u64, &mut output);
         if number == 0 {
             let mut full = vec![UNTOUCHED; count];
@@ -168,11 +167,11 @@ impl Comparison<'_> {
             }
             Subs::Records(records) => {
                 let inner = List { unsynchronisation: false, file_altered: false, padding: 0, records: Vec::new(), ..list.clone() };
-                let mut writer = self.library.begin(edition_of(list.version), 0, false, ROOM);
+                let mut writer = self.library.begin(edition_of(list.version), 0, false, room(records));
                 for record in records {
                     let run = self.run(&inner, record)?;
                     let foretold = self.refusal(&inner, record, &run);
-                    let (answer, _) = add(&mut writer, edition_of(list.version), record, &run);
+                    let (answer, _) = add(&mut writer, record, &run);
                     if answer != foretold {
                         self.fault(|| format!("a subframe is answered {answer}, and {foretold} was foretold"));
                     }
@@ -267,14 +266,37 @@ fn alone(list: &List, record: &Record) -> Result<Vec<u8>, Unwritten> {
     oracle::write(list.version, list.unsynchronisation, 0, list.file_altered, std::slice::from_ref(record))
 }
 
-// padding for which there is no room, here or at the crate
 fn is_far(list: &List) -> bool {
-    list.padding > ROOM
+    list.padding > FAR
 }
 
-fn add(writer: &mut Writer, edition: u8, record: &Record, run: &[u8]) -> (u32, usize) {
-    debug_assert!(record.id.len() <= 4 && id_len(edition) <= 4);
-    let mut given = Given {
+// room enough for the frames of these records, however many zeros are put into them
+fn room(records: &[Record]) -> usize {
+    records.iter().map(record_room).sum()
+}
+
+fn record_room(record: &Record) -> usize {
+    let inside = |subs: &Subs| match subs {
+        Subs::Records(records) => room(records),
+        Subs::Run(run) => run.len(),
+    };
+    let body = match &record.fields {
+        Fields::Text { bytes, .. } => bytes.len(),
+        Fields::Popularimeter { user, .. } => user.len(),
+        Fields::Table { deviations, .. } => 4 * deviations.len(),
+        Fields::Chapter { element, subs, .. } => element.len() + inside(subs),
+        Fields::Contents { element, children, subs, .. } => element.len() + closed(children).len() + inside(subs),
+        Fields::Raw { body } => body.len(),
+    };
+    10 + 2 * (20 + body)
+}
+
+fn output_room(list: &List) -> usize {
+    10 + 2 * room(&list.records) + if is_far(list) { 0 } else { list.padding }
+}
+
+fn add(writer: &mut Writer, record: &Record, run: &[u8]) -> (u32, usize) {
+    let mut entry = Entry {
         kind: kind_of_record(record) as u64,
         id: number(record.id.as_bytes()),
         numbers: [0; 5],
@@ -286,31 +308,31 @@ fn add(writer: &mut Writer, edition: u8, record: &Record, run: &[u8]) -> (u32, u
     let names;
     match &record.fields {
         Fields::Text { encoding, bytes } => {
-            given.numbers[0] = (*encoding).into();
-            given.rest = bytes;
+            entry.numbers[0] = (*encoding).into();
+            entry.rest = bytes;
         }
         Fields::Popularimeter { user, rating, counter } => {
-            given.numbers[..2].copy_from_slice(&[(*rating).into(), *counter]);
-            given.name = user;
+            entry.numbers[..2].copy_from_slice(&[(*rating).into(), *counter]);
+            entry.name = user;
         }
         Fields::Table { frames, bytes, millis, bits_for_bytes, bits_for_millis, deviations } => {
             let widths = [u64::from(*bits_for_bytes), u64::from(*bits_for_millis)];
-            given.numbers = [(*frames).into(), (*bytes).into(), (*millis).into(), widths[0], widths[1]];
-            given.deviations = deviations;
+            entry.numbers = [(*frames).into(), (*bytes).into(), (*millis).into(), widths[0], widths[1]];
+            entry.deviations = deviations;
         }
         Fields::Chapter { element, times, .. } => {
-            given.numbers[..4].copy_from_slice(&times.map(u64::from));
-            given.name = element;
+            entry.numbers[..4].copy_from_slice(&times.map(u64::from));
+            entry.name = element;
         }
         Fields::Contents { element, top_level, ordered, children, .. } => {
             names = closed(children);
-            given.numbers[..2].copy_from_slice(&[*top_level, *ordered].map(u64::from));
-            given.name = element;
-            given.names = &names;
+            entry.numbers[..2].copy_from_slice(&[*top_level, *ordered].map(u64::from));
+            entry.name = element;
+            entry.names = &names;
         }
-        Fields::Raw { body } => given.rest = body,
+        Fields::Raw { body } => entry.rest = body,
     }
-    writer.add(&given)
+    writer.add(&entry)
 }
 
 fn kind_of_record(record: &Record) -> Kind {

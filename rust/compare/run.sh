@@ -1,0 +1,69 @@
+#!/usr/bin/env bash
+# Compares the new library with the crate id3 1.17.2: lays everything out, builds it and runs all.
+#
+#   rust/compare/run.sh [OPTIONS]        10,000,000 generated tags, every short input and cut, 1,000,000 lists; OPTIONS as in README.md
+#   rust/compare/run.sh read HEX         both answers to one tag
+#   rust/compare/run.sh write LIST       the verdict on one list
+#   rust/compare/run.sh record           chooses questions and writes them with the crate's answers to crates/replay_reads
+#
+#   OUT                  the folder to lay it out in; target/compare if not given
+#   SOURCE               the folder whose src/ is the crate's source; as rust/oracle/setup.sh finds it if not given
+#   PACKAGE              the folder of the library's Rust package; rust/ if not given
+#   STREAMVAULT_LIB_DIR  the folder with libcapi.a; if not given, the archive is found or built as rust/build.rs says
+set -euo pipefail
+
+here=$(cd "$(dirname "$0")" && pwd)
+repository=$(cd "$here/../.." && pwd)
+out=${OUT:-$repository/target/compare}
+target=x86_64-unknown-linux-gnu
+
+# the oracle, this package and the library's Rust package side by side
+lay_out() {
+    mkdir -p "$out/oracle" "$out/compare" "$out/.cargo"
+    "$repository/rust/oracle/setup.sh" "$out/oracle" ${SOURCE:+"$SOURCE"} >/dev/null
+    cp "$out/oracle/.cargo/config.toml" "$out/.cargo/config.toml"
+    rm -rf "$out/compare/src" "$out/streamvault"
+    cp -Rp "$here/src" "$here/Cargo.toml" "$out/compare/"
+    ln -s "${PACKAGE:-$repository/rust}" "$out/streamvault"
+}
+
+# a compiler that knows the target
+find_rust() {
+    for rustc in "${RUSTC:-rustc}" /usr/bin/rustc; do
+        if command -v "$rustc" >/dev/null && [ -d "$("$rustc" --print sysroot)/lib/rustlib/$target/lib" ]; then
+            export RUSTC=$rustc
+            return
+        fi
+    done
+    echo "run.sh: no rustc here has the standard library for $target" >&2
+    exit 1
+}
+
+# on another machine than x86-64: the cross linker, and an emulator with the cross libraries
+prepare() {
+    emulator=()
+    if [ "$(uname -m)" = x86_64 ]; then
+        return
+    fi
+    if ! command -v qemu-x86_64 >/dev/null || ! command -v x86_64-linux-gnu-gcc >/dev/null; then
+        echo "run.sh: the library is for x86-64; elsewhere this needs qemu-x86_64 and x86_64-linux-gnu-gcc" >&2
+        exit 1
+    fi
+    export CARGO_TARGET_X86_64_UNKNOWN_LINUX_GNU_LINKER=x86_64-linux-gnu-gcc
+    # instructions that repeat are emulated one byte at a time
+    export GLIBC_TUNABLES=glibc.cpu.x86_rep_stosb_threshold=1000000000:glibc.cpu.x86_rep_movsb_threshold=1000000000
+    local libraries=/usr/x86_64-linux-gnu/lib
+    emulator=(qemu-x86_64 "$libraries/ld-linux-x86-64.so.2" --library-path "$libraries")
+}
+
+lay_out
+cd "$out/compare"
+if [ "${1:-}" = record ]; then
+    cargo build -j1 --release --quiet --no-default-features --bin record
+    mkdir -p "$repository/crates/replay_reads"
+    exec target/release/record "$repository/crates/replay_reads/stdin" "$repository/crates/replay_reads/stdout"
+fi
+find_rust
+prepare
+cargo build -j1 --release --quiet --target "$target"
+exec "${emulator[@]}" "target/$target/release/compare" "$@"
