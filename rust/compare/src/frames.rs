@@ -83,6 +83,35 @@ impl Frames {
         run
     }
 
+    /// A frame whose body has so many bytes before it is unsynchronised.
+    pub fn large(&mut self, len: usize) -> Vec<u8> {
+        let old = self.edition == 2;
+        let ids: [&[u8]; 4] = if old { [b"ABC", b"TT2", b"POP", b"MLL"] } else { [b"ABCD", b"TIT2", b"POPM", b"CHAP"] };
+        let id = self.rng.pick(&ids);
+        let mut body = self.body(id, 9);
+        let more = len.saturating_sub(body.len());
+        if id == b"CHAP" {
+            let raw = self.filled(more.saturating_sub(10));
+            body.extend(self.framed(b"ABCD", raw));
+        } else {
+            body.extend(self.filled(more));
+        }
+        self.framed(id, body)
+    }
+
+    // bytes of one sort, with FF and 00 among them
+    fn filled(&mut self, len: usize) -> Vec<u8> {
+        let fill = self.rng.pick(&[0x41, 0xFF, 0x00, 0x7F]);
+        let mut out = vec![fill; len];
+        for _ in 0..self.rng.below(30) {
+            let at = self.rng.below(len.max(1));
+            if let Some(byte) = out.get_mut(at) {
+                *byte = self.rng.pick(&[0xFF, 0x00, 0xE0]);
+            }
+        }
+        out
+    }
+
     // a frame that is no chapter
     fn leaf(&mut self) -> Vec<u8> {
         let mut id = self.id();
@@ -118,7 +147,11 @@ impl Frames {
         let body = if flagged { unsynchronised(&body, standard) } else { body };
         let counted = flags & if self.edition == 4 { 1 } else { 0x80 } != 0;
         let length = if counted { self.rng.exactly(4) } else { Vec::new() };
-        let size = self.size(length.len() + body.len());
+        let mut size = self.size(length.len() + body.len());
+        if self.edition == 3 && counted && self.rng.one_in(2) {
+            // too small for the four bytes of a data length
+            size = self.rng.below(4);
+        }
         if self.edition == 3 {
             out.extend((size as u32).to_be_bytes());
         } else {
@@ -146,6 +179,8 @@ impl Frames {
         if self.edition == 4 {
             flags |= if self.rng.one_in(4) { 0x02 } else { 0 };
             flags |= if self.rng.one_in(7) { 0x01 } else { 0 };
+        } else if self.rng.one_in(60) {
+            flags |= 0x80;
         }
         if self.rng.one_in(10) {
             // bits that mean nothing to a reader

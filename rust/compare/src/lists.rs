@@ -2,6 +2,7 @@
 use crate::frames::Frames;
 use crate::ids::version_of;
 use crate::rng::Rng;
+use crate::tags;
 use crate::texts;
 use oracle::{Fields, List, Record, Subs};
 
@@ -17,6 +18,17 @@ const RAWS4: [&str; 22] = [
 // of another kind, another edition, or no id
 const WRONG: [&str; 14] =
     ["abcd", "ab ", "TT2", "TIT2", "POP", "POPM", "MLLT", "MLL", "CHAP", "CTOC", "AB", "A\u{e9}1", "TXXX", "T\u{e9}"];
+
+/// A 2.2 body of the greatest length, and of one byte more.
+pub fn long() -> [List; 2] {
+    [(1 << 24) - 1, 1 << 24].map(|len| List {
+        version: version_of(2),
+        unsynchronisation: false,
+        padding: 0,
+        file_altered: false,
+        records: vec![Record { id: "ABC".to_string(), fields: Fields::Raw { body: vec![0x41; len] } }],
+    })
+}
 
 /// The list of a case.
 pub fn list(seed: u64, index: u64) -> List {
@@ -103,7 +115,16 @@ impl Maker {
 
     fn raw(&mut self) -> (&'static str, Fields) {
         let id = if self.edition == 2 { self.rng.pick(&RAWS3) } else { self.rng.pick(&RAWS4) };
-        (id, Fields::Raw { body: self.rng.bytes(24) })
+        if !self.rng.one_in(4000) {
+            return (id, Fields::Raw { body: self.rng.bytes(24) });
+        }
+        let len = tags::large_len(&mut self.rng);
+        let fill = self.rng.pick(&[0x41, 0xFF, 0x00]);
+        let mut body = vec![fill; len];
+        for i in (0..len).step_by(3) {
+            body[i] = self.rng.byte();
+        }
+        (id, Fields::Raw { body })
     }
 
     fn table(&mut self) -> (&'static str, Fields) {

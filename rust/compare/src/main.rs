@@ -14,12 +14,12 @@ mod shrink;
 mod work;
 mod writes;
 
-use classes::{Class, ALL};
+use classes::ALL;
 use compare::lists;
 use compare::sources::{shorts, Source};
 use library::Library;
 use oracle::List;
-use reads::compared;
+use reads::{compared, Met, Verdict};
 use std::process::ExitCode;
 use std::time::Instant;
 use work::Tally;
@@ -93,6 +93,7 @@ fn all(options: Options) -> ExitCode {
 
 fn sources(options: Options) -> Vec<Source> {
     let mut out = vec![Source::Generated { seed: options.seed, count: options.readings }];
+    out.push(Source::Large { seed: options.seed, count: options.readings / 1000 });
     if options.cuts > 0 {
         out.push(Source::cuts(options.seed, options.cuts));
     }
@@ -129,16 +130,24 @@ fn readings(source: &Source, threads: usize) -> Tally {
 fn shrunk_tag(tag: Vec<u8>, what: String) -> Vec<u8> {
     oracle::big_stack(move || {
         let mut library = Library::default();
-        shrink::tag(&tag, &mut |less| compared(&mut library, |comparison| comparison.tag(less)).1.as_deref() == Some(&what))
+        shrink::tag(&tag, &mut |less| compared(&mut library, |comparison| comparison.tag(less)).unlisted.as_deref() == Some(&what))
     })
+}
+
+// the last two lists have a body of 2^24 bytes, more or less
+fn list(options: Options, index: u64) -> List {
+    match options.writings.checked_sub(index + 1) {
+        Some(last @ 0..=1) => lists::long()[last as usize].clone(),
+        _ => lists::list(options.seed, index),
+    }
 }
 
 fn writings(options: Options) -> Tally {
     let tally = work::run("lists of records", options.writings, options.threads, |index, comparison| {
-        comparison.list(&lists::list(options.seed, index));
+        comparison.list(&list(options, index));
     });
     for (index, what) in tally.kept.clone() {
-        let list = lists::list(options.seed, index);
+        let list = list(options, index);
         println!("UNLISTED list {index}: {what}");
         println!("    {}", form::list(&list));
         println!("    shrunk: {}", form::list(&shrunk_list(list, what)));
@@ -149,18 +158,28 @@ fn writings(options: Options) -> Tally {
 fn shrunk_list(list: List, what: String) -> List {
     oracle::big_stack(move || {
         let mut library = Library::default();
-        shrink::list(&list, &mut |less| compared(&mut library, |comparison| comparison.list(less)).1.as_deref() == Some(&what))
+        shrink::list(&list, &mut |less| compared(&mut library, |comparison| comparison.list(less)).unlisted.as_deref() == Some(&what))
     })
 }
 
 fn report(name: &str, tally: &Tally) {
     println!("{name}: {} cases, {} agreements", tally.cases, tally.agreed);
+    met(&tally.met);
     for (class, count) in ALL.iter().zip(&tally.listed) {
         if *count > 0 {
             println!("    {count:>10}  {}", class.name());
         }
     }
     println!("    {:>10}  unlisted", tally.unlisted);
+}
+
+fn met(met: &Met) {
+    let names = ["text", "popularimeter", "table", "chapter", "contents", "raw"];
+    let kinds: Vec<String> = names.iter().zip(met.kinds).map(|(name, count)| format!("{name} {count}")).collect();
+    let ends = met.ends.iter().enumerate().filter(|(_, count)| **count > 0);
+    let ends: Vec<String> = ends.map(|(number, count)| format!("{number}: {count}")).collect();
+    println!("    read, by kind: {}; runs of subframes {}", kinds.join(", "), met.runs);
+    println!("    read, by end (0) or refusal: {}", ends.join(", "));
 }
 
 fn one_tag(hex: &str) -> ExitCode {
@@ -197,10 +216,10 @@ fn one_list(text: &str) -> ExitCode {
     })
 }
 
-fn verdict((listed, unlisted): (Vec<Class>, Option<String>)) -> ExitCode {
-    println!("listed: {}", form::classes(&listed));
-    println!("unlisted: {}", unlisted.as_deref().unwrap_or("nothing"));
-    if unlisted.is_none() {
+fn verdict(verdict: Verdict) -> ExitCode {
+    println!("listed: {}", form::classes(&verdict.listed));
+    println!("unlisted: {}", verdict.unlisted.as_deref().unwrap_or("nothing"));
+    if verdict.unlisted.is_none() {
         ExitCode::SUCCESS
     } else {
         ExitCode::FAILURE

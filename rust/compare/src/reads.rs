@@ -14,6 +14,25 @@ pub struct Comparison<'a> {
     pub listed: Vec<Class>,
     /// The first difference of no class.
     pub unlisted: Option<String>,
+    /// What was met on the way.
+    pub met: Met,
+}
+
+/// What the cases were about, so that a run shows that it got everywhere.
+#[derive(Clone, Copy)]
+pub struct Met {
+    /// Frames that both show, by their kind here.
+    pub kinds: [u64; 6],
+    /// How this library ended a tag: quietly (0), or the number of its refusal.
+    pub ends: [u64; 35],
+    /// Runs of subframes, compared as tags of their own.
+    pub runs: u64,
+}
+
+impl Default for Met {
+    fn default() -> Met {
+        Met { kinds: [0; 6], ends: [0; 35], runs: 0 }
+    }
 }
 
 /// How each side ended at one level, and how many levels of frames were met there.
@@ -27,25 +46,31 @@ struct Level {
 }
 
 /// Runs a comparison; what was listed, and what was not. A panic outside the crate is of no class.
-pub fn compared(library: &mut Library, run: impl FnOnce(&mut Comparison)) -> (Vec<Class>, Option<String>) {
-    let mut comparison = Comparison::new(library);
+pub fn compared(library: &mut Library, run: impl FnOnce(&mut Comparison)) -> Verdict {
+    let mut comparison = Comparison { library, listed: Vec::new(), unlisted: None, met: Met::default() };
     let done = catch_unwind(AssertUnwindSafe(|| run(&mut comparison)));
     if let Err(payload) = done {
         let said = payload.downcast_ref::<String>().cloned().unwrap_or_default();
         comparison.unlisted = Some(format!("a panic in the comparison: {said}"));
     }
-    (comparison.listed, comparison.unlisted)
+    Verdict { listed: comparison.listed, unlisted: comparison.unlisted, met: comparison.met }
+}
+
+/// What a comparison came to.
+pub struct Verdict {
+    /// Listed differences.
+    pub listed: Vec<Class>,
+    /// A difference of no class.
+    pub unlisted: Option<String>,
+    /// What was met on the way.
+    pub met: Met,
 }
 
 impl Comparison<'_> {
-    /// A comparison that found nothing yet.
-    fn new(library: &mut Library) -> Comparison<'_> {
-        Comparison { library, listed: Vec::new(), unlisted: None }
-    }
-
     /// Asks both for a tag and compares all that they say.
     pub fn tag(&mut self, tag: &[u8]) {
-        self.level(tag);
+        let level = self.level(tag);
+        self.met.ends[level.ours.unwrap_or(0).min(34) as usize] += 1;
     }
 
     /// Notes a listed difference.
@@ -72,7 +97,7 @@ impl Comparison<'_> {
         let theirs = oracle::read_past(tag);
         let ours = self.library.read(tag);
         self.must(theirs.doubts.is_empty(), "the oracle is in doubt");
-        let mut level = Level { ours: our_refusal(&ours), theirs: their_refusal(&theirs), ..Level::default() };
+        let mut level = Level { ours: our_refusal(&ours).or(ours.header.err()), theirs: their_refusal(&theirs), ..Level::default() };
         if let Some(edition) = self.headers(&theirs, &ours) {
             self.frames(edition, &theirs, &ours, &mut level);
         }
@@ -122,6 +147,7 @@ impl Comparison<'_> {
         }
         self.must(!frame.compressed, "a compressed mark");
         self.must(item.body == frame.body, "a frame's body");
+        self.met.kinds[frame.kind.min(5) as usize] += 1;
         self.kinds(edition, item, frame);
         if frame.kind == Kind::Chapter as u64 || frame.kind == Kind::Contents as u64 {
             self.inside(edition, item, None, level);
@@ -215,6 +241,7 @@ impl Comparison<'_> {
         let Some(run) = oracle::run_of(&item.id, &item.body) else {
             return self.must(refused == Some(11) && number == 11, "a chapter without its parts");
         };
+        self.met.runs += 1;
         let before = self.listed.len();
         let inner = self.level(&wrapped(edition, run));
         let explained = self.listed.len() > before;

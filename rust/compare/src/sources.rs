@@ -5,6 +5,8 @@ use crate::tags;
 pub enum Source {
     /// So many generated tags from a seed.
     Generated { seed: u64, count: u64 },
+    /// So many generated tags with a long body.
+    Large { seed: u64, count: u64 },
     /// Every input of at most so many bytes behind a header.
     Short(Short),
     /// Every cut of good tags: the tags, and how many cuts come before each.
@@ -39,6 +41,7 @@ impl Source {
     pub fn name(&self) -> String {
         match self {
             Source::Generated { seed, .. } => format!("generated tags, seed {seed}"),
+            Source::Large { seed, .. } => format!("generated tags with bodies of up to 65,540 bytes, seed {seed}"),
             Source::Short(short) => format!("every input of up to {} bytes behind {}", short.most, short.name),
             Source::Cuts { tags, .. } => format!("every cut of {} tags", tags.len()),
         }
@@ -47,7 +50,7 @@ impl Source {
     /// How many tags it has.
     pub fn count(&self) -> u64 {
         match self {
-            Source::Generated { count, .. } => *count,
+            Source::Generated { count, .. } | Source::Large { count, .. } => *count,
             Source::Short(short) => (0..=short.most).map(|n| 1 << (8 * n)).sum(),
             Source::Cuts { before, .. } => before.last().copied().unwrap_or(0),
         }
@@ -58,6 +61,7 @@ impl Source {
         out.clear();
         match self {
             Source::Generated { seed, .. } => out.extend(tags::tag(*seed, index)),
+            Source::Large { seed, .. } => out.extend(tags::large(*seed, index)),
             Source::Short(short) => short.tag(index, out),
             Source::Cuts { tags, before } => {
                 let i = before.partition_point(|n| *n <= index) - 1;

@@ -12,6 +12,35 @@ pub fn tag(seed: u64, index: u64) -> Vec<u8> {
     out
 }
 
+/// A tag with a body whose length is about one at which sizes or buffers change.
+pub fn large(seed: u64, index: u64) -> Vec<u8> {
+    let mut rng = Rng::at(seed, index);
+    let edition = rng.between(2, 4) as u8;
+    let len = large_len(&mut rng);
+    let mut maker = Frames { rng, edition };
+    let frame = maker.large(len);
+    let mut flags = 0;
+    let mut region = [frame, maker.frame(1)].concat();
+    if maker.rng.one_in(3) {
+        flags = 0x80;
+        if edition < 4 {
+            region = unsynchronised(&region, maker.rng.one_in(2));
+        }
+    }
+    let mut out = header(&mut maker.rng, edition, flags, region.len());
+    out.extend(region);
+    if maker.rng.one_in(4) {
+        out.truncate(out.len() - maker.rng.below(out.len().min(20)));
+    }
+    out
+}
+
+/// A length about one at which sizes or buffers change.
+pub fn large_len(rng: &mut Rng) -> usize {
+    let about = rng.pick(&[128, 256, 4096, 8192, 8192, 16384, 16384, 32768, 65536]);
+    about - 20 + rng.below(24)
+}
+
 /// A tag that nothing was done to, for the cuts.
 pub fn sound(seed: u64, index: u64) -> Vec<u8> {
     let rng = Rng::at(seed, index);

@@ -1,7 +1,7 @@
 //! Numbered cases, split over threads, with a progress line.
-use crate::classes::{Class, ALL};
+use crate::classes::ALL;
 use crate::library::Library;
-use crate::reads::{compared, Comparison};
+use crate::reads::{compared, Comparison, Met, Verdict};
 use std::io::{IsTerminal, Write};
 use std::sync::atomic::{AtomicU64, Ordering};
 use std::thread;
@@ -25,18 +25,21 @@ pub struct Tally {
     pub unlisted: u64,
     /// Some of these: number of the case and what differs.
     pub kept: Vec<(u64, String)>,
+    /// What was met on the way.
+    pub met: Met,
 }
 
 impl Tally {
-    fn add(&mut self, index: u64, listed: &[Class], unlisted: Option<String>) {
+    fn add(&mut self, index: u64, Verdict { listed, unlisted, met }: Verdict) {
         self.listed.resize(ALL.len(), 0);
         self.cases += 1;
+        join(&mut self.met, &met);
         if listed.is_empty() && unlisted.is_none() {
             self.agreed += 1;
         }
-        let mut met = [false; ALL.len()];
-        listed.iter().for_each(|class| met[class.index()] = true);
-        self.listed.iter_mut().zip(met).for_each(|(count, met)| *count += u64::from(met));
+        let mut classes = [false; ALL.len()];
+        listed.iter().for_each(|class| classes[class.index()] = true);
+        self.listed.iter_mut().zip(classes).for_each(|(count, met)| *count += u64::from(met));
         if let Some(what) = unlisted {
             self.unlisted += 1;
             // one of each sort
@@ -52,6 +55,7 @@ impl Tally {
         self.cases += other.cases;
         self.agreed += other.agreed;
         self.unlisted += other.unlisted;
+        join(&mut self.met, &other.met);
         self.listed.iter_mut().zip(&other.listed).for_each(|(count, more)| *count += more);
         for (index, what) in &other.kept {
             match self.kept.iter_mut().find(|(_, mine)| mine == what) {
@@ -62,6 +66,12 @@ impl Tally {
         self.kept.sort();
         self.kept.truncate(KEPT);
     }
+}
+
+fn join(met: &mut Met, other: &Met) {
+    met.kinds.iter_mut().zip(other.kinds).for_each(|(count, more)| *count += more);
+    met.ends.iter_mut().zip(other.ends).for_each(|(count, more)| *count += more);
+    met.runs += other.runs;
 }
 
 /// Compares the cases below a number.
@@ -98,8 +108,7 @@ fn worker(count: u64, next: &AtomicU64, done: &AtomicU64, case: &(impl Fn(u64, &
             return tally;
         }
         for index in from..count.min(from + BLOCK) {
-            let (listed, unlisted) = compared(&mut library, |comparison| case(index, comparison));
-            tally.add(index, &listed, unlisted);
+            tally.add(index, compared(&mut library, |comparison| case(index, comparison)));
         }
         done.fetch_add(BLOCK, Ordering::Relaxed);
     }
