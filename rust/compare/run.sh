@@ -15,7 +15,7 @@ set -euo pipefail
 here=$(cd "$(dirname "$0")" && pwd)
 repository=$(cd "$here/../.." && pwd)
 out=${OUT:-$repository/target/compare}
-target=x86_64-unknown-linux-gnu
+. "$here/env.sh"
 
 # the oracle, this package and the library's Rust package side by side
 lay_out() {
@@ -27,35 +27,6 @@ lay_out() {
     ln -s "${PACKAGE:-$repository/rust}" "$out/streamvault"
 }
 
-# a compiler that knows the target
-find_rust() {
-    for rustc in "${RUSTC:-rustc}" /usr/bin/rustc; do
-        if command -v "$rustc" >/dev/null && [ -d "$("$rustc" --print sysroot)/lib/rustlib/$target/lib" ]; then
-            export RUSTC=$rustc
-            return
-        fi
-    done
-    echo "run.sh: no rustc here has the standard library for $target" >&2
-    exit 1
-}
-
-# on another machine than x86-64: the cross linker, and an emulator with the cross libraries
-prepare() {
-    emulator=()
-    if [ "$(uname -m)" = x86_64 ]; then
-        return
-    fi
-    if ! command -v qemu-x86_64 >/dev/null || ! command -v x86_64-linux-gnu-gcc >/dev/null; then
-        echo "run.sh: the library is for x86-64; elsewhere this needs qemu-x86_64 and x86_64-linux-gnu-gcc" >&2
-        exit 1
-    fi
-    export CARGO_TARGET_X86_64_UNKNOWN_LINUX_GNU_LINKER=x86_64-linux-gnu-gcc
-    # instructions that repeat are emulated one byte at a time
-    export GLIBC_TUNABLES=glibc.cpu.x86_rep_stosb_threshold=1000000000:glibc.cpu.x86_rep_movsb_threshold=1000000000
-    local libraries=/usr/x86_64-linux-gnu/lib
-    emulator=(qemu-x86_64 "$libraries/ld-linux-x86-64.so.2" --library-path "$libraries")
-}
-
 lay_out
 cd "$out/compare"
 if [ "${1:-}" = record ]; then
@@ -64,6 +35,6 @@ if [ "${1:-}" = record ]; then
     exec target/release/record "$repository/crates/replay_reads/stdin" "$repository/crates/replay_reads/stdout"
 fi
 find_rust
-prepare
+find_emulator
 cargo build -j1 --release --quiet --target "$target"
 exec "${emulator[@]}" "target/$target/release/compare" "$@"

@@ -1,0 +1,20 @@
+#!/usr/bin/env bash
+# Holds `streamvault list` against other readers and writers of ID3v2 tags, those of Debian's packages python3-mutagen, eyed3, ffmpeg, libid3tag0 and libtagc0.
+# One that is not installed is left out with a message.
+#
+#   rust/compare/peers.sh
+#
+#   OUT                  the folder to build in; target/peers if not given
+#   PACKAGE              the folder of the library's Rust package; rust/ if not given
+#   STREAMVAULT_LIB_DIR  the folder with libcapi.a; if not given, the archive is found or built as rust/build.rs says
+set -euo pipefail
+
+here=$(cd "$(dirname "$0")" && pwd)
+repository=$(cd "$here/../.." && pwd)
+out=${OUT:-$repository/target/peers}
+. "$here/env.sh"
+
+find_rust
+find_emulator
+cargo build -j1 --release --quiet --target "$target" --target-dir "$out" --manifest-path "${PACKAGE:-$repository/rust}/Cargo.toml" --bin streamvault
+exec "${PYTHON:-/usr/bin/python3}" "$here/peers.py" "${emulator[@]}" "$out/$target/release/streamvault" list
