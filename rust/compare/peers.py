@@ -14,7 +14,7 @@ import subprocess
 import sys
 import tempfile
 
-# user, rating, counter; counters of 1 to 9 bytes, and the four that most programs write
+# user, rating, counter; counters of up to eight bytes
 POPULARIMETERS = [
     ("a", 5, 0),
     ("room 7", 255, 1),

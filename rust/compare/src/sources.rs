@@ -7,8 +7,8 @@ pub enum Source {
     Generated { seed: u64, count: u64 },
     /// So many generated tags with a long body.
     Large { seed: u64, count: u64 },
-    /// Every input of at most so many bytes behind a header.
-    Short(Short),
+    /// Every input of at most so many bytes behind each of some headers.
+    Short(Vec<Short>),
     /// Every cut of good tags: the tags, and how many cuts come before each.
     Cuts { tags: Vec<Vec<u8>>, before: Vec<u64> },
 }
@@ -42,7 +42,13 @@ impl Source {
         match self {
             Source::Generated { seed, .. } => format!("generated tags, seed {seed}"),
             Source::Large { seed, .. } => format!("generated tags with bodies of up to 65,540 bytes, seed {seed}"),
-            Source::Short(short) => format!("every input of up to {} bytes behind {}", short.most, short.name),
+            Source::Short(shorts) => {
+                let most = shorts.first().map_or(0, |short| short.most);
+                match &shorts[..] {
+                    [short] => format!("every input of up to {most} bytes behind {}", short.name),
+                    _ => format!("every input of up to {most} bytes behind {} other headers", shorts.len()),
+                }
+            }
             Source::Cuts { tags, .. } => format!("every cut of {} tags", tags.len()),
         }
     }
@@ -51,7 +57,7 @@ impl Source {
     pub fn count(&self) -> u64 {
         match self {
             Source::Generated { count, .. } | Source::Large { count, .. } => *count,
-            Source::Short(short) => (0..=short.most).map(|n| 1 << (8 * n)).sum(),
+            Source::Short(shorts) => shorts.iter().map(Short::count).sum(),
             Source::Cuts { before, .. } => before.last().copied().unwrap_or(0),
         }
     }
@@ -62,7 +68,11 @@ impl Source {
         match self {
             Source::Generated { seed, .. } => out.extend(tags::tag(*seed, index)),
             Source::Large { seed, .. } => out.extend(tags::large(*seed, index)),
-            Source::Short(short) => short.tag(index, out),
+            Source::Short(shorts) => {
+                // all of one source have the same count
+                let each = shorts[0].count();
+                shorts[(index / each) as usize].tag(index % each, out);
+            }
             Source::Cuts { tags, before } => {
                 let i = before.partition_point(|n| *n <= index) - 1;
                 out.extend(&tags[i][..(index - before[i]) as usize]);
@@ -72,6 +82,10 @@ impl Source {
 }
 
 impl Short {
+    fn count(&self) -> u64 {
+        (0..=self.most).map(|n| 1 << (8 * n)).sum()
+    }
+
     fn tag(&self, index: u64, out: &mut Vec<u8>) {
         let mut rest = index;
         let mut len = 0;
@@ -104,7 +118,7 @@ fn behind(name: &str, head: &[&[u8]], tail: &[u8], most: u32) -> Short {
 
 /// The headers. Inputs behind the first ones have up to `most` bytes, behind the others up to two.
 pub fn shorts(most: u32) -> Vec<Source> {
-    let mut out = vec![
+    let first = [
         behind("a 2.2 tag header, being the frame's id, with 00 00 02 00 41 after it", &[&tag_header(2, 0, 8)], &[0, 0, 2, 0, 0x41], most),
         behind("POP in 2.2, size 3", &[&tag_header(2, 0, 9), &frame_header(2, b"POP", 3, 0)], &[], most),
         behind("POPM in 2.4 flagged 0002, size 3", &[&tag_header(4, 0, 13), &frame_header(4, b"POPM", 3, 2)], &[], most),
@@ -114,18 +128,23 @@ pub fn shorts(most: u32) -> Vec<Source> {
         behind("TIT2 in 2.4, size 4, encoding 1", &[&tag_header(4, 0, 14), &frame_header(4, b"TIT2", 4, 0), &[1]], &[], most),
         behind("MLLT in 2.4, size 11, its first eight bytes", &[&tag_header(4, 0, 21), &frame_header(4, b"MLLT", 11, 0), &[0; 8]], &[], most),
     ];
-    let two = most.min(2);
-    out.push(behind("no header", &[b"ID3\x04\0\0\0\0"], &[], two));
+    let mut out: Vec<Source> = first.into_iter().map(|short| Source::Short(vec![short])).collect();
+    out.push(Source::Short(others(most.min(2))));
+    out
+}
+
+fn others(most: u32) -> Vec<Short> {
+    let mut out = vec![behind("eight bytes of a 2.4 tag header", &[b"ID3\x04\0\0\0\0"], &[], most)];
     for edition in 2..=4 {
         for flags in [0, 0x80, 0x40, 0x20, 0x01] {
             let name = format!("a 2.{edition} tag header with flags {flags:02X}");
-            out.push(behind(&name, &[&tag_header(edition, flags, 40)], &[0; 30], two));
+            out.push(behind(&name, &[&tag_header(edition, flags, 40)], &[0; 30], most));
         }
     }
-    out.extend(flags(two));
-    out.extend([3, 4].map(|edition| extended(edition, two)));
-    out.extend(parts(two));
-    out.into_iter().map(Source::Short).collect()
+    out.extend(flags(most));
+    out.extend([3, 4].map(|edition| extended(edition, most)));
+    out.extend(parts(most));
+    out
 }
 
 // all flags of a frame, with each small size
