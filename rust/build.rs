@@ -46,7 +46,7 @@ fn archive() -> PathBuf {
     }
     let root = Path::new(&variable("CARGO_MANIFEST_DIR")).join("..");
     let left = root.join("target/staticlib").join(ARCHIVE);
-    if root.join("crates/capi").is_dir() && on_path("rt") {
+    if on_path("rt") && root.join("crates.txt").is_file() {
         println!("cargo:rerun-if-changed={}", root.join("crates").display());
         println!("cargo:rerun-if-changed={}", root.join("crates.txt").display());
         prove(&root);
@@ -55,7 +55,7 @@ fn archive() -> PathBuf {
     println!("cargo:rerun-if-changed={}", left.display());
     given(
         left,
-        "rt is not on the path to build it. Run `rt staticlib capi` in the repository, or name its folder by STREAMVAULT_LIB_DIR",
+        "to build it takes rt on the path and the repository around this package. STREAMVAULT_LIB_DIR can name a folder that has it",
     )
 }
 

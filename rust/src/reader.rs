@@ -235,6 +235,15 @@ impl<W: Work> Iterator for Records<'_, W> {
 
 impl<W: Work> FusedIterator for Records<'_, W> {}
 
+impl<'t, W: Work> IntoIterator for Reader<'t, W> {
+    type Item = Result<Record, Refusal>;
+    type IntoIter = Records<'t, W>;
+
+    fn into_iter(self) -> Records<'t, W> {
+        self.records()
+    }
+}
+
 /// All frames of a tag as records.
 ///
 /// ```

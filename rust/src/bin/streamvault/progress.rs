@@ -9,29 +9,31 @@ const EVERY: Duration = Duration::from_millis(200);
 pub struct Progress {
     shown: bool,
     files: u64,
-    told: Instant,
+    last: Instant,
+    told: bool,
 }
 
 impl Progress {
     /// Nothing is told unless it is to be shown.
     pub fn new(shown: bool) -> Progress {
-        Progress { shown, files: 0, told: Instant::now() }
+        Progress { shown, files: 0, last: Instant::now(), told: false }
     }
 
     /// One more file.
     pub fn file(&mut self) {
         self.files += 1;
-        if self.shown && self.told.elapsed() >= EVERY {
+        if self.shown && self.last.elapsed() >= EVERY {
             eprint!("\r{} files", self.files);
-            self.told = Instant::now();
+            self.last = Instant::now();
+            self.told = true;
         }
     }
 }
 
-/// At the end the line is cleared.
+/// At the end the line is cleared, if there is one.
 impl Drop for Progress {
     fn drop(&mut self) {
-        if self.shown {
+        if self.told {
             eprint!("\r\x1b[K");
         }
     }
