@@ -10,7 +10,7 @@ use Rattle.format.specs.Listing.{tagLine, frameLine, endLine, refusedLine}
 use Rattle.format.specs.declared.Version.{Version}
 use Rattle.format.specs.declared.Version.the-variants.{Id3v22, Id3v23, Id3v24}
 use Rattle.format.specs.declared.Record.{Record}
-use Rattle.reader.specs.Reader.{headerOf, openOf, Stepped, stepOf}
+use Rattle.reader.specs.Reader.{headerOf, openOf, stepOf}
 use Rattle.reader.specs.declared.Header.{Header}
 use Rattle.reader.specs.declared.Headed.{Headed}
 use Rattle.reader.specs.declared.Reader.{Reader}
@@ -42,6 +42,7 @@ abbrev pub recordLine : Version → ℕ → Record → List ℕ → List ℕ
 recordLine v n r s =
     frameLine n (bytesOf (idLen v) (r .heading .id)) (r .at) (r .body .len) (r .heading .short) (r .heading .fields) (part (r .name) s)
 
+-- the same in the buffer that the record names
 abbrev pub recordIn : Version → ℕ → Record → List ℕ → List ℕ → List ℕ
 recordIn v n r tag work = recordLine v n r (bufferOf r tag work)
 
