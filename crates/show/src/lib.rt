@@ -1,4 +1,6 @@
 // Listings on standard output: what the listing program does, for it and for the programs that try its limits.
+pub mod cases;
+
 use format::refusals::NO_ROOM;
 use libc::STDIN_FILENO;
 use libc::STDOUT_FILENO;

@@ -1,9 +1,9 @@
--- `tags::show_tag` is safe. Assumes nothing.
+-- `show::cases::show_tag` is safe. Assumes nothing.
 use native.Mathlib.Omega.{arith}
 use lib.ListN.{length-take}
 use borrow.Author.Needs.{needs}
-use Rattle.tags.proofs.show_tag.Statement.{statement}
-use Rattle.tags.proofs.show_tag.Tie as tie
+use Rattle.show.proofs.cases.show_tag.Statement.{statement}
+use Rattle.show.proofs.cases.show_tag.Tie as tie
 
 slice-relend-prefix-show : tie.Need-slice-relend-prefix-show
 slice-relend-prefix-show c = search needs

@@ -1,11 +1,11 @@
--- `tags::show_cases` is safe and ends. Assumes nothing.
+-- `show::cases::show_cases` is safe and ends. Assumes nothing.
 use mathlib.Core.Path.{_≡_, refl, _∙_}
 use Prim.Native.Nat.{_-_, _^_}
 use native.Mathlib.Omega.{arith}
 use lib.ListN.{length}
 use borrow.Author.Needs.{needs}
-use Rattle.tags.proofs.show_cases.Statement.{statement}
-use Rattle.tags.proofs.show_cases.Tie as tie
+use Rattle.show.proofs.cases.show_cases.Statement.{statement}
+use Rattle.show.proofs.cases.show_cases.Tie as tie
 
 abbrev Inv-loop : tie.InvT-loop
 Inv-loop area₀ work₀ text₀ number₀ area work text number = (length area ≡ length area₀) × (length work ≡ length work₀) × (length text ≡ length text₀)

@@ -1,9 +1,9 @@
--- `tags::read_tag` is safe. Assumes nothing.
+-- `show::cases::read_tag` is safe. Assumes nothing.
 use native.Mathlib.Omega.{arith}
 use lib.ListN.{length-take}
 use borrow.Author.Needs.{needs}
-use Rattle.tags.proofs.read_tag.Statement.{statement}
-use Rattle.tags.proofs.read_tag.Tie as tie
+use Rattle.show.proofs.cases.read_tag.Statement.{statement}
+use Rattle.show.proofs.cases.read_tag.Tie as tie
 
 slice-relend-prefix-read-full : tie.Need-slice-relend-prefix-read-full
 slice-relend-prefix-read-full c = search needs
