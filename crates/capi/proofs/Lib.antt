@@ -2,3 +2,6 @@
 pub mod Loads
 pub mod Left
 pub mod Backs
+pub mod Refusals
+pub mod Follows
+pub mod Cases

@@ -1,0 +1,171 @@
+-- Worked calls, by computation, word for word: document 01's listing read and written again, and what is refused 2, 20 and 21. Assumes nothing.
+use mathlib.Core.Path.{_≡_, refl}
+use Prim.Native.Nat.{ℕ}
+use mathlib.Core.List.{List, [], _∷_, _++_}
+use lib.ListN.{drop, set}
+use Rattle.format.specs.Bytes.{first, named, ascii, among, zeroAt, zerosIn, zeros}
+use Rattle.format.specs.Numbers.{digits, onto}
+use Rattle.format.specs.Unsynch.{resync, unsync}
+use Rattle.format.specs.Ids.{utf8From, allIdBytes, kindOf}
+use Rattle.format.specs.Header.{extOf, headerRefusal}
+use Rattle.format.specs.Frame.{headOf}
+use Rattle.format.specs.Table.{spread, gathered, unpack}
+use Rattle.format.specs.Popularimeter.{stripped, counterBytes}
+use Rattle.format.specs.Record.{bodyRefusal, runOf, partsOf}
+use Rattle.format.specs.Walk.{insideOf, onHead, stepOf as walkStep, walkBytes, walked, onShown, frameOf}
+use Rattle.format.specs.Encode.{bodyBytes, encode, refusalOf, tagOf}
+use Rattle.frame.specs.References.{unpackOf}
+use Rattle.reader.specs.Reader.{headerOf, openOf, stepOf}
+use Rattle.writer.specs.Writer.{beginOf, addOf, finishOf}
+use Rattle.capi.specs.Words.{headerWords, readerWords, readerOf, writerWords, writerOf, recordWords, fieldsOf, headingOf}
+use Rattle.capi.specs.Calls.{Left1, Left2, Left3, svHeader, svOpen, svStep, svBegin, svAdd, svFinish, svReferences}
+
+-- each call, with all that it rests on unfolded
+onHeader : List ℕ → List ℕ → Left1
+unfolding first digits onto extOf headerRefusal headerOf headerWords svHeader
+onHeader tag words = svHeader tag words
+
+onOpen : List ℕ → List ℕ → List ℕ → Left2
+unfolding first digits onto extOf headerRefusal openOf readerWords svOpen
+onOpen tag work reader = svOpen tag work reader
+
+onStep : List ℕ → List ℕ → List ℕ → List ℕ → Left3
+unfolding
+    first zeroAt zerosIn digits onto resync utf8From kindOf headOf bodyRefusal runOf partsOf insideOf onHead walkStep walkBytes walked onShown frameOf stepOf
+    readerOf readerWords recordWords svStep
+onStep tag work reader words = svStep tag work reader words
+
+onBegin : ℕ → ℕ → ℕ → List ℕ → Left1
+unfolding beginOf writerWords svBegin
+onBegin version mode altered writer = svBegin version mode altered writer
+
+onAdd : List ℕ → List ℕ → List ℕ → List ℕ → List ℕ → List ℕ → List ℕ → List ℕ → Left3
+unfolding
+    first among zeroAt digits unsync stripped counterBytes allIdBytes kindOf bodyBytes encode refusalOf addOf
+    writerOf writerWords fieldsOf headingOf svAdd
+onAdd words name names rest deviations buffer writer count = svAdd words name names rest deviations buffer writer count
+
+onFinish : ℕ → List ℕ → List ℕ → List ℕ → List ℕ → Left2
+unfolding digits unsync tagOf finishOf writerOf svFinish
+onFinish padding buffer output writer count = svFinish padding buffer output writer count
+
+onReferences : List ℕ → List ℕ → List ℕ → List ℕ → Left2
+unfolding digits onto spread gathered unpack unpackOf fieldsOf headingOf svReferences
+onReferences words rest deviations count = svReferences words rest deviations count
+
+onEach : (List ℕ → Left3) → List (List ℕ) → List Left3
+onEach f [] = []
+onEach f (x ∷ l) = f x ∷ onEach f l
+
+-- ---- document 01, "The listing program"
+
+listed : List ℕ
+listed = ascii "ID3" ++ (4 ∷ 0 ∷ 0 ∷ 0 ∷ 0 ∷ 0 ∷ 18 ∷ ascii "POPM" ++ (0 ∷ 0 ∷ 0 ∷ 8 ∷ 0 ∷ 0 ∷ 0x61 ∷ 0 ∷ 5 ∷ 1 ∷ 0 ∷ 0 ∷ 0 ∷ 0 ∷ []))
+
+-- the words behind stay
+header-words : onHeader listed (9 ∷ 9 ∷ 9 ∷ 9 ∷ 9 ∷ []) ≡ (0, 4 ∷ 0 ∷ 18 ∷ 0 ∷ 9 ∷ [])
+unfolding onHeader listed
+header-words = refl
+
+opened : List ℕ
+opened = 4 ∷ 0 ∷ 10 ∷ 10 ∷ 28 ∷ 0 ∷ 0 ∷ []
+
+open-words : onOpen listed [] (zeros 7) ≡ (0, [], opened)
+unfolding onOpen listed opened
+open-words = refl
+
+-- the popularimeter of user 61: its body has 8 bytes from 20 on
+found : List ℕ
+found = 1 ∷ named "POPM" ∷ 0 ∷ 0 ∷ 5 ∷ 4294967296 ∷ 0 ∷ 0 ∷ 0 ∷ 0 ∷ 0 ∷ 20 ∷ 8 ∷ 20 ∷ 1 ∷ 0 ∷ 0 ∷ 0 ∷ 0 ∷ []
+
+step-words : onStep listed [] opened (zeros 19) ≡ (0, [], set opened 3 28, found)
+unfolding onStep listed opened found
+step-words = refl
+
+-- the end leaves the record's words
+end-words : onStep listed [] (set opened 3 28) found ≡ (256, [], 4 ∷ 0 ∷ 10 ∷ 28 ∷ 28 ∷ 1 ∷ 0 ∷ [], found)
+unfolding onStep listed opened found
+end-words = refl
+
+-- 18 words are too few for a record
+short-record : onStep listed [] opened (zeros 18) ≡ (20, [], opened, zeros 18)
+unfolding onStep listed opened
+short-record = refl
+
+-- ---- words that no call leaves are refused 2; a refused reader says its number again
+
+bad-words : List (List ℕ)
+bad-words =
+    (1 ∷ 0 ∷ 0 ∷ 0 ∷ 0 ∷ 0 ∷ 0 ∷ [])
+    ∷ (5 ∷ 0 ∷ 0 ∷ 0 ∷ 0 ∷ 0 ∷ 0 ∷ [])
+    ∷ (4 ∷ 2 ∷ 0 ∷ 0 ∷ 0 ∷ 0 ∷ 0 ∷ [])
+    ∷ (4 ∷ 0 ∷ 0 ∷ 0 ∷ 0 ∷ 3 ∷ 0 ∷ [])
+    ∷ (4 ∷ 0 ∷ 0 ∷ 0 ∷ 0 ∷ 2 ∷ 0 ∷ [])
+    ∷ (4 ∷ 0 ∷ 0 ∷ 0 ∷ 0 ∷ 2 ∷ 256 ∷ [])
+    ∷ (4 ∷ 0 ∷ 0 ∷ 0 ∷ 0 ∷ 0 ∷ 7 ∷ [])
+    ∷ (4 ∷ 0 ∷ 0 ∷ 0 ∷ 0 ∷ 1 ∷ 7 ∷ [])
+    ∷ []
+
+bad : onEach (λ reader. onStep listed [] reader found) bad-words ≡ onEach (λ reader. (2, [], reader, found)) bad-words
+unfolding onStep onEach listed found bad-words
+bad = refl
+
+refused-again : onStep listed [] (4 ∷ 0 ∷ 0 ∷ 0 ∷ 0 ∷ 2 ∷ 11 ∷ []) found ≡ (11, [], 4 ∷ 0 ∷ 0 ∷ 0 ∷ 0 ∷ 2 ∷ 11 ∷ [], found)
+unfolding onStep listed found
+refused-again = refl
+
+begun : onBegin 4 2 1 (zeros 4) ≡ (0, 4 ∷ 2 ∷ 1 ∷ 0 ∷ [])
+unfolding onBegin
+begun = refl
+
+-- nothing of a number is cut off
+version-258 : onBegin 258 0 0 (zeros 4) ≡ (2, zeros 4)
+unfolding onBegin
+version-258 = refl
+
+altered-2 : onBegin 4 0 2 (zeros 4) ≡ (2, zeros 4)
+unfolding onBegin
+altered-2 = refl
+
+-- ---- the record that was found is written again, and the tag is the one that was read
+
+frame : List ℕ
+unfolding listed
+frame = drop 10 listed
+
+added : onAdd found (0x61 ∷ []) [] [] [] (zeros 20) (4 ∷ 0 ∷ 0 ∷ 0 ∷ []) (9 ∷ []) ≡ (0, frame ++ zeros 2, 4 ∷ 0 ∷ 0 ∷ 18 ∷ [], 18 ∷ [])
+unfolding onAdd found frame
+added = refl
+
+finished : onFinish 0 (frame ++ zeros 2) (zeros 30) (4 ∷ 0 ∷ 0 ∷ 18 ∷ []) (9 ∷ []) ≡ (0, listed ++ zeros 2, 28 ∷ [])
+unfolding onFinish listed frame
+finished = refl
+
+-- ---- words that are no record are refused 21, and the count is 0
+
+kind-6 : onAdd (set found 0 6) (0x61 ∷ []) [] [] [] (zeros 20) (4 ∷ 0 ∷ 0 ∷ 0 ∷ []) (9 ∷ []) ≡ (21, zeros 20, 4 ∷ 0 ∷ 0 ∷ 0 ∷ [], 0 ∷ [])
+unfolding onAdd found
+kind-6 = refl
+
+rating-256 : onAdd (set found 4 256) (0x61 ∷ []) [] [] [] (zeros 20) (4 ∷ 0 ∷ 0 ∷ 0 ∷ []) (9 ∷ []) ≡ (21, zeros 20, 4 ∷ 0 ∷ 0 ∷ 0 ∷ [], 0 ∷ [])
+unfolding onAdd found
+rating-256 = refl
+
+-- words that are no writer come before
+no-writer : onAdd (set found 0 6) (0x61 ∷ []) [] [] [] (zeros 20) (4 ∷ 3 ∷ 0 ∷ 0 ∷ []) (9 ∷ []) ≡ (2, zeros 20, 4 ∷ 3 ∷ 0 ∷ 0 ∷ [], 0 ∷ [])
+unfolding onAdd found
+no-writer = refl
+
+-- ---- the references of document 01's table, widths 4 and 8
+
+table : List ℕ
+table = 2 ∷ named "MLLT" ∷ 0 ∷ 0 ∷ 1 ∷ 1 ∷ 1 ∷ 4 ∷ 8 ∷ zeros 10
+
+references : onReferences table (0xA5 ∷ 0xC3 ∷ 0x01 ∷ []) (zeros 5) (9 ∷ []) ≡ (0, 0x0A ∷ 0x5C ∷ 0x03 ∷ 0x01 ∷ 0 ∷ [], 4 ∷ [])
+unfolding onReferences table
+references = refl
+
+-- no other record has any
+no-references : onReferences found (0xA5 ∷ 0xC3 ∷ 0x01 ∷ []) (zeros 5) (9 ∷ []) ≡ (0, zeros 5, 0 ∷ [])
+unfolding onReferences found
+no-references = refl
