@@ -7,4 +7,3 @@ pub mod RoundTrip
 pub mod NoSync
 pub mod Bounds
 pub mod Samples
-pub mod OneAnswer

@@ -3,4 +3,3 @@ pub mod Written
 pub mod Reading
 pub mod Promises
 pub mod Samples
-pub mod OneAnswer

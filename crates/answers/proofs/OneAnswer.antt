@@ -25,7 +25,11 @@ use Rattle.reader.specs.Reader.{headerOf, openOf, stepOf}
 use Rattle.reader.specs.declared.Reader.{Reader}
 use Rattle.writer.specs.Writer.{beginOf, beginPlainOf, addOf, finishOf}
 use Rattle.writer.specs.declared.Writer.{Writer}
-use Rattle.promises.specs.OneAnswer.{OneAnswer}
+use Rattle.listed.specs.Lines.{linesOf}
+use Rattle.listed.specs.Turns.{putLines}
+use Rattle.back.specs.Trips.{backOf}
+use Rattle.capi.specs.Calls.{svHeader, svOpen, svStep, svBegin, svAdd, svFinish, svReferences}
+use Rattle.answers.specs.OneAnswer.{OneAnswer}
 
 pub one-answer : {A : Type 0} (a : A) → OneAnswer a
 one-answer a x y p q = p ∙ sym q
@@ -133,3 +137,36 @@ add-one w r buffer = one-answer (addOf w r buffer)
 
 pub finish-one : (w : Writer) (padding : ℕ) (buffer output : List ℕ) → OneAnswer (finishOf w padding buffer output)
 finish-one w padding buffer output = one-answer (finishOf w padding buffer output)
+
+-- ---- listed
+
+pub list-one : (tag work out : List ℕ) → OneAnswer (putLines (linesOf tag work) 0 work out)
+list-one tag work out = one-answer (putLines (linesOf tag work) 0 work out)
+
+-- ---- back
+
+pub there-and-back-one : (version mode padding : ℕ) (r : Rec) (buffer output work : List ℕ) → OneAnswer (backOf version mode padding r buffer output work)
+there-and-back-one version mode padding r buffer output work = one-answer (backOf version mode padding r buffer output work)
+
+-- ---- capi
+
+pub sv-header-one : (tag header : List ℕ) → OneAnswer (svHeader tag header)
+sv-header-one tag header = one-answer (svHeader tag header)
+
+pub sv-open-one : (tag work reader : List ℕ) → OneAnswer (svOpen tag work reader)
+sv-open-one tag work reader = one-answer (svOpen tag work reader)
+
+pub sv-step-one : (tag work reader words : List ℕ) → OneAnswer (svStep tag work reader words)
+sv-step-one tag work reader words = one-answer (svStep tag work reader words)
+
+pub sv-begin-one : (version mode altered : ℕ) (writer : List ℕ) → OneAnswer (svBegin version mode altered writer)
+sv-begin-one version mode altered writer = one-answer (svBegin version mode altered writer)
+
+pub sv-add-one : (words name names rest deviations buffer writer count : List ℕ) → OneAnswer (svAdd words name names rest deviations buffer writer count)
+sv-add-one words name names rest deviations buffer writer count = one-answer (svAdd words name names rest deviations buffer writer count)
+
+pub sv-finish-one : (padding : ℕ) (buffer output writer count : List ℕ) → OneAnswer (svFinish padding buffer output writer count)
+sv-finish-one padding buffer output writer count = one-answer (svFinish padding buffer output writer count)
+
+pub sv-references-one : (words rest deviations count : List ℕ) → OneAnswer (svReferences words rest deviations count)
+sv-references-one words rest deviations count = one-answer (svReferences words rest deviations count)

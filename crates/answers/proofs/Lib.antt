@@ -1,0 +1,2 @@
+-- Every public function answers in one way.
+pub mod OneAnswer
