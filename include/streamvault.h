@@ -173,7 +173,8 @@ uint32_t sv_step(const uint8_t *tag, size_t tag_len, uint8_t *work, size_t work_
 
 /*
  * All deviations of a lookup table, two by two (bytes, milliseconds), from its packed references, which are the rest of
- * its record. The count is that of the numbers put. On a refusal it is 0 and nothing else changes.
+ * its record. The count is that of the numbers put, 0 for a record of another kind. On a refusal it is 0 and nothing else
+ * changes.
  */
 uint32_t sv_references(const uint64_t *record, size_t record_len, const uint8_t *rest, size_t rest_len,
                        uint32_t *deviations, size_t deviations_len, uint64_t *count, size_t count_len);

@@ -186,8 +186,9 @@ fn constants_after(text: &str, prefix: &str, comment: &str) -> Constants {
         if let Some(item) = line.strip_prefix(prefix) {
             let (name, rest) = item.split_once(':').unwrap();
             let (_, number) = rest.split_once('=').unwrap();
-            let number = number.trim().trim_end_matches(';').parse().unwrap();
-            constants.insert(name.to_string(), (number, above.to_string()));
+            if let Ok(number) = number.trim().trim_end_matches(';').parse() {
+                constants.insert(name.to_string(), (number, above.to_string()));
+            }
         }
         above = line.strip_prefix(comment).unwrap_or("").trim();
     }
@@ -222,6 +223,16 @@ fn the_constants_of_the_header_are_those_of_rust() {
     let rust = constants_after(&text("rust/src/sys.rs"), "pub const SV_", "///");
     assert!(header.len() > 80);
     assert_eq!(numbers(&header), numbers(&rust));
+}
+
+#[test]
+fn the_source_counts_words_as_rust_does() {
+    let source = constants_after(&source(), "const ", "//");
+    let rust = constants_after(&text("rust/src/sys.rs"), "pub const SV_", "///");
+    for name in ["HEADER", "READER", "RECORD", "WRITER", "COUNT"] {
+        assert_eq!(source[name].0, rust[&format!("{name}_WORDS")].0, "{name}");
+    }
+    assert_eq!(source["END"].0, rust["END"].0);
 }
 
 #[test]

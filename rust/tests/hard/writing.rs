@@ -89,8 +89,7 @@ impl Buffers {
         match (is_writer(self.state.was()), is_record(self.record.was())) {
             (true, true) => assert_ne!(answer, SV_UNKNOWN_VERSION),
             (true, false) => assert_eq!(answer, SV_WRONG_ID),
-            (false, true) => assert_eq!(answer, SV_UNKNOWN_VERSION),
-            (false, false) => assert!(answer == SV_WRONG_ID || answer == SV_UNKNOWN_VERSION),
+            (false, _) => assert_eq!(answer, SV_UNKNOWN_VERSION),
         }
     }
 
@@ -190,11 +189,14 @@ impl Buffers {
         self.count.put(some_words(numbers, SV_COUNT_WORDS), numbers.once_in(2));
     }
 
-    /// The answer and the count that a table has: as many references as fit whole.
+    /// The answer and the count that a table has: as many references as fit whole. Another record has none.
     fn unpacked(&self) -> (u32, u64) {
         let record = self.record.was();
-        if !is_record(record) || record[SV_RECORD_KIND] != SV_KIND_TABLE {
+        if !is_record(record) {
             return (SV_WRONG_ID, 0);
+        }
+        if record[SV_RECORD_KIND] != SV_KIND_TABLE {
+            return (0, 0);
         }
         let widths = [record[SV_TABLE_BITS_FOR_BYTES], record[SV_TABLE_BITS_FOR_MILLIS]];
         if widths.iter().any(|width| !(1..=32).contains(width)) {
