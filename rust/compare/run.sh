@@ -36,5 +36,12 @@ if [ "${1:-}" = record ]; then
 fi
 find_rust
 find_emulator
-cargo build -j1 --release --quiet --target "$target"
-exec "${emulator[@]}" "target/$target/release/compare" "$@"
+if [ ${#emulator[@]} = 0 ]; then
+    cargo build -j1 --release --quiet --target "$target"
+    exec "target/$target/release/compare" "$@"
+fi
+# the crate and the comparison run as they are, and only the library in the emulator
+cargo build -j1 --release --quiet --target "$target" --bin answer
+env -u RUSTC cargo build -j1 --release --quiet --no-default-features --bin compare
+export COMPARE_ANSWERS="${emulator[*]} target/$target/release/answer"
+exec target/release/compare "$@"

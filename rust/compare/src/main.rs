@@ -19,7 +19,7 @@ use compare::lists;
 use compare::sources::{shorts, Source};
 use library::Library;
 use oracle::List;
-use reads::{compared, Met, Verdict};
+use reads::{settled, Met, Verdict};
 use std::process::ExitCode;
 use std::time::Instant;
 use work::Tally;
@@ -129,8 +129,8 @@ fn readings(source: &Source, threads: usize) -> Tally {
 
 fn shrunk_tag(tag: Vec<u8>, what: String) -> Vec<u8> {
     oracle::big_stack(move || {
-        let mut library = Library::default();
-        shrink::tag(&tag, &mut |less| compared(&mut library, |comparison| comparison.tag(less)).unlisted.as_deref() == Some(&what))
+        let mut library = Library::new();
+        shrink::tag(&tag, &mut |less| settled(&mut library, |comparison| comparison.tag(less)).unlisted.as_deref() == Some(&what))
     })
 }
 
@@ -157,8 +157,8 @@ fn writings(options: Options) -> Tally {
 
 fn shrunk_list(list: List, what: String) -> List {
     oracle::big_stack(move || {
-        let mut library = Library::default();
-        shrink::list(&list, &mut |less| compared(&mut library, |comparison| comparison.list(less)).unlisted.as_deref() == Some(&what))
+        let mut library = Library::new();
+        shrink::list(&list, &mut |less| settled(&mut library, |comparison| comparison.list(less)).unlisted.as_deref() == Some(&what))
     })
 }
 
@@ -191,12 +191,12 @@ fn one_tag(hex: &str) -> ExitCode {
         }
     };
     oracle::big_stack(move || {
-        let mut library = Library::default();
+        let mut library = Library::new();
         println!("the crate:");
         oracle::lines(&oracle::read_past(&tag)).iter().for_each(|line| println!("    {line}"));
-        println!("here:");
-        println!("    {:#?}", library.read(&tag));
-        verdict(compared(&mut library, |comparison| comparison.tag(&tag)))
+        let verdict = settled(&mut library, |comparison| comparison.tag(&tag));
+        println!("here:\n    {:#?}", library.read(&tag));
+        said(verdict)
     })
 }
 
@@ -209,14 +209,14 @@ fn one_list(text: &str) -> ExitCode {
         }
     };
     oracle::big_stack(move || {
-        let mut library = Library::default();
+        let mut library = Library::new();
         let answer = oracle::write(list.version, list.unsynchronisation, list.padding, list.file_altered, &list.records);
         println!("the crate: {}", oracle::written_line(&answer));
-        verdict(compared(&mut library, |comparison| comparison.list(&list)))
+        said(settled(&mut library, |comparison| comparison.list(&list)))
     })
 }
 
-fn verdict(verdict: Verdict) -> ExitCode {
+fn said(verdict: Verdict) -> ExitCode {
     println!("listed: {}", form::classes(&verdict.listed));
     println!("unlisted: {}", verdict.unlisted.as_deref().unwrap_or("nothing"));
     if verdict.unlisted.is_none() {

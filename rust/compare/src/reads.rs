@@ -1,6 +1,7 @@
 //! One tag, asked of both.
 use crate::classes::Class;
-use crate::library::{Frame, Library, Seen, Stop};
+use crate::library::Library;
+use compare::answers::{Frame, Seen, Stop};
 use compare::ids::{framed, is_compressed, is_people, kind_of, version_of, widths_refusal, wrapped, Kind};
 use compare::listing::is_short;
 use oracle::{Item, Kind as Theirs, Reading, Stop as TheirStop};
@@ -56,6 +57,17 @@ pub fn compared(library: &mut Library, run: impl FnOnce(&mut Comparison)) -> Ver
     Verdict { listed: comparison.listed, unlisted: comparison.unlisted, met: comparison.met }
 }
 
+/// Runs a comparison, again and again while an answer is missing.
+pub fn settled(library: &mut Library, run: impl Fn(&mut Comparison)) -> Verdict {
+    loop {
+        let verdict = compared(library, &run);
+        if !library.take_waiting() {
+            return verdict;
+        }
+        library.fetch();
+    }
+}
+
 /// What a comparison came to.
 pub struct Verdict {
     /// Listed differences.
@@ -94,8 +106,11 @@ impl Comparison<'_> {
 
     // a tag, or the run of a chapter as one
     fn level(&mut self, tag: &[u8]) -> Level {
-        let theirs = oracle::read_past(tag);
         let ours = self.library.read(tag);
+        if self.library.is_waiting() {
+            return Level::default();
+        }
+        let theirs = oracle::read_past(tag);
         self.must(theirs.doubts.is_empty(), "the oracle is in doubt");
         let mut level = Level { ours: our_refusal(&ours).or(ours.header.err()), theirs: their_refusal(&theirs), ..Level::default() };
         if let Some(edition) = self.headers(&theirs, &ours) {

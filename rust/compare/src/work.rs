@@ -100,18 +100,32 @@ pub fn run(name: &str, count: u64, threads: usize, case: impl Fn(u64, &mut Compa
 }
 
 fn worker(count: u64, next: &AtomicU64, done: &AtomicU64, case: &(impl Fn(u64, &mut Comparison) + Sync)) -> Tally {
-    let mut library = Library::default();
+    let mut library = Library::new();
     let mut tally = Tally::default();
     loop {
         let from = next.fetch_add(BLOCK, Ordering::Relaxed);
         if from >= count {
             return tally;
         }
-        for index in from..count.min(from + BLOCK) {
-            tally.add(index, compared(&mut library, |comparison| case(index, comparison)));
-        }
+        block(&mut library, (from..count.min(from + BLOCK)).collect(), &mut tally, case);
         done.fetch_add(BLOCK, Ordering::Relaxed);
     }
+}
+
+// cases for which an answer is missing come again when it is there
+fn block(library: &mut Library, mut cases: Vec<u64>, tally: &mut Tally, case: &impl Fn(u64, &mut Comparison)) {
+    while !cases.is_empty() {
+        cases.retain(|index| {
+            let verdict = compared(library, |comparison| case(*index, comparison));
+            let again = library.take_waiting();
+            if !again {
+                tally.add(*index, verdict);
+            }
+            again
+        });
+        library.fetch();
+    }
+    library.forget();
 }
 
 // a line on a terminal, twice a second

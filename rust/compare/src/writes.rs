@@ -1,7 +1,7 @@
 //! One list of records, given to both.
 use crate::classes::Class;
-use crate::library::{Entry, Writer, UNTOUCHED};
 use crate::reads::{closed, number, Comparison};
+use compare::answers::{Entry, Order, Stop, Written};
 use compare::ids::{edition_of, is_id, is_lost, is_people, kind_of, widths_refusal, wrapped, Kind};
 use oracle::{Fields, List, Record, Subs, Unwritten};
 
@@ -11,67 +11,66 @@ type Run = Result<Vec<u8>, u32>;
 /// Padding above it is not made: there is no room for it, here or at the crate.
 const FAR: usize = 1 << 14;
 
+/// A record and the run of its subframes.
+type Given = (Record, Vec<u8>);
+
 impl Comparison<'_> {
-    /// Adds the records one by one, each refusal being foretold; what was accepted is written by both and compared.
+    /// Has the records written, each refusal being foretold; what was accepted is written by the crate too and compared.
     pub fn list(&mut self, list: &List) {
-        let edition = edition_of(list.version);
-        let mode = u64::from(list.unsynchronisation);
-        let mut writer = self.library.begin(edition, mode, list.file_altered, room(&list.records));
-        let mut accepted = Vec::new();
+        let mut given = Vec::new();
         for record in &list.records {
-            let run = self.run(list, record);
-            match run {
+            match self.run(list, record) {
                 Err(number) => self.note(Class::Refused(number)),
-                Ok(run) if self.add(&mut writer, list, record, &run) => accepted.push((record.clone(), run)),
-                Ok(_) => {}
+                Ok(run) => given.push((record.clone(), run)),
             }
         }
-        let plain: Vec<Record> = accepted.iter().map(|(record, _)| record.clone()).collect();
-        let theirs = self.theirs(list, plain);
-        self.finish(&writer, list, theirs);
+        let written = self.library.write(&order(list, &given, room(&list.records), output_room(list)));
+        let accepted = self.accepted(list, given, &written);
+        if self.library.is_waiting() {
+            return;
+        }
+        let theirs = self.theirs(list, &accepted);
+        self.finished(list, &written, theirs);
         if list.padding % 4 == 1 {
-            self.rooms(list, &accepted);
+            self.rooms(list, &accepted, &written);
         }
     }
 
-    // a record that was accepted or refused as foretold; true where it was accepted
-    fn add(&mut self, writer: &mut Writer, list: &List, record: &Record, run: &[u8]) -> bool {
-        let foretold = self.refusal(list, record, run);
-        let before = writer.used();
-        let (answer, count) = add(writer, record, run);
-        if answer != foretold {
-            self.fault(|| format!("a record is answered {answer}, and {foretold} was foretold"));
+    // the records that were accepted; each answer must be the foretold one
+    fn accepted(&mut self, list: &List, given: Vec<Given>, written: &Written) -> Vec<Given> {
+        self.must(written.clean, "bytes or counts are changed that should not be");
+        let mut out = Vec::new();
+        for ((record, run), (answer, _)) in given.into_iter().zip(&written.added) {
+            let foretold = self.refusal(list, &record, &run);
+            if *answer != foretold {
+                self.fault(|| format!("a record is answered {answer}, and {foretold} was foretold"));
+            }
+            if *answer == 0 {
+                out.push((record, run));
+            } else {
+                self.note(Class::Refused(*answer));
+            }
         }
-        let used = writer.used();
-        if used != before + count || (answer != 0 && count != 0) {
-            self.fault(|| "the count of a record".to_string());
-        }
-        if writer.buffer[used..].iter().any(|byte| *byte != UNTOUCHED) {
-            self.fault(|| "bytes behind the frames are changed".to_string());
-        }
-        if answer != 0 {
-            self.note(Class::Refused(answer));
-        }
-        answer == 0
+        out
     }
 
     // what the crate writes for the accepted records, a record that it cannot hold as its body
-    fn theirs(&mut self, list: &List, records: Vec<Record>) -> Result<Vec<u8>, Unwritten> {
+    fn theirs(&mut self, list: &List, accepted: &[Given]) -> Result<Vec<u8>, Unwritten> {
         let mut given = Vec::new();
-        for record in records {
+        for (record, _) in accepted {
             let edition = edition_of(list.version);
             if edition == 2 && list.file_altered && record.id == "RVA" {
                 self.note(Class::OldRva);
                 // an empty body it keeps too, and panics at it
-                let lost = alone(list, &record).is_ok_and(|tag| tag.len() == 10);
+                let lost = alone(list, record).is_ok_and(|tag| tag.len() == 10);
                 self.must(!lost, "the crate does not keep RVA");
-            } else if is_people(record.id.as_bytes()) && kind_of_record(&record) == Kind::Text {
+            } else if is_people(record.id.as_bytes()) && kind_of_record(record) == Kind::Text {
                 self.note(Class::PeopleWritten);
-                let refused = matches!(alone(list, &record), Err(Unwritten::Refused(_) | Unwritten::NotHeld(_)));
+                let refused = matches!(alone(list, record), Err(Unwritten::Refused(_) | Unwritten::NotHeld(_)));
                 self.must(refused, "the crate writes a list of people as a text");
-                given.push(as_raw(&record));
+                given.push(as_raw(record));
             } else {
-                given.push(record);
+                given.push(record.clone());
             }
         }
         match asked(list, &given) {
@@ -98,57 +97,44 @@ impl Comparison<'_> {
         Record { id: record.id.clone(), fields: Fields::Raw { body: body(&record.fields, &run) } }
     }
 
-    fn finish(&mut self, writer: &Writer, list: &List, theirs: Result<Vec<u8>, Unwritten>) {
+    fn finished(&mut self, list: &List, written: &Written, theirs: Result<Vec<u8>, Unwritten>) {
         let theirs = match theirs {
             Ok(tag) => tag,
             Err(why) => return self.fault(|| format!("only the crate refuses: {why:?}")),
         };
-        let mut output = vec![UNTOUCHED; output_room(list)];
-        let (answer, count) = writer.finish(list.padding as u64, &mut output);
         let size = (theirs.len() - 10) as u128 + if is_far(list) { list.padding as u128 } else { 0 };
         let foretold = if size >= 1 << 28 {
             24
-        } else if size + 10 > output.len() as u128 {
+        } else if size + 10 > output_room(list) as u128 {
             20
         } else {
             0
         };
+        let answer = written.finished;
         if answer != foretold {
-            return self.fault(|| format!("finishing is answered {answer}, and {foretold} was foretold"));
+            self.fault(|| format!("finishing is answered {answer}, and {foretold} was foretold"));
+        } else if answer != 0 {
+            self.note(Class::Refused(answer));
+        } else {
+            self.must(written.tag == theirs, "the bytes of the tag");
         }
-        self.must(output[count..].iter().all(|byte| *byte == UNTOUCHED), "bytes behind the tag are changed");
-        if answer != 0 {
-            self.must(count == 0, "the count of a refused tag");
-            return self.note(Class::Refused(answer));
-        }
-        self.must(output[..count] == theirs, "the bytes of the tag");
     }
 
     // the same with buffers that are exactly full, and one byte short
-    fn rooms(&mut self, list: &List, accepted: &[(Record, Vec<u8>)]) {
-        let edition = edition_of(list.version);
-        let mode = u64::from(list.unsynchronisation);
-        let write = |library: &mut crate::library::Library, room: usize| {
-            let mut writer = library.begin(edition, mode, list.file_altered, room);
-            let answers: Vec<u32> = accepted.iter().map(|(record, run)| add(&mut writer, record, run).0).collect();
-            (writer, answers)
-        };
-        let (writer, _) = write(self.library, room(&list.records));
-        let used = writer.used();
-        let (exact, answers) = write(self.library, used);
-        self.must(answers.iter().all(|n| *n == 0) && exact.buffer[..] == writer.buffer[..used], "a collecting buffer that is exactly full");
-        if used > 0 {
-            let (_, answers) = write(self.library, used - 1);
-            self.must(answers.contains(&20) && answers.iter().all(|n| *n == 0 || *n == 20), "a collecting buffer that is one byte short");
+    fn rooms(&mut self, list: &List, accepted: &[Given], written: &Written) {
+        let (room, output) = (written.frames.len(), written.tag.len());
+        let same = self.library.write(&order(list, accepted, room, output));
+        let full = same.clean && same.added.iter().all(|(n, _)| *n == 0) && same.frames == written.frames && same.tag == written.tag;
+        self.must(full, "buffers that are exactly full");
+        if room > 0 {
+            let short = self.library.write(&order(list, accepted, room - 1, output));
+            let numbers: Vec<u32> = short.added.iter().map(|(n, _)| *n).collect();
+            let refused = numbers.contains(&20) && numbers.iter().all(|n| *n == 0 || *n == 20);
+            self.must(short.clean && refused, "a collecting buffer that is one byte short");
         }
-        let mut output = vec![UNTOUCHED; output_room(list)];
-        let (number, count) = writer.finish(list.padding as u64, &mut output);
-        if number == 0 {
-            let mut full = vec![UNTOUCHED; count];
-            self.must(exact.finish(list.padding as u64, &mut full) == (0, count) && full == output[..count], "an output that is exactly full");
-            let mut small = vec![UNTOUCHED; count - 1];
-            let refused = exact.finish(list.padding as u64, &mut small) == (20, 0) && small.iter().all(|byte| *byte == UNTOUCHED);
-            self.must(refused, "an output that is one byte short");
+        if written.finished == 0 {
+            let short = self.library.write(&order(list, accepted, room, output - 1));
+            self.must(short.clean && short.finished == 20 && short.tag.is_empty(), "an output that is one byte short");
         }
     }
 
@@ -165,23 +151,28 @@ impl Comparison<'_> {
                 }
                 Ok(run.clone())
             }
-            Subs::Records(records) => {
-                let inner = List { unsynchronisation: false, file_altered: false, padding: 0, records: Vec::new(), ..list.clone() };
-                let mut writer = self.library.begin(edition_of(list.version), 0, false, room(records));
-                for record in records {
-                    let run = self.run(&inner, record)?;
-                    let foretold = self.refusal(&inner, record, &run);
-                    let (answer, _) = add(&mut writer, record, &run);
-                    if answer != foretold {
-                        self.fault(|| format!("a subframe is answered {answer}, and {foretold} was foretold"));
-                    }
-                    if answer != 0 {
-                        return Err(answer);
-                    }
-                }
-                Ok(writer.buffer[..writer.used()].to_vec())
+            Subs::Records(records) => self.written_run(list, records),
+        }
+    }
+
+    // plain frames, as the crate writes subframes
+    fn written_run(&mut self, list: &List, records: &[Record]) -> Run {
+        let inner = List { unsynchronisation: false, file_altered: false, padding: 0, records: Vec::new(), ..list.clone() };
+        let mut given = Vec::new();
+        for record in records {
+            given.push((record.clone(), self.run(&inner, record)?));
+        }
+        let written = self.library.write(&order(&inner, &given, room(records), 0));
+        for ((record, run), (answer, _)) in given.iter().zip(&written.added) {
+            let foretold = self.refusal(&inner, record, run);
+            if *answer != foretold {
+                self.fault(|| format!("a subframe is answered {answer}, and {foretold} was foretold"));
+            }
+            if *answer != 0 {
+                return Err(*answer);
             }
         }
+        Ok(written.frames)
     }
 
     // the first check of the table that speaks of a record, or 0
@@ -245,7 +236,7 @@ impl Comparison<'_> {
     // a run that is read to its last byte, with no frame short or flagged, at every depth
     fn is_fit(&mut self, edition: u8, run: &[u8], depth: usize) -> bool {
         let seen = self.library.read(&wrapped(edition, run));
-        let ended = seen.stop == crate::library::Stop::End { at: run.len() };
+        let ended = seen.stop == Stop::End { at: run.len() };
         ended
             && (run.is_empty() || depth <= 8)
             && seen.frames.iter().all(|frame| {
@@ -295,44 +286,48 @@ fn output_room(list: &List) -> usize {
     10 + 2 * room(&list.records) + if is_far(list) { 0 } else { list.padding }
 }
 
-fn add(writer: &mut Writer, record: &Record, run: &[u8]) -> (u32, usize) {
-    let mut entry = Entry {
-        kind: kind_of_record(record) as u64,
-        id: number(record.id.as_bytes()),
-        numbers: [0; 5],
-        name: &[],
-        names: &[],
-        rest: run,
-        deviations: &[],
-    };
-    let names;
+fn order(list: &List, given: &[Given], room: usize, output: usize) -> Order {
+    Order {
+        edition: edition_of(list.version),
+        mode: list.unsynchronisation.into(),
+        altered: list.file_altered,
+        room,
+        entries: given.iter().map(|(record, run)| entry(record, run)).collect(),
+        padding: list.padding as u64,
+        output,
+    }
+}
+
+fn entry(record: &Record, run: &[u8]) -> Entry {
+    let mut out = Entry { kind: kind_of_record(record) as u64, id: number(record.id.as_bytes()), ..Entry::default() };
     match &record.fields {
         Fields::Text { encoding, bytes } => {
-            entry.numbers[0] = (*encoding).into();
-            entry.rest = bytes;
+            out.numbers[0] = (*encoding).into();
+            out.rest = bytes.clone();
         }
         Fields::Popularimeter { user, rating, counter } => {
-            entry.numbers[..2].copy_from_slice(&[(*rating).into(), *counter]);
-            entry.name = user;
+            out.numbers[..2].copy_from_slice(&[(*rating).into(), *counter]);
+            out.name = user.clone();
         }
         Fields::Table { frames, bytes, millis, bits_for_bytes, bits_for_millis, deviations } => {
             let widths = [u64::from(*bits_for_bytes), u64::from(*bits_for_millis)];
-            entry.numbers = [(*frames).into(), (*bytes).into(), (*millis).into(), widths[0], widths[1]];
-            entry.deviations = deviations;
+            out.numbers = [(*frames).into(), (*bytes).into(), (*millis).into(), widths[0], widths[1]];
+            out.deviations = deviations.clone();
         }
         Fields::Chapter { element, times, .. } => {
-            entry.numbers[..4].copy_from_slice(&times.map(u64::from));
-            entry.name = element;
+            out.numbers[..4].copy_from_slice(&times.map(u64::from));
+            out.name = element.clone();
+            out.rest = run.to_vec();
         }
         Fields::Contents { element, top_level, ordered, children, .. } => {
-            names = closed(children);
-            entry.numbers[..2].copy_from_slice(&[*top_level, *ordered].map(u64::from));
-            entry.name = element;
-            entry.names = &names;
+            out.numbers[..2].copy_from_slice(&[*top_level, *ordered].map(u64::from));
+            out.name = element.clone();
+            out.names = closed(children);
+            out.rest = run.to_vec();
         }
-        Fields::Raw { body } => entry.rest = body,
+        Fields::Raw { body } => out.rest = body.clone(),
     }
-    writer.add(&entry)
+    out
 }
 
 fn kind_of_record(record: &Record) -> Kind {

@@ -1,0 +1,134 @@
+//! The new library, linked.
+use crate::answers::{Entry, Frame, Header, Order, Seen, Stop, Written};
+use streamvault::calls::{self, Given};
+use streamvault::sys;
+
+type Words = [u64; sys::SV_RECORD_WORDS];
+
+/// What a byte that no call may touch holds.
+const UNTOUCHED: u8 = 0xA5;
+
+/// Reads a tag with room for every chapter in a chapter. The work buffer may hold anything.
+pub fn read(tag: &[u8], work: &mut Vec<u8>) -> Seen {
+    let room = 8 * tag.len() + 16;
+    if work.len() < room {
+        work.resize(room, 0);
+    }
+    let work = &mut work[..room];
+    let mut seen = Seen { header: header(tag), frames: Vec::new(), stop: Stop::End { at: 0 } };
+    let mut reader = [0; sys::SV_READER_WORDS];
+    let opened = calls::open(tag, work, &mut reader);
+    match seen.header {
+        Err(number) => assert_eq!(number, opened, "header and open answer differently"),
+        Ok(_) => {
+            assert_eq!(0, opened, "open refuses what header takes");
+            seen.stop = steps(tag, work, &mut reader, &mut seen.frames);
+        }
+    }
+    seen
+}
+
+fn header(tag: &[u8]) -> Result<Header, u32> {
+    let mut words = [0; sys::SV_HEADER_WORDS];
+    match calls::header(tag, &mut words) {
+        0 => Ok(Header {
+            edition: words[sys::SV_HEADER_VERSION],
+            flags: words[sys::SV_HEADER_FLAGS],
+            size: words[sys::SV_HEADER_SIZE],
+            ext: words[sys::SV_HEADER_EXT],
+        }),
+        number => Err(number),
+    }
+}
+
+fn steps(tag: &[u8], work: &mut [u8], reader: &mut [u64; sys::SV_READER_WORDS], frames: &mut Vec<Frame>) -> Stop {
+    let mut record = [0; sys::SV_RECORD_WORDS];
+    loop {
+        let before = reader[sys::SV_READER_AT];
+        let at = (before - reader[sys::SV_READER_BEGIN]) as usize;
+        match calls::step(tag, work, reader, &mut record) {
+            0 => {
+                let took = (reader[sys::SV_READER_AT] - before) as usize;
+                frames.push(frame(&record, tag, work, took));
+            }
+            sys::SV_END => return Stop::End { at },
+            number => return Stop::Refused { at, number },
+        }
+    }
+}
+
+fn frame(record: &Words, tag: &[u8], work: &[u8], took: usize) -> Frame {
+    let source = if record[sys::SV_RECORD_IN_WORK] == 1 { work } else { tag };
+    let part = |start: usize| {
+        let from = record[start] as usize;
+        source[from..from + record[start + 1] as usize].to_vec()
+    };
+    let mut numbers = [0; 5];
+    numbers.copy_from_slice(&record[4..9]);
+    let rest = part(sys::SV_RECORD_REST_START);
+    let kind = record[sys::SV_RECORD_KIND];
+    Frame {
+        at: record[sys::SV_RECORD_AT] as usize,
+        took,
+        id: record[sys::SV_RECORD_ID],
+        short: record[sys::SV_RECORD_SHORT] == 1,
+        compressed: record[sys::SV_RECORD_COMPRESSED] == 1,
+        kind,
+        numbers,
+        body: part(sys::SV_RECORD_BODY_START),
+        name: part(sys::SV_RECORD_NAME_START),
+        names: part(sys::SV_RECORD_NAMES_START),
+        deviations: if kind == sys::SV_KIND_TABLE { references(record, &rest) } else { Vec::new() },
+        rest,
+    }
+}
+
+fn references(record: &Words, rest: &[u8]) -> Vec<u32> {
+    // widths sum to 4 or more, so that a byte holds at most four numbers
+    let mut out = vec![0; 4 * rest.len()];
+    let mut count = [u64::MAX];
+    let number = calls::references(record, rest, &mut out, &mut count);
+    assert_eq!(0, number, "references of a table that was read are refused");
+    out.truncate(count[0] as usize);
+    out
+}
+
+/// Writes a tag: begins, adds each record, finishes.
+pub fn write(order: &Order) -> Written {
+    let mut writer = [0; sys::SV_WRITER_WORDS];
+    let begun = calls::begin(order.edition.into(), order.mode, order.altered.into(), &mut writer);
+    assert_eq!(0, begun, "a writer is not begun");
+    let mut buffer = vec![UNTOUCHED; order.room];
+    let mut out = Written { clean: true, ..Written::default() };
+    for entry in &order.entries {
+        let before = writer[sys::SV_WRITER_USED];
+        let (number, count) = add(entry, &mut buffer, &mut writer);
+        let used = writer[sys::SV_WRITER_USED];
+        out.clean &= used == before + count && (number == 0 || count == 0) && untouched(&buffer[used as usize..]);
+        out.added.push((number, count as usize));
+    }
+    out.frames = buffer[..writer[sys::SV_WRITER_USED] as usize].to_vec();
+    let mut output = vec![UNTOUCHED; order.output];
+    let mut count = [u64::MAX];
+    out.finished = calls::finish(order.padding, &buffer, &mut output, &writer, &mut count);
+    out.clean &= (out.finished == 0 || count[0] == 0) && untouched(&output[count[0] as usize..]);
+    output.truncate(count[0] as usize);
+    out.tag = output;
+    out
+}
+
+fn add(entry: &Entry, buffer: &mut [u8], writer: &mut [u64]) -> (u32, u64) {
+    let mut record: Words = [0; sys::SV_RECORD_WORDS];
+    record[sys::SV_RECORD_KIND] = entry.kind;
+    record[sys::SV_RECORD_ID] = entry.id;
+    record[4..9].copy_from_slice(&entry.numbers);
+    let Entry { name, names, rest, deviations, .. } = entry;
+    let given = Given { record: &record, name, names, rest, deviations };
+    let mut count = [u64::MAX];
+    let number = calls::add(given, buffer, writer, &mut count);
+    (number, count[0])
+}
+
+fn untouched(bytes: &[u8]) -> bool {
+    bytes.iter().all(|byte| *byte == UNTOUCHED)
+}
