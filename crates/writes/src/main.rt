@@ -1,6 +1,5 @@
 // Replays cases of writing: reads them from standard input, and prints what each call answers, what it left and which bytes it
 // reports. The layout of a case and of a line stands in tests/writes.py. A buffer, or a part of a record, has at most 4096 bytes.
-mod cases;
 mod print;
 
 use cases::Case;

@@ -1,4 +1,5 @@
-// What a case and a record say apart from their bytes.
+// Reading the cases of writing from standard input: what a case and a record say apart from their bytes. Their layout stands in
+// tests/records.py.
 use format::Fields;
 use format::Heading;
 use prints::input::next_u8;
@@ -6,7 +7,7 @@ use prints::input::next_u32;
 use prints::input::next_u64;
 ghost use Rattle.io.specs.Counts.{Counts};
 
-// A case apart from its records.
+// A case apart from its records. Its last lengths are of the collecting buffer, of what is lent beside the output, and of the output.
 pub struct Case {
     pub version: u8,
     pub by_mode: bool,

@@ -1,4 +1,4 @@
--- `writes::cases::next_numbers` meets its contract. The loop's invariant: `i` is at most the length, which stays. Assumes nothing.
+-- `cases::next_numbers` meets its contract. The loop's invariant: `i` is at most the length, which stays. Assumes nothing.
 use mathlib.Core.Path.{_≡_, sym}
 use Prim.Native.Nat.{_≤_, _-_}
 use native.Mathlib.Omega.{arith}
@@ -6,8 +6,8 @@ use lib.ListN.{length, length-set}
 use lib.Seq.{length-take-le}
 use borrow.Author.Needs.{needs}
 use borrow.Author.Tests.{ltb-true}
-use Rattle.writes.proofs.cases.next_numbers.Statement.{statement}
-use Rattle.writes.proofs.cases.next_numbers.Tie as tie
+use Rattle.cases.proofs.next_numbers.Statement.{statement}
+use Rattle.cases.proofs.next_numbers.Tie as tie
 
 abbrev Inv-loop : tie.InvT-loop
 Inv-loop space₀ n i₀ space i = (i ≤ length space) × (length space ≡ length space₀)
