@@ -1,9 +1,9 @@
 /*
  * Streamvault: reads and writes ID3v2 tags (2.2, 2.3 and 2.4).
  *
- * Link the static library, target/staticlib/libcapi.a (`rt staticlib capi`). It is for x86-64 Linux, and needs memcpy
- * from the C library and nothing else. It allocates nothing, keeps nothing between calls and calls nothing back, so any
- * thread may use it.
+ * Link the static library, target/staticlib/libcapi.a (`rt staticlib capi`). It is for x86-64 Linux, and needs memcpy and
+ * memset from the C library and nothing else. It allocates nothing, keeps nothing between calls and calls nothing back, so
+ * any thread may use it.
  *
  * Every function answers 0, or the number of a refusal; sv_step also SV_END. The caller lends every buffer:
  *
