@@ -1,6 +1,6 @@
 //! Answers questions to the new library, batch by batch, from standard input to standard output: for a comparison that runs outside the emulator.
-use compare::wire::{self, Question};
 use compare::linked;
+use compare::wire::{self, Question};
 use std::io;
 
 fn main() -> io::Result<()> {

@@ -22,7 +22,7 @@ pub enum Class {
 }
 
 /// All of them, in the order of the report.
-pub const ALL: [Class; 30] = [
+pub const ALL: [Class; 29] = [
     Class::TableNoEights,
     Class::TableCut,
     Class::TableWidths,
@@ -36,12 +36,9 @@ pub const ALL: [Class; 30] = [
     Class::PeopleWritten,
     Class::TextNotHeld,
     Class::RunNotHeld,
-    Class::Refused(20),
     Class::Refused(21),
-    Class::Refused(22),
-    Class::Refused(23),
-    Class::Refused(24),
     Class::Refused(25),
+    Class::Refused(12),
     Class::Refused(26),
     Class::Refused(27),
     Class::Refused(28),
@@ -51,8 +48,10 @@ pub const ALL: [Class; 30] = [
     Class::Refused(32),
     Class::Refused(33),
     Class::Refused(34),
-    Class::Refused(12),
-    Class::Refused(2),
+    Class::Refused(22),
+    Class::Refused(23),
+    Class::Refused(24),
+    Class::Refused(20),
 ];
 
 impl Class {
@@ -70,13 +69,15 @@ impl Class {
             Class::TableOld => "MLL, the 2.2 table".into(),
             Class::People => "TIPL, TMCL".into(),
             Class::TextEncoding => "a text that is not of its encoding".into(),
-            Class::Undecoded => "ids that are raw here, with a body that the crate cannot decode".into(),
+            Class::Undecoded => {
+                "ids that are raw here and that the crate decodes itself, with a body that it cannot decode".into()
+            }
             Class::Depth => "a frame at depth 9".into(),
             Class::Compressed => "compressed frames (outside the domain)".into(),
             Class::OldRva => "RVA in 2.2 with the altered mark".into(),
             Class::PeopleWritten => "TIPL, TMCL as text".into(),
             Class::TextNotHeld => "texts that the crate's strings do not hold".into(),
-            Class::RunNotHeld => "runs that the crate's frames do not hold".into(),
+            Class::RunNotHeld => "runs of subframes that the crate's frames do not hold".into(),
             Class::Refused(number) => format!("writing refused here, {number}"),
         }
     }

@@ -11,22 +11,49 @@ pub struct Frames {
 }
 
 const IDS3: [&[u8]; 26] = [
-    b"TT2", b"TP1", b"TCO", b"TYE", b"TT2", b"TXX", b"POP", b"POP", b"POP", b"POP", b"MLL", b"COM", b"ULT", b"SLT", b"PIC", b"GEO",
-    b"UFI", b"WAR", b"WXX", b"IPL", b"CNT", b"RVA", b"ABC", b"ABC", b"CHA", b"TT2",
+    b"TT2", b"TP1", b"TCO", b"TYE", b"TT2", b"TXX", b"POP", b"POP", b"POP", b"POP", b"MLL", b"COM", b"ULT", b"SLT",
+    b"PIC", b"GEO", b"UFI", b"WAR", b"WXX", b"IPL", b"CNT", b"RVA", b"ABC", b"ABC", b"CHA", b"TT2",
 ];
 
 const IDS4: [&[u8]; 40] = [
-    b"TIT2", b"TPE1", b"TCOM", b"TIT2", b"TALB", b"TXXX", b"POPM", b"POPM", b"POPM", b"POPM", b"MLLT", b"MLLT", b"MLLT", b"CHAP",
-    b"CHAP", b"CHAP", b"CTOC", b"CTOC", b"COMM", b"USLT", b"SYLT", b"APIC", b"GEOB", b"UFID", b"PRIV", b"WOAR", b"WXXX", b"IPLS",
-    b"TIPL", b"TMCL", b"GRP1", b"PCNT", b"RVA2", b"ABCD", b"ABCD", b"ZZZZ", b"POP ", b"TIT2", b"MLL0", b"CHAQ",
+    b"TIT2", b"TPE1", b"TCOM", b"TIT2", b"TALB", b"TXXX", b"POPM", b"POPM", b"POPM", b"POPM", b"MLLT", b"MLLT",
+    b"MLLT", b"CHAP", b"CHAP", b"CHAP", b"CTOC", b"CTOC", b"COMM", b"USLT", b"SYLT", b"APIC", b"GEOB", b"UFID",
+    b"PRIV", b"WOAR", b"WXXX", b"IPLS", b"TIPL", b"TMCL", b"GRP1", b"PCNT", b"RVA2", b"ABCD", b"ABCD", b"ZZZZ",
+    b"POP ", b"TIT2", b"MLL0", b"CHAQ",
 ];
 
 // UTF-8 of every length, what is nearly UTF-8, and ids that only look like one of a kind
 const STRANGE: [&[u8]; 30] = [
-    b"T\xC3\xA91", b"\xC3\xA9AB", b"\xE2\x82\xACA", b"\xF0\x9F\x8E\xB5", b"A\xE2\x82\xAC", b"\xEE\x80\x80T", b"\xED\x9F\xBFA", b"\xED\xA0\x80A",
-    b"\xE0\x9F\xBFA", b"\xE0\xA0\x80A", b"\xC0\x80AB", b"\xC1\xBFAB", b"\xC2\x80AB", b"\xF0\x8F\xBF\xBF", b"\xF0\x90\x80\x80", b"\xF4\x8F\xBF\xBF",
-    b"\xF4\x90\x80\x80", b"\xF5\x80\x80\x80", b"\x80ABC", b"AB\xC3\xA9", b"ABC\xC3", b"AB\xE2\x82", b"A\xF0\x9F\x8E", b"T\0\0\0", b"\x01\x02\x03\x04",
-    b"popm", b"POP\0", b"\x7F\x7F\x7F\x7F", b"\nA\nB", b"T\xFF\xFE\xFD",
+    b"T\xC3\xA91",
+    b"\xC3\xA9AB",
+    b"\xE2\x82\xACA",
+    b"\xF0\x9F\x8E\xB5",
+    b"A\xE2\x82\xAC",
+    b"\xEE\x80\x80T",
+    b"\xED\x9F\xBFA",
+    b"\xED\xA0\x80A",
+    b"\xE0\x9F\xBFA",
+    b"\xE0\xA0\x80A",
+    b"\xC0\x80AB",
+    b"\xC1\xBFAB",
+    b"\xC2\x80AB",
+    b"\xF0\x8F\xBF\xBF",
+    b"\xF0\x90\x80\x80",
+    b"\xF4\x8F\xBF\xBF",
+    b"\xF4\x90\x80\x80",
+    b"\xF5\x80\x80\x80",
+    b"\x80ABC",
+    b"AB\xC3\xA9",
+    b"ABC\xC3",
+    b"AB\xE2\x82",
+    b"A\xF0\x9F\x8E",
+    b"T\0\0\0",
+    b"\x01\x02\x03\x04",
+    b"popm",
+    b"POP\0",
+    b"\x7F\x7F\x7F\x7F",
+    b"\nA\nB",
+    b"T\xFF\xFE\xFD",
 ];
 
 /// Four bytes of seven bits each; a bit 7 that the next bit above hides may be set too.

@@ -9,11 +9,12 @@ use oracle::{Fields, List, Record, Subs};
 const TEXTS3: [&str; 9] = ["TT2", "TP1", "TCO", "TYE", "TZZ", "TLE", "TEN", "TSI", "T00"];
 const TEXTS4: [&str; 10] = ["TIT2", "TPE1", "TALB", "TCOM", "TIPL", "TMCL", "TLEN", "TENC", "TZZZ", "T000"];
 const RAWS3: [&str; 20] = [
-    "ABC", "XYZ", "000", "TXX", "COM", "PIC", "UFI", "WAR", "CNT", "BUF", "CRM", "RVA", "CRA", "ETC", "EQU", "SLT", "STC", "IPL", "RVR", "A1B",
+    "ABC", "XYZ", "000", "TXX", "COM", "PIC", "UFI", "WAR", "CNT", "BUF", "CRM", "RVA", "CRA", "ETC", "EQU", "SLT",
+    "STC", "IPL", "RVR", "A1B",
 ];
 const RAWS4: [&str; 22] = [
-    "ABCD", "XYZ1", "0000", "TXXX", "COMM", "APIC", "UFID", "WOAR", "PCNT", "GRP1", "PRIV", "RVA2", "RVAD", "AENC", "ETCO", "EQUA", "POSS",
-    "SYLT", "SYTC", "IPLS", "EQU2", "SEEK",
+    "ABCD", "XYZ1", "0000", "TXXX", "COMM", "APIC", "UFID", "WOAR", "PCNT", "GRP1", "PRIV", "RVA2", "RVAD", "AENC",
+    "ETCO", "EQUA", "POSS", "SYLT", "SYTC", "IPLS", "EQU2", "SEEK",
 ];
 // of another kind, another edition, or no id
 const WRONG: [&str; 14] =

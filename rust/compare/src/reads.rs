@@ -112,7 +112,11 @@ impl Comparison<'_> {
         }
         let theirs = oracle::read_past(tag);
         self.must(theirs.doubts.is_empty(), "the oracle is in doubt");
-        let mut level = Level { ours: our_refusal(&ours).or(ours.header.err()), theirs: their_refusal(&theirs), ..Level::default() };
+        let mut level = Level {
+            ours: our_refusal(&ours).or(ours.header.err()),
+            theirs: their_refusal(&theirs),
+            ..Level::default()
+        };
         if let Some(edition) = self.headers(&theirs, &ours) {
             self.frames(edition, &theirs, &ours, &mut level);
         }
@@ -123,7 +127,8 @@ impl Comparison<'_> {
     fn headers(&mut self, theirs: &Reading, ours: &Seen) -> Option<u8> {
         match (&theirs.header, &ours.header) {
             (Ok(t), Ok(o)) => {
-                let same = (t.edition.into(), t.flags.into(), t.size.into(), t.ext.into()) == (o.edition, o.flags, o.size, o.ext);
+                let same = (t.edition.into(), t.flags.into(), t.size.into(), t.ext.into())
+                    == (o.edition, o.flags, o.size, o.ext);
                 self.must(same, "header fields");
                 return Some(t.edition);
             }
@@ -191,7 +196,10 @@ impl Comparison<'_> {
                 Kind::Text => {
                     self.must(failure.kind == "StringDecoding", "a text that only the crate refuses");
                     self.note(Class::TextEncoding);
-                    self.must(text && text_of(edition, item) == Some(&frame.rest), "a text that the crate does not decode");
+                    self.must(
+                        text && text_of(edition, item) == Some(&frame.rest),
+                        "a text that the crate does not decode",
+                    );
                 }
                 Kind::Raw => {
                     self.note(Class::Undecoded);
@@ -236,9 +244,13 @@ impl Comparison<'_> {
         let front = &item.body[..item.body.len() - run.len()];
         let asked = oracle::read(&wrapped(edition, &framed(edition, &item.id, front)));
         let same = asked.items.first().is_some_and(|alone| match &alone.kind {
-            Theirs::Chapter { element, times, .. } => *element == frame.name && times.map(u64::from) == frame.numbers[..4],
+            Theirs::Chapter { element, times, .. } => {
+                *element == frame.name && times.map(u64::from) == frame.numbers[..4]
+            }
             Theirs::Contents { element, top_level, ordered, children, .. } => {
-                *element == frame.name && closed(children) == frame.names && [*top_level, *ordered].map(u64::from) == frame.numbers[..2]
+                *element == frame.name
+                    && closed(children) == frame.names
+                    && [*top_level, *ordered].map(u64::from) == frame.numbers[..2]
             }
             _ => false,
         });
@@ -321,7 +333,9 @@ impl Comparison<'_> {
 
     fn both_ended(&mut self, theirs: Option<&TheirStop>, ours: Stop, level: &mut Level) {
         match (theirs, ours) {
-            (Some(TheirStop::End { at, .. }), Stop::End { at: place }) => self.must(*at == place, "the place of the end"),
+            (Some(TheirStop::End { at, .. }), Stop::End { at: place }) => {
+                self.must(*at == place, "the place of the end")
+            }
             (Some(TheirStop::Refused { at, failure, .. }), Stop::Refused { at: place, number }) => {
                 level.height = level.height.max(1);
                 self.must(*at == place, "the place of a refusal");
@@ -362,7 +376,13 @@ fn same_fields(theirs: &Theirs, ours: &Frame) -> bool {
             kind(Kind::Popularimeter) && ours.name == *user && n[..2] == [u64::from(*rating), *counter]
         }
         Theirs::Table { frames, bytes, millis, bits_for_bytes, bits_for_millis, deviations } => {
-            let numbers = [u64::from(*frames), (*bytes).into(), (*millis).into(), (*bits_for_bytes).into(), (*bits_for_millis).into()];
+            let numbers = [
+                u64::from(*frames),
+                (*bytes).into(),
+                (*millis).into(),
+                (*bits_for_bytes).into(),
+                (*bits_for_millis).into(),
+            ];
             kind(Kind::Table) && *n == numbers && ours.deviations == *deviations
         }
         Theirs::Chapter { element, times, run, .. } => {

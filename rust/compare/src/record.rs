@@ -139,7 +139,9 @@ fn frame_branch(item: &Item, edition: u8) -> String {
 
 fn kind_branch(kind: &Kind, body: &[u8]) -> String {
     match kind {
-        Kind::Text { encoding, bytes, .. } => format!("text {encoding} {} {}", size_class(bytes.len()), body.len() - 1 - bytes.len()),
+        Kind::Text { encoding, bytes, .. } => {
+            format!("text {encoding} {} {}", size_class(bytes.len()), body.len() - 1 - bytes.len())
+        }
         Kind::Popularimeter { user, counter, .. } => {
             let held = (body.len() - user.len() - 2).min(9);
             format!("popularimeter {} {held} {}", user.is_empty(), 64 - counter.leading_zeros() > 32)
@@ -148,7 +150,9 @@ fn kind_branch(kind: &Kind, body: &[u8]) -> String {
             format!("table {} {} {}", bits_for_bytes / 8, bits_for_millis / 8, size_class(deviations.len()))
         }
         Kind::Chapter { subs, .. } => format!("chapter {}", subs_branch(subs)),
-        Kind::Contents { children, subs, .. } => format!("contents {} {}", size_class(children.len()), subs_branch(subs)),
+        Kind::Contents { children, subs, .. } => {
+            format!("contents {} {}", size_class(children.len()), subs_branch(subs))
+        }
         Kind::Raw => format!("raw {}", size_class(body.len())),
         Kind::Other(name) => (*name).to_string(),
         Kind::Refused(failure) => format!("refused {} {:?}", failure.number, body.first().map(|b| (*b).min(4))),

@@ -17,7 +17,7 @@ impl Rng {
 
     /// A number below n, which is not 0.
     pub fn below(&mut self, n: usize) -> usize {
-        ((self.number() >> 32) * n as u64 >> 32) as usize
+        (((self.number() >> 32) * n as u64) >> 32) as usize
     }
 
     /// A number from a to b.

@@ -33,7 +33,7 @@ fn bytes(best: &mut Vec<u8>, test: &mut dyn FnMut(&[u8]) -> bool) {
 }
 
 // each byte as 0, as an A, or one less
-fn simpler(best: &mut Vec<u8>, test: &mut dyn FnMut(&[u8]) -> bool) {
+fn simpler(best: &mut [u8], test: &mut dyn FnMut(&[u8]) -> bool) {
     for i in 0..best.len() {
         for to in [0, 0x41, best[i] / 2, best[i].saturating_sub(1)] {
             if to < best[i] {
@@ -115,7 +115,14 @@ fn smaller_fields(fields: &Fields) -> Vec<Fields> {
             out
         }
         Fields::Table { frames, bytes, millis, bits_for_bytes, bits_for_millis, deviations } => {
-            let table = |frames, bytes, millis, deviations| Fields::Table { frames, bytes, millis, bits_for_bytes, bits_for_millis, deviations };
+            let table = |frames, bytes, millis, deviations| Fields::Table {
+                frames,
+                bytes,
+                millis,
+                bits_for_bytes,
+                bits_for_millis,
+                deviations,
+            };
             let mut out: Vec<Fields> =
                 shorter(&deviations).into_iter().map(|deviations| table(frames, bytes, millis, deviations)).collect();
             if (frames, bytes, millis) != (0, 0, 0) {
@@ -134,7 +141,13 @@ fn smaller_fields(fields: &Fields) -> Vec<Fields> {
             out
         }
         Fields::Contents { element, top_level, ordered, children, subs } => {
-            let contents = |element: &[u8], children, subs| Fields::Contents { element: element.to_vec(), top_level, ordered, children, subs };
+            let contents = |element: &[u8], children, subs| Fields::Contents {
+                element: element.to_vec(),
+                top_level,
+                ordered,
+                children,
+                subs,
+            };
             let mut out: Vec<Fields> =
                 smaller_subs(&subs).into_iter().map(|subs| contents(&element, children.clone(), subs)).collect();
             out.extend(shorter(&children).into_iter().map(|children| contents(&element, children, subs.clone())));

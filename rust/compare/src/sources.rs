@@ -119,14 +119,49 @@ fn behind(name: &str, head: &[&[u8]], tail: &[u8], most: u32) -> Short {
 /// The headers. Inputs behind the first ones have up to `most` bytes, behind the others up to two.
 pub fn shorts(most: u32) -> Vec<Source> {
     let first = [
-        behind("a 2.2 tag header, being the frame's id, with 00 00 02 00 41 after it", &[&tag_header(2, 0, 8)], &[0, 0, 2, 0, 0x41], most),
+        behind(
+            "a 2.2 tag header, being the frame's id, with 00 00 02 00 41 after it",
+            &[&tag_header(2, 0, 8)],
+            &[0, 0, 2, 0, 0x41],
+            most,
+        ),
         behind("POP in 2.2, size 3", &[&tag_header(2, 0, 9), &frame_header(2, b"POP", 3, 0)], &[], most),
-        behind("POPM in 2.4 flagged 0002, size 3", &[&tag_header(4, 0, 13), &frame_header(4, b"POPM", 3, 2)], &[], most),
-        behind("ABCD in unsynchronised 2.3, size 2", &[&tag_header(3, 0x80, 13), &frame_header(3, b"ABCD", 2, 0)], &[], most),
-        behind("TIT2 in 2.3, size 4, encoding 1", &[&tag_header(3, 0, 14), &frame_header(3, b"TIT2", 4, 0), &[1]], &[], most),
-        behind("TIT2 in 2.4, size 4, encoding 0", &[&tag_header(4, 0, 14), &frame_header(4, b"TIT2", 4, 0), &[0]], &[], most),
-        behind("TIT2 in 2.4, size 4, encoding 1", &[&tag_header(4, 0, 14), &frame_header(4, b"TIT2", 4, 0), &[1]], &[], most),
-        behind("MLLT in 2.4, size 11, its first eight bytes", &[&tag_header(4, 0, 21), &frame_header(4, b"MLLT", 11, 0), &[0; 8]], &[], most),
+        behind(
+            "POPM in 2.4 flagged 0002, size 3",
+            &[&tag_header(4, 0, 13), &frame_header(4, b"POPM", 3, 2)],
+            &[],
+            most,
+        ),
+        behind(
+            "ABCD in unsynchronised 2.3, size 2",
+            &[&tag_header(3, 0x80, 13), &frame_header(3, b"ABCD", 2, 0)],
+            &[],
+            most,
+        ),
+        behind(
+            "TIT2 in 2.3, size 4, encoding 1",
+            &[&tag_header(3, 0, 14), &frame_header(3, b"TIT2", 4, 0), &[1]],
+            &[],
+            most,
+        ),
+        behind(
+            "TIT2 in 2.4, size 4, encoding 0",
+            &[&tag_header(4, 0, 14), &frame_header(4, b"TIT2", 4, 0), &[0]],
+            &[],
+            most,
+        ),
+        behind(
+            "TIT2 in 2.4, size 4, encoding 1",
+            &[&tag_header(4, 0, 14), &frame_header(4, b"TIT2", 4, 0), &[1]],
+            &[],
+            most,
+        ),
+        behind(
+            "MLLT in 2.4, size 11, its first eight bytes",
+            &[&tag_header(4, 0, 21), &frame_header(4, b"MLLT", 11, 0), &[0; 8]],
+            &[],
+            most,
+        ),
     ];
     let mut out: Vec<Source> = first.into_iter().map(|short| Source::Short(vec![short])).collect();
     out.push(Source::Short(others(most.min(2))));
@@ -175,14 +210,26 @@ fn parts(most: u32) -> Vec<Short> {
         behind("a 2.2 frame ABC, being the end of its size", &[&tag_header(2, 0, 20), b"ABC\0"], &tail, most),
         behind("a 2.3 frame ABCD, being the end of its size", &[&tag_header(3, 0, 20), b"ABCD\0\0"], &tail, most),
         behind("a 2.4 frame ABCD, being the end of its size", &[&tag_header(4, 0, 20), b"ABCD\0\0"], &tail, most),
-        behind("CTOC in 2.4, size 12, with 61 00, being flags and count",
-            &[&tag_header(4, 0, 22), &frame_header(4, b"CTOC", 12, 0), b"a\0"], b"b\0c\0d\0e\0", most),
+        behind(
+            "CTOC in 2.4, size 12, with 61 00, being flags and count",
+            &[&tag_header(4, 0, 22), &frame_header(4, b"CTOC", 12, 0), b"a\0"],
+            b"b\0c\0d\0e\0",
+            most,
+        ),
     ];
     for edition in 2..=4u8 {
         let id: &[u8] = if edition == 2 { b"TT2" } else { b"TIT2" };
         for encoding in 0..5u8 {
-            let name = format!("{} in 2.{edition}, size 6, encoding {encoding}, with 41 00 after it", String::from_utf8_lossy(id));
-            out.push(behind(&name, &[&tag_header(edition, 0, 16), &frame_header(edition, id, 6, 0), &[encoding]], &[0x41, 0], most));
+            let name = format!(
+                "{} in 2.{edition}, size 6, encoding {encoding}, with 41 00 after it",
+                String::from_utf8_lossy(id)
+            );
+            out.push(behind(
+                &name,
+                &[&tag_header(edition, 0, 16), &frame_header(edition, id, 6, 0), &[encoding]],
+                &[0x41, 0],
+                most,
+            ));
         }
     }
     out

@@ -2,7 +2,8 @@
 use crate::rng::Rng;
 
 // characters of one to four bytes of UTF-8, and of one and two units of UTF-16
-const CHARACTERS: [char; 12] = ['A', 'z', '/', ' ', '\u{7F}', '\u{E9}', '\u{FF}', '\u{100}', '\u{20AC}', '\u{FEFF}', '\u{FF00}', '\u{1F3B5}'];
+const CHARACTERS: [char; 12] =
+    ['A', 'z', '/', ' ', '\u{7F}', '\u{E9}', '\u{FF}', '\u{100}', '\u{20AC}', '\u{FEFF}', '\u{FF00}', '\u{1F3B5}'];
 
 /// A text of an encoding, mostly one that can be decoded, without a closing zero.
 pub fn text(rng: &mut Rng, encoding: u8) -> Vec<u8> {

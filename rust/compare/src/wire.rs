@@ -86,7 +86,14 @@ pub fn put_tag(tag: &[u8]) -> Vec<u8> {
 pub fn put_order(order: &Order) -> Vec<u8> {
     let mut out = Put::default();
     out.number(1);
-    out.numbers(&[order.edition.into(), order.mode, order.altered.into(), order.room as u64, order.padding, order.output as u64]);
+    out.numbers(&[
+        order.edition.into(),
+        order.mode,
+        order.altered.into(),
+        order.room as u64,
+        order.padding,
+        order.output as u64,
+    ]);
     out.number(order.entries.len() as u64);
     for entry in &order.entries {
         out.numbers(&[entry.kind, entry.id]);
@@ -111,7 +118,15 @@ pub fn question(bytes: &[u8]) -> Question {
     let [edition, mode, altered, room, padding] = from.numbers();
     let output = from.size();
     let entries = from.many(entry);
-    Question::Order(Order { edition: edition as u8, mode, altered: altered == 1, room: room as usize, entries, padding, output })
+    Question::Order(Order {
+        edition: edition as u8,
+        mode,
+        altered: altered == 1,
+        room: room as usize,
+        entries,
+        padding,
+        output,
+    })
 }
 
 fn entry(from: &mut Take) -> Entry {

@@ -145,4 +145,3 @@ fn progress(name: &str, count: u64, done: &AtomicU64, over: impl Fn() -> bool) {
         eprint!("\r\x1b[K");
     }
 }
-

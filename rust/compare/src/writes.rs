@@ -124,7 +124,10 @@ impl Comparison<'_> {
     fn rooms(&mut self, list: &List, accepted: &[Given], written: &Written) {
         let (room, output) = (written.frames.len(), written.tag.len());
         let same = self.library.write(&order(list, accepted, room, output));
-        let full = same.clean && same.added.iter().all(|(n, _)| *n == 0) && same.frames == written.frames && same.tag == written.tag;
+        let full = same.clean
+            && same.added.iter().all(|(n, _)| *n == 0)
+            && same.frames == written.frames
+            && same.tag == written.tag;
         self.must(full, "buffers that are exactly full");
         if room > 0 {
             let short = self.library.write(&order(list, accepted, room - 1, output));
@@ -157,7 +160,8 @@ impl Comparison<'_> {
 
     // plain frames, as the crate writes subframes
     fn written_run(&mut self, list: &List, records: &[Record]) -> Run {
-        let inner = List { unsynchronisation: false, file_altered: false, padding: 0, records: Vec::new(), ..list.clone() };
+        let inner =
+            List { unsynchronisation: false, file_altered: false, padding: 0, records: Vec::new(), ..list.clone() };
         let mut given = Vec::new();
         for record in records {
             given.push((record.clone(), self.run(&inner, record)?));
@@ -205,7 +209,13 @@ impl Comparison<'_> {
                 Some(end) if end != bytes.len() => 26,
                 _ => 0,
             },
-            Fields::Popularimeter { user, .. } => if user.contains(&0) { 27 } else { 0 },
+            Fields::Popularimeter { user, .. } => {
+                if user.contains(&0) {
+                    27
+                } else {
+                    0
+                }
+            }
             Fields::Chapter { element, .. } => self.chapter_refusal(list, element, &[], run),
             Fields::Contents { element, children, .. } => self.chapter_refusal(list, element, children, run),
             Fields::Table { bytes, millis, bits_for_bytes: a, bits_for_millis: b, deviations, .. } => {
