@@ -118,25 +118,12 @@ impl Frames {
         let mut body = self.body(id, 9);
         let more = len.saturating_sub(body.len());
         if id == b"CHAP" {
-            let raw = self.filled(more.saturating_sub(10));
+            let raw = self.rng.filled(more.saturating_sub(10));
             body.extend(self.framed(b"ABCD", raw));
         } else {
-            body.extend(self.filled(more));
+            body.extend(self.rng.filled(more));
         }
         self.framed(id, body)
-    }
-
-    // bytes of one sort, with FF and 00 among them
-    fn filled(&mut self, len: usize) -> Vec<u8> {
-        let fill = self.rng.pick(&[0x41, 0xFF, 0x00, 0x7F]);
-        let mut out = vec![fill; len];
-        for _ in 0..self.rng.below(30) {
-            let at = self.rng.below(len.max(1));
-            if let Some(byte) = out.get_mut(at) {
-                *byte = self.rng.pick(&[0xFF, 0x00, 0xE0]);
-            }
-        }
-        out
     }
 
     // a frame that is no chapter

@@ -116,15 +116,12 @@ impl Maker {
 
     fn raw(&mut self) -> (&'static str, Fields) {
         let id = if self.edition == 2 { self.rng.pick(&RAWS3) } else { self.rng.pick(&RAWS4) };
-        if !self.rng.one_in(4000) {
-            return (id, Fields::Raw { body: self.rng.bytes(24) });
-        }
-        let len = tags::large_len(&mut self.rng);
-        let fill = self.rng.pick(&[0x41, 0xFF, 0x00]);
-        let mut body = vec![fill; len];
-        for i in (0..len).step_by(3) {
-            body[i] = self.rng.byte();
-        }
+        let body = if self.rng.one_in(12) {
+            let len = tags::large_len(&mut self.rng);
+            self.rng.filled(len)
+        } else {
+            self.rng.bytes(24)
+        };
         (id, Fields::Raw { body })
     }
 

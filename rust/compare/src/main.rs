@@ -97,7 +97,7 @@ fn all(options: Options) -> ExitCode {
 
 fn sources(options: Options) -> Vec<Source> {
     let mut out = vec![Source::Generated { seed: options.seed, count: options.readings }];
-    out.push(Source::Large { seed: options.seed, count: options.readings / 1000 });
+    out.push(Source::Large { seed: options.seed, count: options.readings / 50 });
     if options.cuts > 0 {
         out.push(Source::cuts(options.seed, options.cuts));
     }

@@ -56,6 +56,18 @@ impl Rng {
         (0..n).map(|_| self.byte()).collect()
     }
 
+    /// So many bytes of mostly one sort, with some FF, 00 and E0 among them.
+    pub fn filled(&mut self, n: usize) -> Vec<u8> {
+        let fill = self.pick(&[0x41, 0x41, 0xFF, 0x00, 0x7F]);
+        let mut out = vec![fill; n];
+        for _ in 0..self.below(12) {
+            let at = self.below(n.max(1));
+            let pair = [self.pick(&[0xFF, 0xFF, 0x00]), self.pick(&[0x00, 0x00, 0xFF, 0xE0, 0x41])];
+            out.iter_mut().skip(at).zip(pair).for_each(|(byte, other)| *byte = other);
+        }
+        out
+    }
+
     /// At most so many bytes without a zero.
     pub fn name(&mut self, most: usize) -> Vec<u8> {
         let n = self.below(most + 1);

@@ -41,7 +41,7 @@ impl Source {
     pub fn name(&self) -> String {
         match self {
             Source::Generated { seed, .. } => format!("generated tags, seed {seed}"),
-            Source::Large { seed, .. } => format!("generated tags with bodies of up to 65,540 bytes, seed {seed}"),
+            Source::Large { seed, .. } => format!("generated tags with bodies of some 64 to 65,560 bytes, seed {seed}"),
             Source::Short(shorts) => {
                 let most = shorts.first().map_or(0, |short| short.most);
                 match &shorts[..] {

@@ -35,10 +35,14 @@ pub fn large(seed: u64, index: u64) -> Vec<u8> {
     out
 }
 
-/// A length about one at which sizes or buffers change.
+/// A length about one at which sizes, blocks or buffers change, mostly of a few blocks.
 pub fn large_len(rng: &mut Rng) -> usize {
-    let about = rng.pick(&[128, 256, 4096, 8192, 8192, 16384, 16384, 32768, 65536]);
-    about - 20 + rng.below(24)
+    let about = if rng.one_in(16) {
+        rng.pick(&[4096, 8192, 8192, 16384, 16384, 32768, 65536])
+    } else {
+        rng.pick(&[64, 64, 128, 128, 192, 256, 320])
+    };
+    about - 20 + rng.below(40)
 }
 
 /// A tag that nothing was done to, for the cuts.
