@@ -22,7 +22,7 @@ fn main() {
         small_tags(version);
     }
     raw_bodies();
-    for (name, bytes) in [("clean", clean()), ("random", random()), ("FF-dense", dense())] {
+    for (name, bytes) in [("clean", clean()), ("random", random()), ("FF-dense", dense()), ("FF-dense at random", dense_at_random())] {
         resynchronising(name, &bytes);
         unsynchronising(name, &bytes);
     }
@@ -158,8 +158,20 @@ fn random() -> Vec<u8> {
     (0..MEGABYTE).map(|_| next()).collect()
 }
 
+/// The same four bytes over and over: no branch is ever guessed wrongly.
 fn dense() -> Vec<u8> {
     [0xFF, 0xE0, 0xFF, 0x00].repeat(MEGABYTE / 4)
+}
+
+/// Half of the bytes FF, a quarter 00, an eighth E3, the others any.
+fn dense_at_random() -> Vec<u8> {
+    let choose = |byte: u8| match byte >> 5 {
+        0..=3 => 0xFF,
+        4 | 5 => 0x00,
+        6 => 0xE3,
+        _ => byte,
+    };
+    random().into_iter().map(choose).collect()
 }
 
 /// Opens an unsynchronised 2.3 tag of 1 MiB, which resynchronises all of it.

@@ -1,7 +1,18 @@
-# What run.sh and peers.sh share: a compiler for x86-64 Linux, and how to run what it makes on this machine. To be sourced.
+# What the scripts of this folder share: Debian's packages, a compiler for x86-64 Linux, and how to run what it makes on this machine. To be sourced.
 
 target=x86_64-unknown-linux-gnu
 emulator=()
+
+# installs those of the named packages that are not there
+need() {
+    local missing=() one
+    for one in "$@"; do
+        dpkg -s "$one" >/dev/null 2>&1 || missing+=("$one")
+    done
+    if [ ${#missing[@]} != 0 ]; then
+        { apt-get update && apt-get install -y --no-install-recommends "${missing[@]}"; } >&2 || echo "not to be had: ${missing[*]}" >&2
+    fi
+}
 
 # a compiler that knows the target
 find_rust() {
@@ -29,4 +40,14 @@ find_emulator() {
     export GLIBC_TUNABLES=glibc.cpu.x86_rep_stosb_threshold=1000000000:glibc.cpu.x86_rep_movsb_threshold=1000000000
     local libraries=/usr/x86_64-linux-gnu/lib
     emulator=(qemu-x86_64 "$libraries/ld-linux-x86-64.so.2" --library-path "$libraries")
+}
+
+# lays out the oracle, this package and the library's Rust package side by side in the folder $out
+lay_out() {
+    mkdir -p "$out/oracle" "$out/compare" "$out/.cargo"
+    "$repository/rust/oracle/setup.sh" "$out/oracle" ${SOURCE:+"$SOURCE"} >/dev/null
+    cp "$out/oracle/.cargo/config.toml" "$out/.cargo/config.toml"
+    rm -rf "$out/compare/src" "$out/streamvault"
+    cp -Rp "$here/src" "$here/Cargo.toml" "$out/compare/"
+    ln -s "${PACKAGE:-$repository/rust}" "$out/streamvault"
 }

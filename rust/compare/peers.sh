@@ -1,6 +1,6 @@
 #!/usr/bin/env bash
-# Holds `streamvault list` against other readers and writers of ID3v2 tags, those of Debian's packages python3-mutagen, eyed3, ffmpeg, libid3tag0 and libtagc0.
-# One that is not installed is left out with a message.
+# Holds the listing against other readers and writers of ID3v2 tags, those of Debian's packages python3-mutagen, eyed3, ffmpeg, libid3tag0 and libtagc0:
+# both `streamvault list` and, where `rt` is on the path, the program `listing`. What is not installed and not to be had is left out with a message.
 #
 #   rust/compare/peers.sh
 #
@@ -14,7 +14,13 @@ repository=$(cd "$here/../.." && pwd)
 out=${OUT:-$repository/target/peers}
 . "$here/env.sh"
 
+need python3-mutagen eyed3 ffmpeg libid3tag0 libtagc0
 find_rust
 find_emulator
 cargo build -j1 --release --quiet --target "$target" --target-dir "$out" --manifest-path "${PACKAGE:-$repository/rust}/Cargo.toml" --bin streamvault
-exec "${PYTHON:-/usr/bin/python3}" "$here/peers.py" "${emulator[@]}" "$out/$target/release/streamvault" list
+program=()
+if command -v rt >/dev/null && [ ${#emulator[@]} = 0 ]; then
+    (cd "$repository" && rt check listing) >"$out/listing.log" 2>&1 || { tail "$out/listing.log"; exit 1; }
+    program=(--program "$repository/target/bin/listing")
+fi
+exec "${PYTHON:-/usr/bin/python3}" "$here/peers.py" "${program[@]}" "${emulator[@]}" "$out/$target/release/streamvault" list

@@ -1,10 +1,11 @@
 #!/usr/bin/env bash
-# Compares the new library with the crate id3 1.17.2: lays everything out, builds it and runs all.
+# Holds the new library against the crate id3 1.17.2 and against other programs: lays everything out, builds it and runs all.
 #
-#   rust/compare/run.sh [OPTIONS]        10,000,000 generated tags, every short input and cut, 1,000,000 lists; OPTIONS as in README.md
-#   rust/compare/run.sh read HEX         both answers to one tag
-#   rust/compare/run.sh write LIST       the verdict on one list
-#   rust/compare/run.sh record           chooses questions and writes them with the crate's answers to crates/replay_reads
+#   rust/compare/run.sh                     all: the comparison, then peers.sh, then speed.sh
+#   rust/compare/run.sh compare [OPTIONS]   the comparison: 10,000,000 generated tags, every short input and cut, 1,000,000 lists; OPTIONS as in README.md
+#   rust/compare/run.sh read HEX            both answers to one tag
+#   rust/compare/run.sh write LIST          the verdict on one list
+#   rust/compare/run.sh record              chooses questions and writes them with the crate's answers to crates/replay_reads
 #
 #   OUT                  the folder to lay it out in; target/compare if not given
 #   SOURCE               the folder whose src/ is the crate's source; as rust/oracle/setup.sh finds it if not given
@@ -17,22 +18,30 @@ repository=$(cd "$here/../.." && pwd)
 out=${OUT:-$repository/target/compare}
 . "$here/env.sh"
 
-# the oracle, this package and the library's Rust package side by side
-lay_out() {
-    mkdir -p "$out/oracle" "$out/compare" "$out/.cargo"
-    "$repository/rust/oracle/setup.sh" "$out/oracle" ${SOURCE:+"$SOURCE"} >/dev/null
-    cp "$out/oracle/.cargo/config.toml" "$out/.cargo/config.toml"
-    rm -rf "$out/compare/src" "$out/streamvault"
-    cp -Rp "$here/src" "$here/Cargo.toml" "$out/compare/"
-    ln -s "${PACKAGE:-$repository/rust}" "$out/streamvault"
-}
+if [ $# = 0 ]; then
+    failed=()
+    for part in "run.sh compare" peers.sh speed.sh; do
+        echo "== $part"
+        # shellcheck disable=SC2086
+        "$here"/$part || failed+=("$part")
+    done
+    if [ ${#failed[@]} != 0 ]; then
+        echo "failed: ${failed[*]}"
+        exit 1
+    fi
+    echo "all three ran without an unlisted difference"
+    exit 0
+fi
 
 lay_out
 cd "$out/compare"
-if [ "${1:-}" = record ]; then
+if [ "$1" = record ]; then
     cargo build -j1 --release --quiet --no-default-features --bin record
     mkdir -p "$repository/crates/replay_reads"
     exec target/release/record "$repository/crates/replay_reads/stdin" "$repository/crates/replay_reads/stdout"
+fi
+if [ "$1" = compare ]; then
+    shift
 fi
 find_rust
 find_emulator

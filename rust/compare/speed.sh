@@ -1,0 +1,32 @@
+#!/usr/bin/env bash
+# Times how the new library, the crate id3 1.17.2, libid3tag and TagLib (Debian's packages libid3tag0-dev and libtag1-dev) open small tags and go through
+# their frames, in one run over the same bytes. Only on x86-64: in an emulator a time says nothing.
+#
+#   rust/compare/speed.sh
+#
+#   OUT, SOURCE, PACKAGE, STREAMVAULT_LIB_DIR   as in run.sh
+set -euo pipefail
+
+here=$(cd "$(dirname "$0")" && pwd)
+repository=$(cd "$here/../.." && pwd)
+out=${OUT:-$repository/target/compare}
+. "$here/env.sh"
+
+if [ "$(uname -m)" != x86_64 ]; then
+    echo "nothing is timed: the library is x86-64 code, and this machine is $(uname -m)"
+    exit 0
+fi
+need libid3tag0-dev libtag1-dev g++
+lay_out
+mkdir -p "$out/peers"
+peers=()
+if cc -O2 -Wall -Wextra -shared -fPIC "$here/peers/id3tag.c" -o "$out/peers/libid3tag.so" -lid3tag; then
+    peers+=("$out/peers/libid3tag.so")
+fi
+if c++ -O2 -Wall -Wextra -shared -fPIC "$here/peers/taglib.cc" -o "$out/peers/TagLib.so" -ltag; then
+    peers+=("$out/peers/TagLib.so")
+fi
+find_rust
+cd "$out/compare"
+cargo build -j1 --release --quiet --target "$target" --bin speed
+exec "target/$target/release/speed" "${peers[@]}"
