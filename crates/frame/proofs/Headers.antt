@@ -7,10 +7,10 @@ use mathlib.Core.List.{List, _∷_}
 use lib.ListN.{length, take, drop, getD}
 use lib.Dec.{ltb}
 use borrow.Author.Tests.{lt-ltb, le-ltb, eq-eqb, ne-eqb, ltb-false}
-use Rattle.format.specs.Bytes.{pick, first, has}
+use Rattle.format.specs.Bytes.{pick, first}
 use Rattle.format.specs.Numbers.{number}
 use Rattle.format.specs.Ids.{idLen, isUtf8}
-use Rattle.format.specs.Frame.{headLen, frameSize, frameFlags, isCompressed, isFlagged, wantsWhole, lengthBytes, frameChecks, headOf}
+use Rattle.format.specs.Frame.{headLen, frameSize, isEncrypted, isGrouped, isCompressed, isFlagged, wantsWhole, lengthBytes, frameChecks, headOf}
 use Rattle.format.specs.declared.Version.{Version}
 use Rattle.format.specs.declared.Head.{Head}
 use Rattle.format.proofs.Checks.{none-of, none-refused, none-else, first-stops}
@@ -27,19 +27,18 @@ module _ (depth : ℕ) (id more : List ℕ) where
   unfolding first
   not-utf8 h e = rw (le-ltb 8 depth h, e)
 
-module _ (depth encryption grouping : ℕ) (s : List ℕ) (shallow : depth ≤ 8) (utf8 : isUtf8 (take 4 s) ≡ true) where
-  pub encrypted : has encryption (frameFlags s) ≡ true → 8 ≡ first (firstChecks depth encryption grouping s)
+module _ (depth : ℕ) (s : List ℕ) (shallow : depth ≤ 8) (utf8 : isUtf8 (take 4 s) ≡ true) where
+  pub by-flags : (encrypted grouped : Bool) → first (firstChecks depth encrypted grouped s) ≡ pick encrypted 8 (pick grouped 9 0)
   unfolding first
-  encrypted e = rw (le-ltb 8 depth shallow, utf8, e)
+  by-flags true grouped = rw (le-ltb 8 depth shallow, utf8)
+  by-flags false true = rw (le-ltb 8 depth shallow, utf8)
+  by-flags false false = rw (le-ltb 8 depth shallow, utf8)
 
-  module _ (plain : has encryption (frameFlags s) ≡ false) where
-    pub grouped : has grouping (frameFlags s) ≡ true → 9 ≡ first (firstChecks depth encryption grouping s)
-    unfolding first
-    grouped e = rw (le-ltb 8 depth shallow, utf8, plain, e)
-
-    pub passed : has grouping (frameFlags s) ≡ false → 0 ≡ first (firstChecks depth encryption grouping s)
-    unfolding first
-    passed e = rw (le-ltb 8 depth shallow, utf8, plain, e)
+-- they are those of an edition whose flags say so
+pub of-edition : (v : Version) (depth : ℕ) (s : List ℕ) (encrypted grouped : Bool) → idLen v ≡ 4
+    → encrypted ≡ isEncrypted v s → grouped ≡ isGrouped v s
+    → first (firstChecks depth encrypted grouped s) ≡ first (take 4 (frameChecks v depth s))
+of-edition v depth s encrypted grouped four e g = rw (four, e, g)
 
 -- ---- the header
 

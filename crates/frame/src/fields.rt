@@ -102,11 +102,11 @@ fn is_id_4(b: &[u8]) -> bool
     is_utf8_4(b[0], b[1], b[2], b[3])
 }
 
-// The first checks in their order, of a header of ten bytes whose id has four: 0, or the number of the first that
-// fails. The bits of the flags that say encrypted and grouped differ from edition to edition.
-pub(crate) fn first_refusal(b: &[u8], depth: u8, encryption: u8, grouping: u8) -> u8
-    requires { ⌜ (10 ≤ length (now b)) × (0 < encryption) × (0 < grouping) ⌝ }
-    ensures { λ r. ⌜ r ≡ first (firstChecks depth encryption grouping (now (b .entry))) ⌝ }
+// The first checks in their order, of a header of ten bytes whose id has four and whose flags say this: 0, or the
+// number of the first that fails.
+pub(crate) fn first_refusal(b: &[u8], depth: u8, encrypted: bool, grouped: bool) -> u8
+    requires { ⌜ 10 ≤ length (now b) ⌝ }
+    ensures { λ r. ⌜ r ≡ first (firstChecks depth encrypted grouped (now (b .entry))) ⌝ }
 {
     if depth > DEEPEST {
         return TOO_DEEP;
@@ -114,11 +114,10 @@ pub(crate) fn first_refusal(b: &[u8], depth: u8, encryption: u8, grouping: u8) -
     if !is_id_4(b) {
         return ID_NOT_UTF8;
     }
-    let flags = b[9];
-    if has(encryption, flags) {
+    if encrypted {
         return ENCRYPTED;
     }
-    if has(grouping, flags) {
+    if grouped {
         return GROUPED;
     }
     0

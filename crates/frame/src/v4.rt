@@ -39,7 +39,8 @@ pub fn decode(s: &[u8], from: usize, to: usize, depth: u8) -> Head
     if b[0] == 0 {
         return Head::Nothing;
     }
-    let refusal = first_refusal(b, depth, ENCRYPTION, GROUPING);
+    let flags = b[9];
+    let refusal = first_refusal(b, depth, has(ENCRYPTION, flags), has(GROUPING, flags));
     if refusal != 0 {
         return Head::Refused(refusal);
     }
