@@ -14,7 +14,7 @@ use Rattle.format.specs.Frame.{headLen, frameSize, isEncrypted, isGrouped, isCo
 use Rattle.format.specs.declared.Version.{Version}
 use Rattle.format.specs.declared.Head.{Head}
 use Rattle.format.proofs.Checks.{none-of, none-refused, none-else, first-stops}
-use Rattle.frame.specs.Headers.{firstChecks, Begun}
+use Rattle.frame.specs.Headers.{firstChecks, Tested, Begun}
 
 -- ---- the first checks
 
@@ -34,12 +34,6 @@ module _ (depth : ℕ) (s : List ℕ) (shallow : depth ≤ 8) (utf8 : isUtf8 (ta
   by-flags false true = rw (le-ltb 8 depth shallow, utf8)
   by-flags false false = rw (le-ltb 8 depth shallow, utf8)
 
--- they are those of an edition whose flags say so
-pub of-edition : (v : Version) (depth : ℕ) (s : List ℕ) (encrypted grouped : Bool) → idLen v ≡ 4
-    → encrypted ≡ isEncrypted v s → grouped ≡ isGrouped v s
-    → first (firstChecks depth encrypted grouped s) ≡ first (take 4 (frameChecks v depth s))
-of-edition v depth s encrypted grouped four e g = rw (four, e, g)
-
 -- ---- the header
 
 module _ (v : Version) (depth : ℕ) (s : List ℕ) where
@@ -53,30 +47,39 @@ module _ (v : Version) (depth : ℕ) (s : List ℕ) where
     unfolding headOf
     ends-padded e = rw (le-ltb (length s) (headLen v) long, eq-eqb (getD s 0 0) 0 e)
 
-    module _ (some : getD s 0 0 ≡ 0 → ⊥) (k : ℕ) where
-      refused : (k ≡ 0 → ⊥) → first (frameChecks v depth s) ≡ k → Head.Refused k ≡ headOf v depth s
-      unfolding headOf
-      refused ne e = rw (le-ltb (length s) (headLen v) long, ne-eqb (getD s 0 0) 0 some, e, ne-eqb k 0 ne)
+    refused : (getD s 0 0 ≡ 0 → ⊥) → (k : ℕ) → (k ≡ 0 → ⊥) → first (frameChecks v depth s) ≡ k → Head.Refused k ≡ headOf v depth s
+    unfolding headOf
+    refused some k ne e = rw (le-ltb (length s) (headLen v) long, ne-eqb (getD s 0 0) 0 some, e, ne-eqb k 0 ne)
 
-      -- the first checks decide
-      pub refused-first : (k ≡ 0 → ⊥) → k ≡ first (take 4 (frameChecks v depth s)) → Head.Refused k ≡ headOf v depth s
-      refused-first ne e =
-          let checks : List ℕ = frameChecks v depth s in
-          refused ne (first-stops (take 4 checks) (drop 4 checks) (λ z. ne (e ∙ z)) ∙ sym e)
+-- the first checks are those of an edition whose flags say so
+pub tested : {v : Version} {depth k : ℕ} {s : List ℕ} {encrypted grouped : Bool} → idLen v ≡ 4 → headLen v ≤ length s → (getD s 0 0 ≡ 0 → ⊥)
+    → encrypted ≡ isEncrypted v s → grouped ≡ isGrouped v s → k ≡ first (firstChecks depth encrypted grouped s) → Tested v depth k s
+tested four long some e g h = record {
+  long = long;
+  some = some;
+  given = rw (h, four, e, g);
+}
 
-      -- or they pass
-      pub begun : k ≡ 0 → k ≡ first (take 4 (frameChecks v depth s)) → (depth ≤ 8) × Begun v s
-      begun z e =
-          let none = none-of (take 4 (frameChecks v depth s)) (sym e ∙ z) in (
-            ltb-false 8 depth (none-refused (ltb 8 depth) 12 (none 0)),
-            record {
-              long = long;
-              some = some;
-              utf8 = none-else (isUtf8 (take (idLen v) s)) 6 (none 1);
-              plain = none-refused _ 7 (none 2);
-              alone = none-refused _ 8 (none 3);
-            },
-          )
+module _ {v : Version} {depth k : ℕ} {s : List ℕ} (t : Tested v depth k s) where
+  -- they decide
+  pub refused-first : (k ≡ 0 → ⊥) → Head.Refused k ≡ headOf v depth s
+  refused-first ne =
+      let checks : List ℕ = frameChecks v depth s in
+      refused v depth s (t .long) (t .some) k ne (first-stops (take 4 checks) (drop 4 checks) (λ z. ne (t .given ∙ z)) ∙ sym (t .given))
+
+  -- or they pass
+  pub begun : k ≡ 0 → (depth ≤ 8) × Begun v s
+  begun z =
+      let none = none-of (take 4 (frameChecks v depth s)) (sym (t .given) ∙ z) in (
+        ltb-false 8 depth (none-refused (ltb 8 depth) 12 (none 0)),
+        record {
+          long = t .long;
+          some = t .some;
+          utf8 = none-else (isUtf8 (take (idLen v) s)) 6 (none 1);
+          plain = none-refused _ 7 (none 2);
+          alone = none-refused _ 8 (none 3);
+        },
+      )
 
 -- ---- the body
 

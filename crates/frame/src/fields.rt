@@ -102,8 +102,8 @@ fn is_id_4(b: &[u8]) -> bool
     is_utf8_4(b[0], b[1], b[2], b[3])
 }
 
-// The first checks in their order, of a header of ten bytes whose id has four and whose flags say this: 0, or the
-// number of the first that fails.
+// The first checks in their order, of a header of ten bytes whose id has four: 0, or the number of the first that
+// fails. What the flags say is given, as their bits differ from edition to edition.
 pub(crate) fn first_refusal(b: &[u8], depth: u8, encrypted: bool, grouped: bool) -> u8
     requires { ⌜ 10 ≤ length (now b) ⌝ }
     ensures { λ r. ⌜ r ≡ first (firstChecks depth encrypted grouped (now (b .entry))) ⌝ }

@@ -45,8 +45,11 @@ returns-3 : tie.Need-returns-3
 returns-3 c =
     let a = c .before .before .before .before .before .before .args in
     let b = c .before .before .before .before .part in
-    refused-first Id3v22 (a .depth) (b .result .now) (c .before .before .before .if1 .left) (c .before .if2 .left) 13 (λ z. omega arith)
-    (too-deep (a .depth) (take 3 (b .result .now)) _ (c .if3 .taken))
+    refused-first record {
+      long = c .before .before .before .if1 .left;
+      some = c .before .if2 .left;
+      given = too-deep (a .depth) (take 3 (b .result .now)) _ (c .if3 .taken);
+    } (λ z. omega arith)
     ∙ ap (headOf Id3v22 (a .depth)) (b .ensures)
 
 is-id-3-requires : tie.Need-is-id-3-requires
@@ -56,8 +59,11 @@ returns-4 : tie.Need-returns-4
 returns-4 c =
     let a = c .before .before .before .before .before .before .before .before .args in
     let b = c .before .before .before .before .before .before .part in
-    refused-first Id3v22 (a .depth) (b .result .now) (c .before .before .before .before .before .if1 .left) (c .before .before .before .if2 .left) 7 (λ z. omega arith)
-    (not-utf8 (a .depth) (take 3 (b .result .now)) _ (c .before .before .if3 .left) (sym (c .before .is-id-3 .ensures) ∙ not-true _ (c .if4 .taken)))
+    refused-first record {
+      long = c .before .before .before .before .before .if1 .left;
+      some = c .before .before .before .if2 .left;
+      given = not-utf8 (a .depth) (take 3 (b .result .now)) _ (c .before .before .if3 .left) (sym (c .before .is-id-3 .ensures) ∙ not-true _ (c .if4 .taken));
+    } (λ z. omega arith)
     ∙ ap (headOf Id3v22 (a .depth)) (b .ensures)
 
 read24-requires : tie.Need-read24-requires
