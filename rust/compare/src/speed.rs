@@ -31,10 +31,10 @@ fn main() {
         readers.push(Reader { name, read: Box::new(move |tags| by_peer(peer, tags)), best: f64::INFINITY });
     }
     for version in [Version::Id3v23, Version::Id3v24] {
-        for (what, make) in [("plain", plain_tag as fn(Version, u64) -> Vec<u8>), ("unsynchronised", unsynchronised_tag)] {
+        for (what, make) in KINDS {
             let tags: Vec<_> = (0..TAGS).map(|i| make(version, i as u64 * 977)).collect();
             measure(&mut readers, &tags);
-            println!("{TAGS} small tags, {version}, {what}, {} bytes each:", tags[0].len());
+            println!("{TAGS} tags, {version}, {what}, {} bytes each:", tags[0].len());
             show(&readers);
         }
     }
@@ -70,6 +70,14 @@ fn show(readers: &[Reader]) {
 
 // ---- the tags
 
+type Make = fn(Version, u64) -> Vec<u8>;
+
+const KINDS: [(&str, Make); 3] = [
+    ("as a box leaves it, four frames", plain_tag),
+    ("the same, unsynchronised", unsynchronised_tag),
+    ("as a shop sells it, thirteen frames with a picture", sold_tag),
+];
+
 /// As a box leaves it: some texts, a popularimeter, a private frame.
 fn small_tag(version: Version, mode: Mode, counter: u64) -> Vec<u8> {
     let mut writer = Writer::new(version, mode);
@@ -89,6 +97,21 @@ fn plain_tag(version: Version, counter: u64) -> Vec<u8> {
 
 fn unsynchronised_tag(version: Version, counter: u64) -> Vec<u8> {
     small_tag(version, Mode::Standard, counter)
+}
+
+/// As a shop sells it: ten texts in UTF-16, a comment, a picture of 4 KiB, and a popularimeter.
+fn sold_tag(version: Version, counter: u64) -> Vec<u8> {
+    let mut writer = Writer::new(version, Mode::Off);
+    for id in [b"TIT2", b"TPE1", b"TALB", b"TPE2", b"TCOM", b"TRCK", b"TPUB", b"TENC", b"TBPM", b"TCON"] {
+        let text = "\u{FEFF}17 Some words of it".encode_utf16().flat_map(u16::to_le_bytes).collect::<Vec<u8>>();
+        writer.add(id, &Content::Text { encoding: Encoding::Utf16, text }).unwrap();
+    }
+    writer.add(b"COMM", &Content::Raw { body: b"\0eng\0A comment".to_vec() }).unwrap();
+    let mut picture = b"\0image/jpeg\0\x03\0".to_vec();
+    picture.resize(4096, 7);
+    writer.add(b"APIC", &Content::Raw { body: picture }).unwrap();
+    writer.add(b"POPM", &Content::Popularimeter { user: b"room 7".to_vec(), rating: 3, counter }).unwrap();
+    writer.finish(64).unwrap()
 }
 
 // ---- the readers
