@@ -6,16 +6,17 @@ use mathlib.Core.Bool.{Bool, true, false, cond, not, _&&_, _||_, or-false, or-as
 use mathlib.Core.List.{List, [], _∷_, _++_}
 use lib.ListN.{length, take, getD}
 use lib.Seq.{slice, length-slice, sets, length-sets}
-use lib.Dec.{eqb, leb}
-use Rattle.lists.proofs.Bools.{or-false as both-false}
+use lib.Dec.{eqb, leb, ltb}
+use borrow.Author.Tests.{eqb-true, not-false, le-ltb}
+use Rattle.lists.proofs.Bools.{or-false as both-false, false-not-true, and-true, and-false}
 use Rattle.lists.proofs.Slices.{slice-none, slice-next, slice-front}
 use Rattle.lists.proofs.Stores.{slice-copy}
 use Rattle.format.specs.Bytes.{pick, onlyIf}
-use Rattle.format.specs.Unsynch.{resync, guards, unsync}
+use Rattle.format.specs.Unsynch.{isOn, resync, guards, unsync}
 use Rattle.format.specs.declared.Mode.{Mode}
 use Rattle.format.specs.declared.Mode.the-variants.{Off, Crate, Standard}
 use Rattle.unsynch.specs.declared.loops.How.{How}
-use Rattle.unsynch.specs.Edits.{concerns, resyncBy, unsyncBy, edited, hits, anyFF, editedAfter, hitsAfter}
+use Rattle.unsynch.specs.Edits.{concerns, resyncBy, isStandard, unsyncBy, Known, edited, hits, anyFF, editedAfter, hitsAfter}
 
 -- ---- resynchronising and unsynchronising are edits
 
@@ -235,3 +236,80 @@ module _ (how : How) where
   in-copy s z copy from to lt le room e =
       let long : length copy ≡ length z = ap length e ∙ length-sets z 0 (slice from to s) in
       (long, same-part copy s 0 (to - from) from to (omega arith) (omega arith) lt le (slice-copy s z copy from to (to - from) le (omega arith) room e))
+
+-- ---- each kind of edit
+
+-- resynchronising, one place further: f says that the byte there stays
+module _ (s : List ℕ) (i to : ℕ) (lt : i + 1 < to) (le : to ≤ length s) (f : Bool) (e : f ≡ not (eqb (getD s i 0) 255 && eqb (getD s (i + 1) 0) 0)) where
+  pub stays : editedAfter resyncBy s i to ≡ pick f (getD s (i + 1) 0 ∷ editedAfter resyncBy s (i + 1) to) (editedAfter resyncBy s (i + 1) to)
+  stays =
+      let x : ℕ = getD s (i + 1) 0 in
+      let l : List ℕ = editedAfter resyncBy s (i + 1) to in
+      let g : Bool = eqb (getD s i 0) 255 && eqb x 0 in
+      goes resyncBy s i to lt le g (ap (λ (z : Bool). eqb (getD s i 0) 255 && z) (sym (or-false (eqb x 0)))) refl
+      ∙ other g l (x ∷ l)
+      ∙ ap (λ (k : Bool). pick k (x ∷ l) l) (sym e)
+    where
+      other : (g : Bool) (l m : List ℕ) → pick g l m ≡ pick (not g) m l
+      other true l m = refl
+      other false l m = refl
+
+-- where a byte goes, the next one stays
+pub next-stays : (s : List ℕ) (i to : ℕ) → i + 2 < to → to ≤ length s → not (eqb (getD s i 0) 255 && eqb (getD s (i + 1) 0) 0) ≡ false
+    → editedAfter resyncBy s (i + 1) to ≡ getD s (i + 1 + 1) 0 ∷ editedAfter resyncBy s (i + 1 + 1) to
+next-stays s i to lt le e =
+    let w = and-true (eqb (getD s i 0) 255) (eqb (getD s (i + 1) 0) 0) (not-false _ e) .1 in
+    let z : getD s (i + 1) 0 ≡ 0 = eqb-true (getD s (i + 1) 0) 0 w in
+    stays s (i + 1) to (omega arith) le true (sym (ap (λ (x : ℕ). not (eqb x 255 && eqb (getD s (i + 1 + 1) 0) 0)) z))
+
+-- the edit that inserts a 00 before 00 and before the bytes above top, DF or FF
+abbrev pub guardBy : ℕ → How
+guardBy top = record { insert = true; zero = true; high = ltb top 0xFF }
+
+module _ (high : Bool) (top : ℕ) (t : top ≡ pick high 0xDF 0xFF) where
+  pub above : (x : ℕ) → x ≤ 255 → (eqb x 0 || ltb top x) ≡ concerns (guardBy top) x
+  above x b =
+      ap (λ (k : ℕ). eqb x 0 || ltb k x) t
+      ∙ one high
+      ∙ ap (λ (k : ℕ). eqb x 0 || (ltb k 0xFF && leb 0xE0 x)) (sym t)
+    where
+      one : (h : Bool) → (eqb x 0 || ltb (pick h 0xDF 0xFF) x) ≡ (eqb x 0 || (ltb (pick h 0xDF 0xFF) 0xFF && leb 0xE0 x))
+      one true = refl
+      one false = ap (λ (g : Bool). eqb x 0 || g) (le-ltb _ _ b)
+
+pub guards-by : (how : How) (top : ℕ) → how .insert ≡ true → how .zero ≡ true → top ≡ pick (how .high) 0xDF 0xFF → how ≡ guardBy top
+guards-by how top i z t =
+    let h : how .high ≡ ltb top 0xFF = one (how .high) ∙ ap (λ (k : ℕ). ltb k 0xFF) (sym t) in
+    λ j. record { insert = i j; zero = z j; high = h j }
+  where
+    one : (h : Bool) → h ≡ ltb (pick h 0xDF 0xFF) 0xFF
+    one true = refl
+    one false = refl
+
+-- an edit that concerns no byte leaves all as they are
+module _ (how : How) (z : how .zero ≡ false) (h : how .high ≡ false) where
+  none : (prev : Bool) (l : List ℕ) → hits how prev l ≡ 0
+  unfolding hits
+  none prev [] = refl
+  none prev (x ∷ l) =
+      ap {B = ℕ} (λ (g : Bool). cond (prev && ((g && eqb x 0) || (how .high && leb 0xE0 x))) 1 0 + hits how (eqb x 255) l) z
+      ∙ ap {B = ℕ} (λ (g : Bool). cond (prev && (g && leb 0xE0 x)) 1 0 + hits how (eqb x 255) l) h
+      ∙ omega (arith, ap {B = ℕ} (λ (g : Bool). cond g 1 0) (and-false prev), none (eqb x 255) l)
+
+  pub unchanged : (s : List ℕ) (i to : ℕ) → editedAfter how s i to ≡ slice (i + 1) to s
+  unchanged s i to = left-alone how s i to (none (eqb (getD s i 0) 255) (slice (i + 1) to s))
+
+-- the edits that there are
+pub known-resync : (how : How) → how ≡ resyncBy → Known how
+known-resync how e = record { drops = λ _. e; inserts = λ _. ap (λ (h : How). h .high) e }
+
+pub known-unsync : (how : How) (m : Mode) → how ≡ unsyncBy m → Known how
+known-unsync how m e = subst Known (sym e) (record {
+  drops = λ i. absurd (false-not-true (sym i));
+  inserts = high m;
+})
+  where
+    high : (m : Mode) → isOn m ≡ false → isStandard m ≡ false
+    high Off z = refl
+    high Crate z = refl
+    high Standard z = absurd (false-not-true (sym z))

@@ -1,28 +1,36 @@
 -- One turn of the loops that store: f says that the edit concerns the byte x, behind which l is left. Assumes nothing.
-use mathlib.Core.Path.{_≡_, sym, ap, _∙_}
+use mathlib.Core.Path.{_≡_, refl, sym, ap, _∙_}
 use Prim.Native.Nat.{ℕ, suc, _+_, _-_, _≤_, _<_}
 use native.Mathlib.Numerals.{add-one}
 use native.Mathlib.Omega.{arith}
 use mathlib.Core.Bool.{Bool, true, false, cond}
 use mathlib.Core.List.{List, [], _∷_}
-use lib.ListN.{length, take, set, getD, length-append}
-use lib.Seq.{slice, length-slice, sets}
-use Rattle.lists.proofs.Stores.{take-sets, Storing, lies, by, on, at, put, puts, over, keep}
+use lib.ListN.{length, take, set, length-set, length-append}
+use lib.Seq.{slice, length-slice, sets, set-set}
+use Rattle.lists.proofs.Stores.{take-sets, Storing, lies, by, on, at, put, puts, over}
 use Rattle.format.specs.Bytes.{pick}
 use Rattle.unsynch.specs.declared.loops.How.{How}
 use Rattle.unsynch.specs.Edits.{editedAfter, hitsAfter, stored}
 use Rattle.unsynch.proofs.Edits.{parted, left-alone, same-front}
 
+-- a byte that lies where the next one will be stored does not matter
+under : {o₀ : List ℕ} {p₀ : ℕ} {l₀ o : List ℕ} {p y : ℕ} {l : List ℕ} (x : ℕ) → Storing o₀ p₀ l₀ o p (y ∷ l) → Storing o₀ p₀ l₀ (set o p x) p (y ∷ l)
+under {o} {p} {y} {l} x s = record {
+  same = ap (λ (z : List ℕ). sets z (suc p) l) (set-set o p x y) ∙ s .same;
+  ends = s .ends;
+  long = length-set o p x ∙ s .long;
+  room = s .room;
+}
+
 module _ {o₀ : List ℕ} {p₀ : ℕ} {l₀ o : List ℕ} {p : ℕ} {m : List ℕ} (s : Storing o₀ p₀ l₀ o p m) (x : ℕ) (l : List ℕ) where
-  -- the byte goes, and the byte before it stays; or it is stored
-  pub drop-turn : (f : Bool) (q : ℕ) → m ≡ pick f l (x ∷ l) → 1 ≤ p → q ≡ p - cond f 1 0
-      → (q < length o) × ((v : ℕ) → v ≡ pick f (getD o q 0) x → Storing o₀ p₀ l₀ (set o q v) (q + 1) l)
-  drop-turn true q e h is =
-      let z : p ≡ q + 1 = omega arith in
-      (omega (arith, lies s), λ v w. on (ap (set o q) (sym w)) (at z (keep q 0 (by e s))))
-  drop-turn false q e h is =
+  -- the byte is stored: it stays, or it goes, and the next one will take its place
+  pub drop-turn : (f : Bool) (q y : ℕ) (k : List ℕ) → m ≡ pick f (x ∷ l) l → (f ≡ false → l ≡ y ∷ k) → q ≡ p + cond f 1 0
+      → (p < length o) × Storing o₀ p₀ l₀ (set o p x) q l
+  drop-turn true q y k e next is = (omega (arith, lies (by e s)), at (sym is) (put (by e s)))
+  drop-turn false q y k e next is =
       let z : p ≡ q = omega arith in
-      (omega (arith, lies (by e s)), λ v w. on (ap (λ (k : ℕ). set o k x) z ∙ ap (set o q) (sym w)) (at (ap (λ (k : ℕ). k + 1) z) (put (by e s))))
+      let u = by (e ∙ next refl) s in
+      (omega (arith, lies u), at z (by (sym (next refl)) (under x u)))
 
   -- a 00 is stored, and the byte behind it; or the byte over it
   pub insert-turn : (f : Bool) (q : ℕ) → m ≡ pick f (0 ∷ x ∷ l) (x ∷ l) → q ≡ p + cond f 1 0
@@ -69,12 +77,12 @@ module _ (how : How) (s : List ℕ) (i m to : ℕ) (after : i ≤ m) (lt : m < t
 module _ (how : How) (s : List ℕ) (i to : ℕ) (lt : i + 64 < to) (le : to ≤ length s) (alone : hitsAfter how s i (i + 65) ≡ 0) where
   pub block : {o₀ : List ℕ} {p₀ : ℕ} {l₀ o : List ℕ} {p : ℕ} → Storing o₀ p₀ l₀ o p (editedAfter how s i to)
       → (p + 64 ≤ length o)
-      × ((r : ℕ) (o′ : List ℕ) → _≡_ {A = ℕ × List ℕ} (r, o′) (stored (slice (i + 1) (i + 65) s) p o) → (p ≤ r) × Storing o₀ p₀ l₀ o′ r (editedAfter how s (i + 64) to))
+      × ((r : ℕ) (o′ : List ℕ) → _≡_ {A = ℕ × List ℕ} (r, o′) (stored (slice (i + 1) (i + 65) s) p o) → Storing o₀ p₀ l₀ o′ r (editedAfter how s (i + 64) to))
   block {o} {p} t =
       let e : i + 65 ≡ i + 64 + 1 = omega arith in
       let same : slice (i + 1) (i + 65) s ≡ editedAfter how s i (i + 64 + 1) = sym (left-alone how s i (i + 65) alone) ∙ ap (editedAfter how s i) e in
       let u = piece how s i (i + 64) to (omega arith) lt le t in
-      (omega (arith, u .0, ap length same, length-slice (i + 1) (i + 65) s (omega arith)), λ r o′ g. u .1 r o′ (g ∙ ap (λ (l : List ℕ). stored l p o) same))
+      (omega (arith, u .0, ap length same, length-slice (i + 1) (i + 65) s (omega arith)), λ r o′ g. u .1 r o′ (g ∙ ap (λ (l : List ℕ). stored l p o) same) .1)
 
 -- a byte, and behind it what is left
 pub stored-first : (x at : ℕ) (l u o : List ℕ) → u ≡ x ∷ l → stored l (at + 1) (set o at x) ≡ stored u at o

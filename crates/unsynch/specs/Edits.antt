@@ -1,4 +1,5 @@
 -- Resynchronising and unsynchronising as one edit of the bytes directly after an FF, which the private functions share. Assumes nothing.
+use mathlib.Core.Path.{_≡_}
 use Prim.Native.Nat.{ℕ, _+_}
 use mathlib.Core.Bool.{Bool, true, false, cond, _&&_, _||_}
 use mathlib.Core.List.{List, [], _∷_}
@@ -26,6 +27,11 @@ isStandard Standard = true
 
 abbrev pub unsyncBy : Mode → How
 unsyncBy m = record { insert = true; zero = isOn m; high = isStandard m }
+
+-- the edits that there are: bytes go only to resynchronise, and E0 to FF get a 00 only where 00 does
+pub record Known (how : How) : Type 0 where
+  pub drops : how .insert ≡ false → how ≡ resyncBy
+  pub inserts : how .zero ≡ false → how .high ≡ false
 
 -- each byte directly after an FF that the edit concerns gets a 00 before it (insert), or goes
 unfoldable pub edited : How → Bool → List ℕ → List ℕ

@@ -13,7 +13,7 @@ ghost use lib.Seq.{slice};
 ghost use Rattle.format.specs.Numbers.{bytesOf, fromSynchsafe};
 ghost use Rattle.format.specs.Unsynch.{resynchronised, unsynchronised};
 ghost use Rattle.unsynch.specs.Puts.{encodedOf, putOf, intoOf, inAreaOf, placedOf};
-ghost use Rattle.unsynch.specs.Edits.{edited};
+ghost use Rattle.unsynch.specs.Edits.{Known, edited};
 ghost use mathlib.Core.Bool.{false};
 
 // A synchsafe number as one word, or a refusal.
@@ -106,6 +106,7 @@ fn part_len(s: &[u8], from: usize, to: usize, how: How) -> usize
 
 // Puts s[from..to], edited, at the place `at` of a buffer. One that is too small is left as it was, and the answer is the refusal k.
 fn put_part(buf: &mut [u8], at: usize, s: &[u8], from: usize, to: usize, how: How, k: u8) -> Put
+    requires { ⌜ Known how ⌝ }
     ensures { λ r. ⌜ (r, now (buf .exit)) ≡ putOf k (edited how false (slice from to (now (s .entry)))) at (now (buf .entry)) ⌝ }
 {
     if buf.len() < at {

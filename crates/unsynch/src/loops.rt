@@ -2,13 +2,13 @@
 use crate::blocks;
 use format::Mode;
 ghost use mathlib.Core.Path.{_≡_};
-ghost use mathlib.Core.Bool.{Bool, true, false, cond, _&&_};
+ghost use mathlib.Core.Bool.{Bool, true, false, cond, not, _&&_, _||_};
 ghost use Prim.Native.Nat.{_+_, _-_, _*_, _^_, _≤_, _<_, min};
 ghost use lib.ListN.{length, take, getD};
 ghost use lib.Seq.{slice, sets};
-ghost use lib.Dec.{eqb, leb};
+ghost use lib.Dec.{eqb, leb, ltb};
 ghost use Rattle.format.specs.Bytes.{pick};
-ghost use Rattle.unsynch.specs.Edits.{concerns, resyncBy, unsyncBy, edited, editedAfter, hitsAfter, stored};
+ghost use Rattle.unsynch.specs.Edits.{concerns, resyncBy, unsyncBy, Known, edited, editedAfter, hitsAfter, stored};
 
 // An edit of bytes directly after an FF: of 00 where `zero` says so, of E0 to FF where `high` does.
 // Such a byte gets a 00 before it where `insert` says so, else it goes.
@@ -80,6 +80,20 @@ pub(crate) fn hit(how: How, last: u8, b: u8) -> bool
     (last == 255) & ((how.zero & (b == 0)) | (how.high & (b >= 0xE0)))
 }
 
+// Whether b stays when it is resynchronised directly after the byte last.
+fn stays(last: u8, b: u8) -> bool
+    ensures { λ r. ⌜ r ≡ not (eqb last 255 && eqb b 0) ⌝ }
+{
+    !((last == 255) & (b == 0))
+}
+
+// Whether b gets a 00 before it directly after the byte last: after FF, where it is 00 or above top.
+fn guarded(last: u8, b: u8, top: u8) -> bool
+    ensures { λ r. ⌜ r ≡ (eqb last 255 && (eqb b 0 || ltb top b)) ⌝ }
+{
+    (last == 255) & ((b == 0) | (b > top))
+}
+
 // How many bytes of s behind place from, up to place to, the edit concerns.
 fn hits_after(s: &[u8], from: usize, to: usize, how: How) -> usize
     requires { ⌜ (from < to) × (to ≤ length (now s)) ⌝ }
@@ -140,38 +154,53 @@ fn most(n: usize, how: How) -> usize
     if how.insert { n + n - 1 } else { n }
 }
 
-// Stores what the edit makes of the bytes of s behind place from, up to place to, where such bytes go. Each turn stores:
-// where a byte goes, the byte before it stays as it stands. The answer is the place behind what is stored.
-fn drop_bytes(buf: &mut [u8], at: usize, s: &[u8], from: usize, to: usize, how: How) -> usize
-    requires { ⌜ (from < to) × (to ≤ length (now s)) × (1 ≤ at) × (how .insert ≡ false) ⌝ }
-    requires { ⌜ at + length (editedAfter how (now s) from to) ≤ length (now buf) ⌝ }
-    ensures { λ r. ⌜ (r, now (buf .exit)) ≡ stored (editedAfter how (now (s .entry)) from to) at (now (buf .entry)) ⌝ }
+// Stores what resynchronising makes of the bytes of s behind place from, up to place to. Each turn stores: where a byte goes,
+// the next one stays and takes its place. The answer is the place behind what is stored.
+fn drop_bytes(buf: &mut [u8], at: usize, s: &[u8], from: usize, to: usize) -> usize
+    requires { ⌜ (from < to) × (to ≤ length (now s)) ⌝ }
+    requires { ⌜ at + length (editedAfter resyncBy (now s) from to) ≤ length (now buf) ⌝ }
+    ensures { λ r. ⌜ (r, now (buf .exit)) ≡ stored (editedAfter resyncBy (now (s .entry)) from to) at (now (buf .entry)) ⌝ }
 {
     let mut o = at;
     let mut i = from;
-    while i + 1 < to {
+    while i + 2 < to {
         let b = s[i + 1];
-        let goes = hit(how, s[i], b);
-        let p = o - bit(goes);
-        buf[p] = either(goes, buf[p], b);
-        o = p + 1;
+        buf[o] = b;
+        o += bit(stays(s[i], b));
         i += 1;
     }
-    o
+    drop_last(buf, o, s, i, to)
 }
 
-// Stores what the edit makes of the bytes of s behind place from, up to place to, where such bytes get a 00 before them.
+// The same of at most one byte, which is stored only where it stays.
+fn drop_last(buf: &mut [u8], at: usize, s: &[u8], from: usize, to: usize) -> usize
+    requires { ⌜ (from < to) × (to ≤ from + 2) × (to ≤ length (now s)) ⌝ }
+    requires { ⌜ at + length (editedAfter resyncBy (now s) from to) ≤ length (now buf) ⌝ }
+    ensures { λ r. ⌜ (r, now (buf .exit)) ≡ stored (editedAfter resyncBy (now (s .entry)) from to) at (now (buf .entry)) ⌝ }
+{
+    if from + 1 < to {
+        let b = s[from + 1];
+        if stays(s[from], b) {
+            buf[at] = b;
+            return at + 1;
+        }
+    }
+    at
+}
+
+// Stores what the edit makes of the bytes of s behind place from, up to place to, where 00, and E0 to FF with `high`, get a 00 before them.
 // Each turn stores a 00 and then the byte, over it or behind it. The answer is the place behind what is stored.
 fn insert_bytes(buf: &mut [u8], at: usize, s: &[u8], from: usize, to: usize, how: How) -> usize
-    requires { ⌜ (from < to) × (to ≤ length (now s)) × (how .insert ≡ true) ⌝ }
+    requires { ⌜ (from < to) × (to ≤ length (now s)) × (how .insert ≡ true) × (how .zero ≡ true) ⌝ }
     requires { ⌜ at + length (editedAfter how (now s) from to) ≤ length (now buf) ⌝ }
     ensures { λ r. ⌜ (r, now (buf .exit)) ≡ stored (editedAfter how (now (s .entry)) from to) at (now (buf .entry)) ⌝ }
 {
+    let top = either(how.high, 0xDF, 0xFF);
     let mut o = at;
     let mut i = from;
     while i + 1 < to {
         let b = s[i + 1];
-        let p = o + bit(hit(how, s[i], b));
+        let p = o + bit(guarded(s[i], b, top));
         buf[o] = 0;
         buf[p] = b;
         o = p + 1;
@@ -183,8 +212,9 @@ fn insert_bytes(buf: &mut [u8], at: usize, s: &[u8], from: usize, to: usize, how
 // Stores what the edit makes of the bytes of s behind place from, up to place to. The answer is the place behind what is stored.
 // A block that the edit leaves alone is copied. From one that it changes on, bytes are edited one by one, twice as many each time in a row.
 fn edit_after(buf: &mut [u8], at: usize, s: &[u8], from: usize, to: usize, how: How) -> usize
-    requires { ⌜ (from < to) × (to ≤ length (now s)) × (1 ≤ at) ⌝ }
+    requires { ⌜ (from < to) × (to ≤ length (now s)) ⌝ }
     requires { ⌜ at + length (editedAfter how (now s) from to) ≤ length (now buf) ⌝ }
+    requires { ⌜ Known how ⌝ }
     ensures { λ r. ⌜ (r, now (buf .exit)) ≡ stored (editedAfter how (now (s .entry)) from to) at (now (buf .entry)) ⌝ }
 {
     let mut o = at;
@@ -205,23 +235,28 @@ fn edit_after(buf: &mut [u8], at: usize, s: &[u8], from: usize, to: usize, how: 
     edit_by_byte(buf, o, s, i, to, how)
 }
 
-// The same, byte by byte.
+// The same, byte by byte: each kind of edit has its own loop, and one that concerns no byte is a copy.
 fn edit_by_byte(buf: &mut [u8], at: usize, s: &[u8], from: usize, to: usize, how: How) -> usize
-    requires { ⌜ (from < to) × (to ≤ length (now s)) × (1 ≤ at) ⌝ }
+    requires { ⌜ (from < to) × (to ≤ length (now s)) ⌝ }
     requires { ⌜ at + length (editedAfter how (now s) from to) ≤ length (now buf) ⌝ }
+    requires { ⌜ Known how ⌝ }
     ensures { λ r. ⌜ (r, now (buf .exit)) ≡ stored (editedAfter how (now (s .entry)) from to) at (now (buf .entry)) ⌝ }
 {
     if how.insert {
-        insert_bytes(buf, at, s, from, to, how)
-    } else {
-        drop_bytes(buf, at, s, from, to, how)
+        if how.zero {
+            return insert_bytes(buf, at, s, from, to, how);
+        }
+        copy(buf, at, s, from + 1, to);
+        return at + (to - from - 1);
     }
+    drop_bytes(buf, at, s, from, to)
 }
 
 // Stores s[from..to], edited, from `at` on. The answer is the place behind what is stored.
 pub(crate) fn edit(buf: &mut [u8], at: usize, s: &[u8], from: usize, to: usize, how: How) -> usize
     requires { ⌜ (from < to) × (to ≤ length (now s)) ⌝ }
     requires { ⌜ at + length (edited how false (slice from to (now s))) ≤ length (now buf) ⌝ }
+    requires { ⌜ Known how ⌝ }
     ensures { λ r. ⌜ (r, now (buf .exit)) ≡ stored (edited how false (slice from to (now (s .entry)))) at (now (buf .entry)) ⌝ }
 {
     buf[at] = s[from];
@@ -232,6 +267,7 @@ pub(crate) fn edit(buf: &mut [u8], at: usize, s: &[u8], from: usize, to: usize, 
 pub(crate) fn edit_in(area: &mut [u8], at: usize, from: usize, to: usize, how: How) -> usize
     requires { ⌜ (from < to) × (to ≤ at) ⌝ }
     requires { ⌜ at + length (edited how false (slice from to (now area))) ≤ length (now area) ⌝ }
+    requires { ⌜ Known how ⌝ }
     ensures { λ r. ⌜ (r, now (area .exit)) ≡ stored (edited how false (slice from to (now (area .entry)))) at (now (area .entry)) ⌝ }
 {
     area[at] = area[from];
@@ -242,6 +278,7 @@ pub(crate) fn edit_in(area: &mut [u8], at: usize, from: usize, to: usize, how: H
 fn edit_in_after(area: &mut [u8], at: usize, from: usize, to: usize, how: How) -> usize
     requires { ⌜ (from < to) × (to ≤ at) ⌝ }
     requires { ⌜ at + length (editedAfter how (now area) from to) ≤ length (now area) ⌝ }
+    requires { ⌜ Known how ⌝ }
     ensures { λ r. ⌜ (r, now (area .exit)) ≡ stored (editedAfter how (now (area .entry)) from to) at (now (area .entry)) ⌝ }
 {
     let mut o = at;
@@ -256,8 +293,9 @@ fn edit_in_after(area: &mut [u8], at: usize, from: usize, to: usize, how: How) -
 
 // Stores what the edit makes of the bytes of an area behind place from, up to place to, by way of a copy of them.
 fn edit_chunk(area: &mut [u8], at: usize, from: usize, to: usize, how: How) -> usize
-    requires { ⌜ (from < to) × (to ≤ from + 1025) × (to ≤ length (now area)) × (1 ≤ at) ⌝ }
+    requires { ⌜ (from < to) × (to ≤ from + 1025) × (to ≤ length (now area)) ⌝ }
     requires { ⌜ at + length (editedAfter how (now area) from to) ≤ length (now area) ⌝ }
+    requires { ⌜ Known how ⌝ }
     ensures { λ r. ⌜ (r, now (area .exit)) ≡ stored (editedAfter how (now (area .entry)) from to) at (now (area .entry)) ⌝ }
 {
     let mut chunk = [0u8; 1025];

@@ -34,7 +34,7 @@ fits-requires c κs = search needs
 edit-requires : tie.Need-edit-requires
 edit-requires c κs =
     let a = c .before .before .before .before .before .before .before .before .args in
-    (omega arith, put-fits (a .k) (edited (a .how) false (slice (a .from) (a .to) (a .s .now))) (a .at) (a .buf .now) (omega arith) _ (ap (edited (a .how) false) (slice-cut (a .from) (a .to) _ (a .s .now) (c .before .before .before .before .least .ensures))) (c .before .before .fits2 .result) (c .before .before .fits2 .ensures) (c .before .if3 .taken))
+    (omega arith, (put-fits (a .k) (edited (a .how) false (slice (a .from) (a .to) (a .s .now))) (a .at) (a .buf .now) (omega arith) _ (ap (edited (a .how) false) (slice-cut (a .from) (a .to) _ (a .s .now) (c .before .before .before .before .least .ensures))) (c .before .before .fits2 .result) (c .before .before .fits2 .ensures) (c .before .if3 .taken), c .before .before .before .before .before .before .before .before .pre))
 
 sub-t16 : tie.Need-sub-t16
 sub-t16 c =

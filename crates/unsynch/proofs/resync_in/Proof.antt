@@ -9,7 +9,7 @@ use Rattle.lists.proofs.Slices.{slice-before, slice-before-none}
 use Rattle.format.specs.Unsynch.{resync, resynchronised}
 use Rattle.unsynch.specs.declared.loops.How.{How}
 use Rattle.unsynch.specs.Edits.{edited}
-use Rattle.unsynch.proofs.Edits.{resyncs}
+use Rattle.unsynch.proofs.Edits.{resyncs, known-resync}
 use Rattle.unsynch.proofs.Answers.{put-none, put-fits, put-refused, put-all, in-room}
 use borrow.Author.Needs.{needs}
 use native.Mathlib.Omega.{arith}
@@ -46,7 +46,7 @@ edit-in-requires c κs =
     ap (λ (how : How). edited how false (slice (a .from) (c .before .before .before .before .before .before .least2 .result) (a .area .now))) (c .before .before .before .before .resync-by .ensures)
     ∙ resyncs false (slice (a .from) (c .before .before .before .before .before .before .least2 .result) (a .area .now))
     ∙ ap resynchronised (slice-before (a .from) (a .to) (a .split) (c .before .before .before .before .before .before .least2 .result) (a .area .now) (c .before .before .before .before .before .before .least2 .ensures ∙ ap (min (a .to)) (c .before .before .before .before .before .before .before .least .ensures))) in
-    (omega arith, put-fits 14 (resynchronised (slice (a .from) (a .to) (take (a .split) (a .area .now)))) (c .before .before .before .before .before .before .before .least .result) (a .area .now) (omega arith) (edited (c .before .before .before .before .resync-by .result) false (slice (a .from) (c .before .before .before .before .before .before .least2 .result) (a .area .now))) same (c .before .before .fits2 .result) (c .before .before .fits2 .ensures) (c .before .if2 .taken))
+    (omega arith, (put-fits 14 (resynchronised (slice (a .from) (a .to) (take (a .split) (a .area .now)))) (c .before .before .before .before .before .before .before .least .result) (a .area .now) (omega arith) (edited (c .before .before .before .before .resync-by .result) false (slice (a .from) (c .before .before .before .before .before .before .least2 .result) (a .area .now))) same (c .before .before .fits2 .result) (c .before .before .fits2 .ensures) (c .before .if2 .taken), known-resync _ (c .before .before .before .before .resync-by .ensures)))
 
 sub-t17 : tie.Need-sub-t17
 sub-t17 c =

@@ -9,7 +9,7 @@ use Rattle.format.specs.Unsynch.{resynchronised}
 use Rattle.unsynch.specs.declared.loops.How.{How}
 use Rattle.unsynch.specs.Puts.{putOf}
 use Rattle.unsynch.specs.Edits.{edited}
-use Rattle.unsynch.proofs.Edits.{resyncs}
+use Rattle.unsynch.proofs.Edits.{resyncs, known-resync}
 use Rattle.unsynch.proofs.Answers.{in-room}
 use borrow.Author.Needs.{needs}
 use native.Mathlib.Omega.{arith}
@@ -20,7 +20,7 @@ resync-by-requires : tie.Need-resync-by-requires
 resync-by-requires c κs = search needs
 
 put-part-requires : tie.Need-put-part-requires
-put-part-requires c κs = search needs
+put-part-requires c κs = known-resync _ (c .resync-by .ensures)
 
 same-length : tie.Need-same-length
 same-length c = search needs

@@ -8,7 +8,7 @@ use Rattle.format.specs.Unsynch.{unsynchronised}
 use Rattle.unsynch.specs.declared.loops.How.{How}
 use Rattle.unsynch.specs.Puts.{putOf}
 use Rattle.unsynch.specs.Edits.{edited}
-use Rattle.unsynch.proofs.Edits.{unsyncs}
+use Rattle.unsynch.proofs.Edits.{unsyncs, known-unsync}
 use borrow.Author.Needs.{needs}
 use Rattle.unsynch.proofs.unsync_into.Statement.{statement}
 use Rattle.unsynch.proofs.unsync_into.Tie as tie
@@ -17,7 +17,7 @@ unsync-by-requires : tie.Need-unsync-by-requires
 unsync-by-requires c κs = search needs
 
 put-part-requires : tie.Need-put-part-requires
-put-part-requires c κs = search needs
+put-part-requires c κs = known-unsync _ (c .before .before .before .before .args .mode) (c .unsync-by .ensures)
 
 same-length : tie.Need-same-length
 same-length c = search needs

@@ -23,7 +23,8 @@ add-edit-after c = omega arith
 edit-after-requires : tie.Need-edit-after-requires
 edit-after-requires c κs =
     let a = c .before .before .before .before .args in
-    (omega arith, simp length-set (omega (arith, ap length (edited-first (a .how) (a .s .now) (a .from) (a .to) (omega arith) (omega arith)))))
+    let first = edited-first (a .how) (a .s .now) (a .from) (a .to) (omega arith) (omega arith) in
+    (omega arith, (simp length-set (omega (arith, ap length first)), c .before .before .before .before .pre .1 .1))
 
 same-length : tie.Need-same-length
 same-length c = simp length-set at (c .before .before .edit-after .kept .0)

@@ -11,13 +11,13 @@ use Rattle.unsynch.proofs.loops.edit_after.Tie as tie
 
 abbrev Inv-loop : tie.InvT-loop
 Inv-loop buf₀ at s from to how o₀ i₀ run₀ buf o i run =
-    (from ≤ i) × (i < to) × (1 ≤ o) × (1 ≤ run) × (run ≤ 1024) × Storing buf₀ at (editedAfter how s from to) buf o (editedAfter how s i to)
+    (from ≤ i) × (i < to) × (1 ≤ run) × (run ≤ 1024) × Storing buf₀ at (editedAfter how s from to) buf o (editedAfter how s i to)
 
 abbrev μ-loop : tie.MeasureT-loop
 μ-loop buf₀ at s from to how o₀ i₀ run₀ buf o i run = to - i
 
 loop-holds : tie.Need-loop-holds Inv-loop μ-loop
-loop-holds c = (omega arith, omega arith, omega arith, omega arith, omega arith, begin _ _ _ (omega arith))
+loop-holds c = (omega arith, omega arith, omega arith, omega arith, begin _ _ _ (omega arith))
 
 add-loop : tie.Need-add-loop Inv-loop μ-loop
 add-loop c = omega arith
@@ -30,7 +30,7 @@ copy-behind-requires c κs =
     let a = c .before .before .before .before .before .before .before .args in
     let L = c .before .before .before .before .loop in
     let alone = sym (c .before .before .hits .ensures) ∙ c .before .if1 .taken in
-    (omega arith, block (a .how) (a .s .now) (L .i) (a .to) (omega arith) (omega arith) alone (L .inv .5) .0)
+    (omega arith, block (a .how) (a .s .now) (L .i) (a .to) (omega arith) (omega arith) alone (L .inv .4) .0)
 
 add-i : tie.Need-add-i Inv-loop μ-loop
 add-i c = omega arith
@@ -44,8 +44,8 @@ loop-again c =
     let L = c .before .before .before .before .before .before .before .loop in
     let alone = sym (c .before .before .before .before .before .hits .ensures) ∙ c .before .before .before .before .if1 .taken in
     let stores = c .before .before .copy-behind in
-    let t = block (a .how) (a .s .now) (L .i) (a .to) (omega arith) (omega arith) alone (L .inv .5) .1 (stores .result) (stores .last .0) (stores .ensures) in
-    (omega arith, omega arith, omega (arith, t .0), omega arith, omega arith, t .1)
+    let t = block (a .how) (a .s .now) (L .i) (a .to) (omega arith) (omega arith) alone (L .inv .4) .1 (stores .result) (stores .last .0) (stores .ensures) in
+    (omega arith, omega arith, omega arith, omega arith, t)
 
 sub-least : tie.Need-sub-least Inv-loop μ-loop
 sub-least c = omega arith
@@ -67,7 +67,7 @@ edit-by-byte-requires c κs =
     let a = c .before .before .before .before .before .before .before .before .args in
     let L = c .before .before .before .before .before .loop in
     let last = L .i + c .before .least .result in
-    (omega arith, piece (a .how) (a .s .now) (L .i) last (a .to) (omega arith) (omega arith) (omega arith) (L .inv .5) .0)
+    (omega arith, (piece (a .how) (a .s .now) (L .i) last (a .to) (omega arith) (omega arith) (omega arith) (L .inv .4) .0, c .before .before .before .before .before .before .before .before .pre .1 .1))
 
 add-least : tie.Need-add-least Inv-loop μ-loop
 add-least c = omega arith
@@ -84,17 +84,17 @@ loop-again-2 c =
     let L = c .before .before .before .before .before .before .before .before .before .loop in
     let last = L .i + c .before .before .before .before .before .least .result in
     let stores = c .before .before .before .edit-by-byte in
-    let t = piece (a .how) (a .s .now) (L .i) last (a .to) (omega arith) (omega arith) (omega arith) (L .inv .5) .1 (stores .result) (stores .last .0) (stores .ensures) in
-    (omega arith, omega arith, omega (arith, t .0), omega arith, omega arith, t .1)
+    let t = piece (a .how) (a .s .now) (L .i) last (a .to) (omega arith) (omega arith) (omega arith) (L .inv .4) .1 (stores .result) (stores .last .0) (stores .ensures) in
+    (omega arith, omega arith, omega arith, omega arith, t .1)
 
 edit-by-byte-requires-2 : tie.Need-edit-by-byte-requires-2 Inv-loop μ-loop
-edit-by-byte-requires-2 c κs = (omega arith, lies (c .before .before .loop .inv .5))
+edit-by-byte-requires-2 c κs = (omega arith, (lies (c .before .before .loop .inv .4), c .before .before .before .before .before .pre .1 .1))
 
 same-length : tie.Need-same-length Inv-loop μ-loop
-same-length c = c .before .before .edit-by-byte2 .kept .0 ∙ c .before .before .before .before .before .loop .inv .5 .long
+same-length c = c .before .before .edit-by-byte2 .kept .0 ∙ c .before .before .before .before .before .loop .inv .4 .long
 
 returns : tie.Need-returns Inv-loop μ-loop
-returns c = c .before .before .edit-by-byte2 .ensures ∙ rest (c .before .before .before .before .before .loop .inv .5)
+returns c = c .before .before .edit-by-byte2 .ensures ∙ rest (c .before .before .before .before .before .loop .inv .4)
 
 pub edit-after-spec : {M : Type 1} → statement M
 edit-after-spec =

@@ -26,7 +26,7 @@ edit-after-requires : tie.Need-edit-after-requires
 edit-after-requires c κs =
     let a = c .before .before .before .before .before .before .before .args in
     let e = in-copy (a .how) (a .area .now) (replicate 1025 0) (c .before .before .before .copy .last .0) (a .from) (a .to) (omega arith) (omega arith) (omega arith) (c .before .before .before .copy .ensures) in
-    (omega arith, omega (arith, ap length (e .1)))
+    (omega arith, (omega (arith, ap length (e .1)), c .before .before .before .before .before .before .before .pre .1 .1))
 
 same-length : tie.Need-same-length
 same-length c = search needs

@@ -28,7 +28,7 @@ edit-in-after-requires c κs =
     let a = c .before .before .before .args in
     let x = getD (a .area .now) (a .from) 0 in
     let e = same-front (a .how) (set (a .area .now) (a .at) x) (a .area .now) (a .from) (a .to) (a .at) (omega arith) (omega arith) (simp length-set (omega arith)) (omega arith) (take-set-le (a .at) (a .area .now) (a .at) x (omega arith)) in
-    (omega arith, simp length-set (omega (arith, ap length (edited-first (a .how) (a .area .now) (a .from) (a .to) (omega arith) (omega arith)), ap length e)))
+    (omega arith, (simp length-set (omega (arith, ap length (edited-first (a .how) (a .area .now) (a .from) (a .to) (omega arith) (omega arith)), ap length e)), c .before .before .before .pre .1 .1))
 
 same-length : tie.Need-same-length
 same-length c = simp length-set at (c .before .before .edit-in-after .kept .0)

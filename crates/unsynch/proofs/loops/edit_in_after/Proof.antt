@@ -44,7 +44,7 @@ edit-chunk-requires : tie.Need-edit-chunk-requires Inv-loop μ-loop
 edit-chunk-requires c κs =
     let a = c .before .before .before .before .before .args in
     let L = c .before .before .before .loop in
-    (omega (arith, L .inv .4 .long), piece-in (a .how) (a .area .now) (L .i) (L .i + c .before .least .result) (a .to) (omega arith) (omega arith) (omega arith) (a .at) (omega arith) (omega arith) (L .inv .2) (L .inv .4 .long) (L .inv .3) (L .inv .4) .0)
+    (omega (arith, L .inv .4 .long), (piece-in (a .how) (a .area .now) (L .i) (L .i + c .before .least .result) (a .to) (omega arith) (omega arith) (omega arith) (a .at) (omega arith) (omega arith) (L .inv .2) (L .inv .4 .long) (L .inv .3) (L .inv .4) .0, c .before .before .before .before .before .pre .1 .1))
 
 loop-less : tie.Need-loop-less Inv-loop μ-loop
 loop-less c = omega arith

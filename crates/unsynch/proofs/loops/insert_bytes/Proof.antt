@@ -1,11 +1,13 @@
 -- `unsynch::loops::insert_bytes` meets its contract. Assumes nothing.
-use mathlib.Core.Path.{_≡_, sym, ap}
+use mathlib.Core.Path.{_≡_, refl, sym, ap, _∙_}
 use Prim.Native.Nat.{ℕ, _+_, _-_, _≤_, _<_}
-use mathlib.Core.List.{List}
+use mathlib.Core.Bool.{Bool, _&&_}
 use lib.ListN.{length, set, getD, length-set}
+use lib.Dec.{eqb}
 use Rattle.lists.proofs.Stores.{Storing, begin, done}
-use Rattle.unsynch.specs.Edits.{editedAfter}
-use Rattle.unsynch.proofs.Edits.{edited-end, comes}
+use Rattle.unsynch.specs.declared.loops.How.{How}
+use Rattle.unsynch.specs.Edits.{editedAfter, stored}
+use Rattle.unsynch.proofs.Edits.{edited-end, comes, guardBy, guards-by, above}
 use Rattle.unsynch.proofs.Turns.{insert-turn}
 use borrow.Author.Needs.{needs}
 use native.Mathlib.Omega.{arith}
@@ -13,32 +15,44 @@ use Rattle.unsynch.proofs.loops.insert_bytes.Statement.{statement}
 use Rattle.unsynch.proofs.loops.insert_bytes.Tie as tie
 
 abbrev Inv-loop : tie.InvT-loop
-Inv-loop buf₀ at s from to how o₀ i₀ buf o i =
-    (from ≤ i) × (i < to) × Storing buf₀ at (editedAfter how s from to) buf o (editedAfter how s i to)
+Inv-loop buf₀ at s from to top o₀ i₀ buf o i =
+    (from ≤ i) × (i < to) × Storing buf₀ at (editedAfter (guardBy top) s from to) buf o (editedAfter (guardBy top) s i to)
 
 abbrev μ-loop : tie.MeasureT-loop
-μ-loop buf₀ at s from to how o₀ i₀ buf o i = to - i
+μ-loop buf₀ at s from to top o₀ i₀ buf o i = to - i
+
+-- the edit in terms of top
+same : (c : tie.After-either Inv-loop μ-loop) → c .before .before .before .args .how ≡ guardBy (c .either .result)
+same c = guards-by _ _ (c .before .before .before .pre .0 .2) (c .before .before .before .pre .0 .3) (c .either .ensures)
 
 -- the stores lie in the buffer, and leave what is to be left
 turn : (c : tie.After-bit Inv-loop μ-loop)
-    → let a = c .before .before .before .before .before .before .before .before .args in
+    → let a = c .before .before .before .before .before .before .before .before .before .args in
     let L = c .before .before .before .before .before .loop in
+    let how = guardBy (c .before .before .before .before .before .before .either .result) in
     let q = L .o + c .bit .result in
     (L .o ≤ q)
     × (q < length (L .buf))
-    × Storing (a .buf .now) (a .at) (editedAfter (a .how) (a .s .now) (a .from) (a .to))
-    (set (set (L .buf) (L .o) 0) q (getD (a .s .now) (L .i + 1) 0)) (q + 1) (editedAfter (a .how) (a .s .now) (L .i + 1) (a .to))
+    × Storing (a .buf .now) (a .at) (editedAfter how (a .s .now) (a .from) (a .to))
+    (set (set (L .buf) (L .o) 0) q (getD (a .s .now) (L .i + 1) 0)) (q + 1) (editedAfter how (a .s .now) (L .i + 1) (a .to))
 turn c =
-    let a = c .before .before .before .before .before .before .before .before .args in
+    let a = c .before .before .before .before .before .before .before .before .before .args in
     let L = c .before .before .before .before .before .loop in
-    let pre = c .before .before .before .before .before .before .before .before .pre in
-    let f = c .before .hit in
-    insert-turn (L .inv .2) (getD (a .s .now) (L .i + 1) 0) (editedAfter (a .how) (a .s .now) (L .i + 1) (a .to)) (f .result) (L .o + c .bit .result)
-    (comes (a .how) (a .s .now) (L .i) (a .to) (omega arith) (omega arith) (f .result) (f .ensures) (pre .0 .2))
+    let top = c .before .before .before .before .before .before .either in
+    let x = getD (a .s .now) (L .i + 1) 0 in
+    let f = c .before .guarded in
+    let e = f .ensures ∙ ap (λ (g : Bool). eqb (getD (a .s .now) (L .i) 0) 255 && g) (above (a .how .high) (top .result) (top .ensures) x (omega (arith, c .before .before .before .shared-slice-known2 .given (L .i + 1)))) in
+    insert-turn (L .inv .2) x (editedAfter (guardBy (top .result)) (a .s .now) (L .i + 1) (a .to)) (f .result) (L .o + c .bit .result)
+    (comes (guardBy (top .result)) (a .s .now) (L .i) (a .to) (omega arith) (omega arith) (f .result) e refl)
     (ap (λ (k : ℕ). L .o + k) (c .bit .ensures .0))
 
+either-requires : tie.Need-either-requires Inv-loop μ-loop
+either-requires c κs = search needs
+
 loop-holds : tie.Need-loop-holds Inv-loop μ-loop
-loop-holds c = (omega arith, omega arith, begin _ _ _ (omega arith))
+loop-holds c =
+    let a = c .before .before .before .args in
+    (omega arith, omega arith, begin _ _ _ (omega (arith, ap (λ (how : How). length (editedAfter how (a .s .now) (a .from) (a .to))) (same c))))
 
 add-loop : tie.Need-add-loop Inv-loop μ-loop
 add-loop c = omega arith
@@ -49,11 +63,11 @@ add-b c = omega arith
 shared-slice-read-b : tie.Need-shared-slice-read-b Inv-loop μ-loop
 shared-slice-read-b c = omega arith
 
-shared-slice-read-hit : tie.Need-shared-slice-read-hit Inv-loop μ-loop
-shared-slice-read-hit c = omega arith
+shared-slice-read-guarded : tie.Need-shared-slice-read-guarded Inv-loop μ-loop
+shared-slice-read-guarded c = omega arith
 
-hit-requires : tie.Need-hit-requires Inv-loop μ-loop
-hit-requires c κs = search needs
+guarded-requires : tie.Need-guarded-requires Inv-loop μ-loop
+guarded-requires c κs = search needs
 
 bit-requires : tie.Need-bit-requires Inv-loop μ-loop
 bit-requires c κs = search needs
@@ -84,9 +98,10 @@ same-length c = c .before .loop .inv .2 .long
 
 returns : tie.Need-returns Inv-loop μ-loop
 returns c =
-    let a = c .before .before .before .before .args in
+    let a = c .before .before .before .before .before .args in
     let L = c .before .loop in
-    done (edited-end (a .how) (a .s .now) (L .i) (a .to) (omega arith)) (L .inv .2)
+    done (edited-end (guardBy (c .before .before .either .result)) (a .s .now) (L .i) (a .to) (omega arith)) (L .inv .2)
+    ∙ ap (λ (how : How). stored (editedAfter how (a .s .now) (a .from) (a .to)) (a .at) (a .buf .now)) (sym (same (c .before .before)))
 
 pub insert-bytes-spec : {M : Type 1} → statement M
 insert-bytes-spec =
@@ -94,12 +109,13 @@ insert-bytes-spec =
     (tie.spec
     Inv-loop
     μ-loop
+    either-requires
     loop-holds
     add-loop
     add-b
     shared-slice-read-b
-    shared-slice-read-hit
-    hit-requires
+    shared-slice-read-guarded
+    guarded-requires
     bit-requires
     add-p
     slice-write-buf

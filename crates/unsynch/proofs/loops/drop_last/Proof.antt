@@ -1,0 +1,77 @@
+-- `unsynch::loops::drop_last` meets its contract. Assumes nothing.
+use mathlib.Core.Path.{_≡_, sym, _∙_}
+use Prim.Native.Nat.{_+_}
+use mathlib.Core.Bool.{true, false}
+use mathlib.Core.List.{_∷_}
+use lib.ListN.{getD}
+use Rattle.lists.proofs.Stores.{Storing, begin, lies, by, put, done}
+use Rattle.unsynch.specs.Edits.{resyncBy, editedAfter}
+use Rattle.unsynch.proofs.Edits.{edited-end, stays}
+use borrow.Author.Needs.{needs}
+use native.Mathlib.Omega.{arith}
+use Rattle.unsynch.proofs.loops.drop_last.Statement.{statement}
+use Rattle.unsynch.proofs.loops.drop_last.Tie as tie
+
+-- the byte that is left to store where it stays
+left : (c : tie.Then2)
+    → let a = c .before .before .before .before .before .before .before .args in
+    Storing (a .buf .now) (a .at) (editedAfter resyncBy (a .s .now) (a .from) (a .to)) (a .buf .now) (a .at) (getD (a .s .now) (a .from + 1) 0 ∷ editedAfter resyncBy (a .s .now) (a .from + 1) (a .to))
+left c =
+    let a = c .before .before .before .before .before .before .before .args in
+    by (stays (a .s .now) (a .from) (a .to) (omega arith) (omega arith) true (sym (c .if2 .taken) ∙ c .before .stays .ensures)) (begin _ _ _ (omega arith))
+
+add-if1 : tie.Need-add-if1
+add-if1 c = search needs
+
+add-b : tie.Need-add-b
+add-b c = search needs
+
+shared-slice-read-b : tie.Need-shared-slice-read-b
+shared-slice-read-b c = search needs
+
+shared-slice-read-stays : tie.Need-shared-slice-read-stays
+shared-slice-read-stays c = search needs
+
+stays-requires : tie.Need-stays-requires
+stays-requires c κs = search needs
+
+slice-write-buf : tie.Need-slice-write-buf
+slice-write-buf c = omega (arith, lies (left c))
+
+add-result : tie.Need-add-result
+add-result c = search needs
+
+same-length : tie.Need-same-length
+same-length c = search needs
+
+returns : tie.Need-returns
+returns c =
+    let a = c .before .before .before .before .before .before .before .args in
+    done (edited-end resyncBy (a .s .now) (a .from + 1) (a .to) (omega arith)) (put (left c))
+
+returns-2 : tie.Need-returns-2
+returns-2 c =
+    let a = c .before .before .before .before .before .before .before .args in
+    let goes = stays (a .s .now) (a .from) (a .to) (omega arith) (omega arith) false (sym (c .if2 .left) ∙ c .before .stays .ensures) in
+    done (goes ∙ edited-end resyncBy (a .s .now) (a .from + 1) (a .to) (omega arith)) (begin _ _ _ (omega arith))
+
+returns-3 : tie.Need-returns-3
+returns-3 c =
+    let a = c .before .before .before .args in
+    done (edited-end resyncBy (a .s .now) (a .from) (a .to) (omega arith)) (begin _ _ _ (omega arith))
+
+pub drop-last-spec : {M : Type 1} → statement M
+drop-last-spec =
+    tie.close
+    (tie.spec
+    add-if1
+    add-b
+    shared-slice-read-b
+    shared-slice-read-stays
+    stays-requires
+    slice-write-buf
+    add-result
+    same-length
+    returns
+    returns-2
+    returns-3)

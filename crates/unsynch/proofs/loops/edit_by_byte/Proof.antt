@@ -1,0 +1,83 @@
+-- `unsynch::loops::edit_by_byte` meets its contract. Assumes nothing.
+use mathlib.Core.Path.{_≡_, sym, ap, _∙_}
+use Prim.Native.Nat.{_+_, _-_}
+use lib.ListN.{length}
+use lib.Seq.{length-slice, sets}
+use Rattle.unsynch.specs.declared.loops.How.{How}
+use Rattle.unsynch.specs.Edits.{editedAfter, stored}
+use Rattle.unsynch.proofs.Edits.{unchanged}
+use borrow.Author.Needs.{needs}
+use native.Mathlib.Omega.{arith}
+use Rattle.unsynch.proofs.loops.edit_by_byte.Statement.{statement}
+use Rattle.unsynch.proofs.loops.edit_by_byte.Tie as tie
+
+insert-bytes-requires : tie.Need-insert-bytes-requires
+insert-bytes-requires c κs = search needs
+
+same-length : tie.Need-same-length
+same-length c = search needs
+
+returns : tie.Need-returns
+returns c = search needs
+
+add-copy : tie.Need-add-copy
+add-copy c = search needs
+
+copy-requires : tie.Need-copy-requires
+copy-requires c κs =
+    let a = c .before .before .before .before .before .args in
+    let e = unchanged (a .how) (c .before .if2 .left) (c .before .before .before .before .before .pre .1 .1 .inserts (c .before .if2 .left)) (a .s .now) (a .from) (a .to) in
+    omega (arith, ap length e, length-slice (a .from + 1) (a .to) (a .s .now) (omega arith))
+
+sub-result : tie.Need-sub-result
+sub-result c = search needs
+
+sub-result-2 : tie.Need-sub-result-2
+sub-result-2 c = search needs
+
+add-result : tie.Need-add-result
+add-result c = search needs
+
+same-length-2 : tie.Need-same-length-2
+same-length-2 c = search needs
+
+returns-2 : tie.Need-returns-2
+returns-2 c =
+    let a = c .before .before .before .before .before .before .before .before .args in
+    let z = c .before .before .before .before .if2 .left in
+    let e = unchanged (a .how) z (c .before .before .before .before .before .before .before .before .pre .1 .1 .inserts z) (a .s .now) (a .from) (a .to) in
+    let n : a .at + (a .to - a .from - 1) ≡ a .at + length (editedAfter (a .how) (a .s .now) (a .from) (a .to)) =
+    omega (arith, ap length e, length-slice (a .from + 1) (a .to) (a .s .now) (omega arith)) in
+    λ j. (n j, (c .before .before .copy .ensures ∙ ap (sets (a .buf .now) (a .at)) (sym e)) j)
+
+drop-bytes-requires : tie.Need-drop-bytes-requires
+drop-bytes-requires c κs =
+    let a = c .before .before .before .before .args in
+    omega (arith, ap (λ (how : How). length (editedAfter how (a .s .now) (a .from) (a .to))) (c .before .before .before .before .pre .1 .1 .drops (c .before .if1 .left)))
+
+same-length-3 : tie.Need-same-length-3
+same-length-3 c = search needs
+
+returns-3 : tie.Need-returns-3
+returns-3 c =
+    let a = c .before .before .before .before .before .before .before .args in
+    c .before .before .drop-bytes .ensures
+    ∙ ap (λ (how : How). stored (editedAfter how (a .s .now) (a .from) (a .to)) (a .at) (a .buf .now)) (sym (c .before .before .before .before .before .before .before .pre .1 .1 .drops (c .before .before .before .before .if1 .left)))
+
+pub edit-by-byte-spec : {M : Type 1} → statement M
+edit-by-byte-spec =
+    tie.close
+    (tie.spec
+    insert-bytes-requires
+    same-length
+    returns
+    add-copy
+    copy-requires
+    sub-result
+    sub-result-2
+    add-result
+    same-length-2
+    returns-2
+    drop-bytes-requires
+    same-length-3
+    returns-3)
