@@ -266,17 +266,18 @@ next-stays s i to lt le e =
 abbrev pub guardBy : ℕ → How
 guardBy top = record { insert = true; zero = true; high = ltb top 0xFF }
 
-module _ (high : Bool) (top : ℕ) (t : top ≡ pick high 0xDF 0xFF) where
-  pub above : (x : ℕ) → x ≤ 255 → (eqb x 0 || ltb top x) ≡ concerns (guardBy top) x
-  above x b =
-      ap (λ (k : ℕ). eqb x 0 || ltb k x) t
-      ∙ one high
-      ∙ ap (λ (k : ℕ). eqb x 0 || (ltb k 0xFF && leb 0xE0 x)) (sym t)
-    where
-      one : (h : Bool) → (eqb x 0 || ltb (pick h 0xDF 0xFF) x) ≡ (eqb x 0 || (ltb (pick h 0xDF 0xFF) 0xFF && leb 0xE0 x))
-      one true = refl
-      one false = ap (λ (g : Bool). eqb x 0 || g) (le-ltb _ _ b)
+-- the bytes that it concerns
+pub above : (high : Bool) (top : ℕ) → top ≡ pick high 0xDF 0xFF → (x : ℕ) → x ≤ 255 → (eqb x 0 || ltb top x) ≡ concerns (guardBy top) x
+above high top t x b =
+    ap (λ (k : ℕ). eqb x 0 || ltb k x) t
+    ∙ one high
+    ∙ ap (λ (k : ℕ). eqb x 0 || (ltb k 0xFF && leb 0xE0 x)) (sym t)
+  where
+    one : (h : Bool) → (eqb x 0 || ltb (pick h 0xDF 0xFF) x) ≡ (eqb x 0 || (ltb (pick h 0xDF 0xFF) 0xFF && leb 0xE0 x))
+    one true = refl
+    one false = ap (λ (g : Bool). eqb x 0 || g) (le-ltb _ _ b)
 
+-- an edit that inserts, before 00 too, is one of these
 pub guards-by : (how : How) (top : ℕ) → how .insert ≡ true → how .zero ≡ true → top ≡ pick (how .high) 0xDF 0xFF → how ≡ guardBy top
 guards-by how top i z t =
     let h : how .high ≡ ltb top 0xFF = one (how .high) ∙ ap (λ (k : ℕ). ltb k 0xFF) (sym t) in

@@ -1,4 +1,4 @@
--- One turn of the loops that store: f says that the edit concerns the byte x, behind which l is left. Assumes nothing.
+-- One turn of the loops that store: x is the byte, behind which l is left. Assumes nothing.
 use mathlib.Core.Path.{_≡_, refl, sym, ap, _∙_}
 use Prim.Native.Nat.{ℕ, suc, _+_, _-_, _≤_, _<_}
 use native.Mathlib.Numerals.{add-one}
@@ -23,7 +23,7 @@ under {o} {p} {y} {l} x s = record {
 }
 
 module _ {o₀ : List ℕ} {p₀ : ℕ} {l₀ o : List ℕ} {p : ℕ} {m : List ℕ} (s : Storing o₀ p₀ l₀ o p m) (x : ℕ) (l : List ℕ) where
-  -- the byte is stored: it stays, or it goes, and the next one will take its place
+  -- the byte is stored: it stays, as f says, or it goes, and the next one will take its place
   pub drop-turn : (f : Bool) (q y : ℕ) (k : List ℕ) → m ≡ pick f (x ∷ l) l → (f ≡ false → l ≡ y ∷ k) → q ≡ p + cond f 1 0
       → (p < length o) × Storing o₀ p₀ l₀ (set o p x) q l
   drop-turn true q y k e next is = (omega (arith, lies (by e s)), at (sym is) (put (by e s)))
@@ -32,7 +32,7 @@ module _ {o₀ : List ℕ} {p₀ : ℕ} {l₀ o : List ℕ} {p : ℕ} {m : List 
       let u = by (e ∙ next refl) s in
       (omega (arith, lies u), at z (by (sym (next refl)) (under x u)))
 
-  -- a 00 is stored, and the byte behind it; or the byte over it
+  -- a 00 is stored, and the byte behind it, where f says that it is concerned; or the byte over it
   pub insert-turn : (f : Bool) (q : ℕ) → m ≡ pick f (0 ∷ x ∷ l) (x ∷ l) → q ≡ p + cond f 1 0
       → (p ≤ q) × (q < length o) × Storing o₀ p₀ l₀ (set (set o p 0) q x) (q + 1) l
   insert-turn true q e is = (
