@@ -3,3 +3,4 @@ pub mod Insides
 pub mod Onwards
 pub mod Areas
 pub mod Openings
+pub mod Sources

@@ -10,9 +10,8 @@ use lib.Dec.{eqb}
 use borrow.Author.Tests.{eqb-true, eqb-false, ne-eqb}
 use Rattle.format.specs.Bytes.{pick, span}
 use Rattle.format.specs.Record.{bodyRefusal, runOf, partsOf}
-use Rattle.format.specs.Unsynch.{resynchronised}
 use Rattle.format.specs.Frame.{headOf}
-use Rattle.format.specs.Walk.{Out, shownKind, insideOf, resyncedOf, isResynced, shownBody, bodyOf, walked, recordOf, shownOf, onShown, frameOf}
+use Rattle.format.specs.Walk.{Out, shownKind, insideOf, isResynced, shownBody, bodyOf, walked, recordOf, shownOf, onShown, frameOf}
 use Rattle.format.specs.declared.Version.{Version}
 use Rattle.format.specs.declared.Kind.{Kind}
 use Rattle.format.specs.declared.Parts.{Parts}
@@ -101,15 +100,6 @@ module _ (v : Version) (kind : Kind) (at : ℕ) (b : List ℕ) (o : Out) where
           → (o .0 ≡ 0) × (s ≡ span at (length b)) × (p ≡ partsOf v kind at b) × (o .1 ≡ room)
       by true f h = (eqb-true _ _ f, cc, cc, last)
       by false f h = absurd (let z : _≡_ {A = ℕ} 0 1 = cc in omega arith)
-
--- of a body as it is stored
-module _ (v : Version) (kind : Kind) (t : Bool) (at : ℕ) (b room : List ℕ) where
-  pub opened-resynced : t ≡ true
-      → openedAt v kind 0 (resynchronised b) (resyncedOf (walked false v 2) kind (resynchronised b) room) ≡ openedOf v kind t at b room
-  opened-resynced e = rw e
-
-  pub opened-stored : t ≡ false → openedAt v kind at b (insideOf (walked false v 2) kind b room) ≡ openedOf v kind t at b room
-  opened-stored e = rw e
 
 -- ---- a frame
 

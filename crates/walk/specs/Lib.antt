@@ -2,4 +2,5 @@
 pub mod Insides
 pub mod Steps
 pub mod Areas
+pub mod Sources
 pub mod Openings

@@ -22,17 +22,29 @@ use unsynch::Put;
 use unsynch::resync_into;
 ghost use mathlib.Core.Path.{_≡_};
 ghost use Prim.Native.Nat.{_≤_};
-ghost use mathlib.Core.Bool.{false};
+ghost use mathlib.Core.Bool.{_||_};
 ghost use lib.ListN.{length};
-ghost use lib.Seq.{slice};
-ghost use Rattle.format.specs.Walk.{insideOf, walked, recordOf, frameOf};
-ghost use Rattle.walk.specs.Areas.{insideIn};
-ghost use Rattle.walk.specs.Openings.{openedAt, openedOf};
+ghost use Rattle.format.specs.Walk.{recordOf};
+ghost use Rattle.walk.specs.Sources.{sourceOf, frameIn};
+ghost use Rattle.walk.specs.Openings.{frontOf, readyOf, ranOf, shownAt, enteredOf};
 
 // What a body is refused with, its run included, or where it lies as it is shown, and its parts.
 pub enum Opened {
     Refused(u8),
     Body(Span, Parts),
+}
+
+// What a body is refused with before it is read, or from where to where it lies as it is shown.
+pub enum Lies {
+    Refused(u8),
+    At(usize, usize),
+}
+
+// The bytes that frames lie in: the work buffer or the tag.
+fn source<'a>(in_work: bool, work: &'a [u8], tag: &'a [u8]) -> &'a [u8]
+    ensures { λ r. ⌜ now r ≡ sourceOf «in_work» (now (work .entry)) (now (tag .entry)) ⌝ }
+{
+    if in_work { work } else { tag }
 }
 
 // The record of a frame at a place, counted from the first frame byte.
@@ -68,23 +80,81 @@ fn record_of(
     }
 }
 
-// A body s[from..to] that is shown as it is stored.
-fn enter_stored(
-    room: &mut [u8],
-    s: &[u8],
+// A body of the frames' bytes, resynchronised to the front of the room. Frames in the work buffer have no room.
+fn resync_front(work: &mut [u8], tag: &[u8], in_work: bool, from: usize, to: usize) -> Put
+    ensures { λ r. ⌜ (r, now (work .exit)) ≡ frontOf «in_work» from to (now (tag .entry)) (now (work .entry)) ⌝ }
+{
+    if in_work {
+        let mut none = [0u8; 1];
+        return resync_into(&mut none[..0], &work[..], from, to);
+    }
+    resync_into(work, tag, from, to)
+}
+
+// Where a body lies as it is shown: one that is resynchronised lies at the front of the work buffer then.
+fn ready(work: &mut [u8], tag: &[u8], in_work: bool, from: usize, to: usize, resynced: bool) -> Lies
+    ensures { λ r. ⌜ (r, now (work .exit)) ≡ readyOf «in_work» resynced from to (now (tag .entry)) (now (work .entry)) ⌝ }
+{
+    if resynced {
+        match resync_front(work, tag, in_work, from, to) {
+            Put::Refused(k) => Lies::Refused(k),
+            Put::Bytes(n) => Lies::At(0, n),
+        }
+    } else {
+        Lies::At(from, to)
+    }
+}
+
+// The run of subframes of a body as it is shown.
+fn run_inside(
+    work: &mut [u8],
+    tag: &[u8],
+    in_work: bool,
+    resynced: bool,
+    run: usize,
+    to: usize,
+    version: Version,
+) -> u8
+    ensures { λ r. ⌜ (r, now (work .exit)) ≡ ranOf «in_work» resynced version run to (now (tag .entry)) (now (work .entry)) ⌝ }
+{
+    if to <= run {
+        return 0;
+    }
+    if in_work {
+        let mut none = [0u8; 1];
+        return walk(&mut none[..0], &work[..], run, to, version, false, 2);
+    }
+    if resynced {
+        return walk_in(work, run, to, to, version, false, 2);
+    }
+    walk(work, tag, run, to, version, false, 2)
+}
+
+// A body as it is shown: its parts, and its run.
+fn shown_body(
+    work: &mut [u8],
+    tag: &[u8],
+    in_work: bool,
+    resynced: bool,
     from: usize,
     to: usize,
     version: Version,
     kind: Kind,
 ) -> Opened
-    requires { ⌜ (from ≤ to) × (to ≤ length (now s)) ⌝ }
-    ensures { λ r. ⌜ (r, now (room .exit)) ≡ openedAt version kind from (slice from to (now (s .entry))) (insideOf (walked false version 2) kind (slice from to (now (s .entry))) (now (room .entry))) ⌝ }
+    requires { ⌜ (from ≤ to) × (to ≤ length (sourceOf («in_work» || resynced) (now work) (now tag))) ⌝ }
+    ensures { λ r. ⌜ (r, now (work .exit)) ≡ shownAt «in_work» resynced version kind from to (now (tag .entry)) (now (work .entry)) ⌝ }
 {
-    match parse(version, kind, s, from, to) {
+    match parse(
+        version,
+        kind,
+        source(either(in_work, resynced), &work[..], tag),
+        from,
+        to,
+    ) {
         Parsed::Refused(k) => Opened::Refused(k),
         Parsed::Parts(parts) => {
             let run = place(kind, parts, to);
-            let r = walk(room, s, run, to, version, false, 2);
+            let r = run_inside(work, tag, in_work, resynced, run, to, version);
             if r != 0 {
                 return Opened::Refused(r);
             }
@@ -94,59 +164,41 @@ fn enter_stored(
     }
 }
 
-// A body that was resynchronised to the first n bytes of the room: what lies behind it is the room of its run.
-fn enter_front(room: &mut [u8], n: usize, version: Version, kind: Kind) -> Opened
-    requires { ⌜ n ≤ length (now room) ⌝ }
-    ensures { λ r. ⌜ (r, now (room .exit)) ≡ openedAt version kind 0 (slice 0 n (now (room .entry))) (insideIn (walked false version 2) kind (slice 0 n (now (room .entry))) n (now (room .entry))) ⌝ }
-{
-    match parse(version, kind, &room[..], 0, n) {
-        Parsed::Refused(k) => Opened::Refused(k),
-        Parsed::Parts(parts) => {
-            let run = place(kind, parts, n);
-            let r = walk_in(room, run, n, n, version, false, 2);
-            if r != 0 {
-                return Opened::Refused(r);
-            }
-            Opened::Body(Span { start: 0, len: n }, parts)
-        }
-    }
-}
-
-// A body s[from..to], which is resynchronised first where it has to be.
+// A body s[from..to] of the frames' bytes, which is resynchronised first where it has to be.
 fn enter(
-    room: &mut [u8],
-    s: &[u8],
+    work: &mut [u8],
+    tag: &[u8],
+    in_work: bool,
     from: usize,
     to: usize,
     version: Version,
     kind: Kind,
     resynced: bool,
 ) -> Opened
-    requires { ⌜ (from ≤ to) × (to ≤ length (now s)) ⌝ }
-    ensures { λ r. ⌜ (r, now (room .exit)) ≡ openedOf version kind resynced from (slice from to (now (s .entry))) (now (room .entry)) ⌝ }
+    requires { ⌜ (from ≤ to) × (to ≤ length (sourceOf «in_work» (now work) (now tag))) ⌝ }
+    ensures { λ r. ⌜ (r, now (work .exit)) ≡ enteredOf «in_work» resynced version kind from to (now (tag .entry)) (now (work .entry)) ⌝ }
 {
-    if resynced {
-        match resync_into(room, s, from, to) {
-            Put::Refused(k) => Opened::Refused(k),
-            Put::Bytes(n) => enter_front(room, n, version, kind),
+    match ready(work, tag, in_work, from, to, resynced) {
+        Lies::Refused(k) => Opened::Refused(k),
+        Lies::At(start, stop) => {
+            shown_body(work, tag, in_work, resynced, start, stop, version, kind)
         }
-    } else {
-        enter_stored(room, s, from, to, version, kind)
     }
 }
 
-// The frame at a place of s[..end], whose frames begin at `begin`: its body lies in s, which may be a work buffer, or at the front of the room.
+// The frame at a place of the tag's frames or, where in_work says so, of those in the work buffer, which have no room. They begin at `begin` and end at `end`.
 pub fn frame_at(
-    room: &mut [u8],
-    s: &[u8],
+    work: &mut [u8],
+    tag: &[u8],
     version: Version,
     in_work: bool,
     begin: usize,
     at: usize,
     end: usize,
 ) -> Shown
-    ensures { λ r. ⌜ (r, now (room .exit)) ≡ frameOf version «in_work» begin at (slice at end (now (s .entry))) (now (room .entry)) ⌝ }
+    ensures { λ r. ⌜ (r, now (work .exit)) ≡ frameIn version «in_work» begin at end (now (tag .entry)) (now (work .entry)) ⌝ }
 {
+    let s = source(in_work, &work[..], tag);
     let last = least(end, s.len());
     match decode(version, s, at, last, 1) {
         Head::Nothing => Shown::Nothing,
@@ -163,7 +215,7 @@ pub fn frame_at(
             let resynced = is_resynced(compressed, flagged);
             let first = at + start;
             let next = first + len;
-            match enter(room, s, first, next, version, kind, resynced) {
+            match enter(work, tag, in_work, first, next, version, kind, resynced) {
                 Opened::Refused(k) => Shown::Refused(k),
                 Opened::Body(body, parts) => {
                     let in_room = either(resynced, in_work);

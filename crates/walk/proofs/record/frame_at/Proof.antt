@@ -1,18 +1,18 @@
 -- `walk::record::frame_at` meets its contract. Assumes nothing.
 use mathlib.Core.Path.{sym, ap, _∙_}
-use Prim.Native.Nat.{ℕ, _+_, _≤_}
+use Prim.Native.Nat.{ℕ, _≤_}
 use native.Mathlib.Omega.{arith}
 use mathlib.Core.List.{List}
 use lib.ListN.{length}
-use lib.Seq.{slice}
-use Rattle.lists.proofs.Slices.{slice-cut}
-use Rattle.format.specs.Walk.{frameOf}
 use Rattle.walk.specs.declared.record.Opened.{Opened}
 use Rattle.walk.proofs.Onwards.{placed}
-use Rattle.walk.proofs.Openings.{shown-nothing, shown-refused, body-refused, body-shown}
+use Rattle.walk.proofs.Sources.{no-frame, head-refused, frame-refused, frame-shown}
 use borrow.Author.Needs.{needs}
 use Rattle.walk.proofs.record.frame_at.Statement.{statement}
 use Rattle.walk.proofs.record.frame_at.Tie as tie
+
+source-requires : tie.Need-source-requires
+source-requires c κs = search needs
 
 least-requires : tie.Need-least-requires
 least-requires c κs = search needs
@@ -37,36 +37,36 @@ is-resynced-requires c κs = search needs
 
 add-first : tie.Need-add-first
 add-first c =
-    let a = c .before .before .before .before .before .before .before .before .before .args in
-    let S = a .s .now in
+    let a = c .before .before .before .before .before .before .before .before .before .before .before .args in
+    let S = c .before .before .before .before .before .before .before .source .result .now in
     let last = c .before .before .before .before .before .before .least .result in
     let h = c .before .before .before .id .given .0 in
     let e = sym (c .before .before .before .id .given .1) ∙ c .before .before .before .before .before .decode .ensures in
     let le : last ≤ length S = omega (arith, c .before .before .before .before .before .before .least .ensures) in
     let p = placed (a .version) 1 (a .at) last S le (h .0) (h .1 .0) (h .1 .1 .0) (h .1 .1 .1 .0) (h .1 .1 .1 .1 .0) (h .1 .1 .1 .1 .1 .0) (sym e) in
-    omega (arith, p .within, c .before .before .before .before .before .before .before .before .before .good)
+    omega (arith, p .within, c .before .before .before .before .before .before .before .before .before .before .before .good)
 
 add-next : tie.Need-add-next
 add-next c =
-    let a = c .before .before .before .before .before .before .before .before .before .args in
-    let S = a .s .now in
+    let a = c .before .before .before .before .before .before .before .before .before .before .before .args in
+    let S = c .before .before .before .before .before .before .before .source .result .now in
     let last = c .before .before .before .before .before .before .least .result in
     let h = c .before .before .before .id .given .0 in
     let e = sym (c .before .before .before .id .given .1) ∙ c .before .before .before .before .before .decode .ensures in
     let le : last ≤ length S = omega (arith, c .before .before .before .before .before .before .least .ensures) in
     let p = placed (a .version) 1 (a .at) last S le (h .0) (h .1 .0) (h .1 .1 .0) (h .1 .1 .1 .0) (h .1 .1 .1 .1 .0) (h .1 .1 .1 .1 .1 .0) (sym e) in
-    omega (arith, p .within, c .before .before .before .before .before .before .before .before .before .good)
+    omega (arith, p .within, c .before .before .before .before .before .before .before .before .before .before .before .good)
 
 enter-requires : tie.Need-enter-requires
 enter-requires c κs =
-    let a = c .before .before .before .before .before .before .before .before .before .before .args in
-    let S = a .s .now in
+    let a = c .before .before .before .before .before .before .before .before .before .before .before .before .args in
+    let S = c .before .before .before .before .before .before .before .before .source .result .now in
     let last = c .before .before .before .before .before .before .before .least .result in
     let h = c .before .before .before .before .id .given .0 in
     let e = sym (c .before .before .before .before .id .given .1) ∙ c .before .before .before .before .before .before .decode .ensures in
     let le : last ≤ length S = omega (arith, c .before .before .before .before .before .before .before .least .ensures) in
     let p = placed (a .version) 1 (a .at) last S le (h .0) (h .1 .0) (h .1 .1 .0) (h .1 .1 .1 .0) (h .1 .1 .1 .1 .0) (h .1 .1 .1 .1 .1 .0) (sym e) in
-    (omega arith, omega (arith, p .within))
+    (omega arith, omega (arith, p .within, ap length (c .before .before .before .before .before .before .before .before .source .ensures)))
 
 enum-known-k-2 : tie.Need-enum-known-k-2
 enum-known-k-2 c = search needs
@@ -83,60 +83,61 @@ beyond-requires c κs = search needs
 record-of-requires : tie.Need-record-of-requires
 record-of-requires c κs = search needs
 
-returns : tie.Need-returns
-returns c =
-    let a = c .before .before .before .before .before .before .args in
-    shown-nothing (a .version) (a .in-work) (a .begin) (a .at) (slice (a .at) (c .before .before .before .least .result) (a .s .now)) (a .room .now) (sym (c .enum-told .given .1) ∙ c .before .before .decode .ensures)
-    ∙ ap (λ (x : List ℕ). frameOf (a .version) (a .in-work) (a .begin) (a .at) x (a .room .now)) (slice-cut (a .at) (a .end) (c .before .before .before .least .result) (a .s .now) (c .before .before .before .least .ensures))
-
-returns-2 : tie.Need-returns-2
-returns-2 c =
-    let a = c .before .before .before .before .before .before .before .args in
-    shown-refused (a .version) (a .in-work) (a .begin) (a .at) (slice (a .at) (c .before .before .before .before .least .result) (a .s .now)) (a .room .now) (c .before .k .given .0 .0) (sym (c .before .k .given .1) ∙ c .before .before .before .decode .ensures)
-    ∙ ap (λ (x : List ℕ). frameOf (a .version) (a .in-work) (a .begin) (a .at) x (a .room .now)) (slice-cut (a .at) (a .end) (c .before .before .before .before .least .result) (a .s .now) (c .before .before .before .before .least .ensures))
-
 same-length : tie.Need-same-length
 same-length c = search needs
 
+returns : tie.Need-returns
+returns c =
+    let a = c .before .before .before .before .before .before .before .before .args in
+    no-frame (a .version) (a .in-work) (a .begin) (a .at) (a .end) (c .before .before .before .least .result) (a .tag .now) (a .work .now) (c .before .before .before .before .source .result .now) (c .before .before .before .before .source .ensures) (c .before .before .before .least .ensures) (sym (c .enum-told .given .1) ∙ c .before .before .decode .ensures)
+
+same-length-2 : tie.Need-same-length-2
+same-length-2 c = search needs
+
+returns-2 : tie.Need-returns-2
+returns-2 c =
+    let a = c .before .before .before .before .before .before .before .before .before .args in
+    head-refused (a .version) (a .in-work) (a .begin) (a .at) (a .end) (c .before .before .before .before .least .result) (a .tag .now) (a .work .now) (c .before .before .before .before .before .source .result .now) (c .before .before .before .before .before .source .ensures) (c .before .before .before .before .least .ensures) (c .before .k .given .0 .0) (sym (c .before .k .given .1) ∙ c .before .before .before .decode .ensures)
+
+same-length-3 : tie.Need-same-length-3
+same-length-3 c = search needs
+
 returns-3 : tie.Need-returns-3
 returns-3 c =
-    let a = c .before .before .before .before .before .before .before .before .before .before .before .before .before .before .before .before .args in
-    let S = a .s .now in
+    let a = c .before .before .before .before .before .before .before .before .before .before .before .before .before .before .before .before .before .before .args in
+    let S = c .before .before .before .before .before .before .before .before .before .before .before .before .before .before .source .result .now in
     let last = c .before .before .before .before .before .before .before .before .before .before .before .before .before .least .result in
     let h = c .before .before .before .before .before .before .before .before .before .before .id .given .0 in
     let e = sym (c .before .before .before .before .before .before .before .before .before .before .id .given .1) ∙ c .before .before .before .before .before .before .before .before .before .before .before .before .decode .ensures in
     let le : last ≤ length S = omega (arith, c .before .before .before .before .before .before .before .before .before .before .before .before .before .least .ensures) in
     let p = placed (a .version) 1 (a .at) last S le (h .0) (h .1 .0) (h .1 .1 .0) (h .1 .1 .1 .0) (h .1 .1 .1 .1 .0) (h .1 .1 .1 .1 .1 .0) (sym e) in
-    body-refused (a .version) (a .in-work) (a .begin) (a .at) (slice (a .at) last S) (a .room .now) (h .0) (h .1 .0) (h .1 .1 .0) (h .1 .1 .1 .0) (h .1 .1 .1 .1 .0) (h .1 .1 .1 .1 .1 .0) e
-    (c .before .before .before .before .before .before .before .before .shown-kind .result) (c .before .before .before .before .before .before .before .is-resynced .result) (c .before .before .before .before .before .before .before .before .shown-kind .ensures) (c .before .before .before .before .before .before .before .is-resynced .ensures)
-    (slice (a .at + h .1 .1 .1 .1 .0) (a .at + h .1 .1 .1 .1 .0 + h .1 .1 .1 .1 .1 .0) S) (c .before .before .before .before .before .enter .last .0) (p .body) (c .before .k2 .given .0 .0)
+    frame-refused (a .version) (a .in-work) (a .begin) (a .at) (a .end) (c .before .before .before .before .before .before .before .before .before .before .before .before .before .least .result) (a .tag .now) (a .work .now) (c .before .before .before .before .before .before .before .before .before .before .before .before .before .before .source .result .now) (c .before .before .before .before .before .before .before .before .before .before .before .before .before .before .source .ensures) (c .before .before .before .before .before .before .before .before .before .before .before .before .before .least .ensures) (h .0) (h .1 .0) (h .1 .1 .0) (h .1 .1 .1 .0) (h .1 .1 .1 .1 .0) (h .1 .1 .1 .1 .1 .0) e
+    (c .before .before .before .before .before .before .before .before .shown-kind .result) (c .before .before .before .before .before .before .before .is-resynced .result) (c .before .before .before .before .before .before .before .before .shown-kind .ensures) (c .before .before .before .before .before .before .before .is-resynced .ensures) (p .body) (c .before .before .before .before .before .enter .last .0) (c .before .k2 .given .0 .0)
     (ap {B = Opened × List ℕ} (λ (x : Opened). (x, c .before .before .before .before .before .enter .last .0)) (sym (c .before .k2 .given .1)) ∙ c .before .before .before .before .before .enter .ensures)
-    ∙ ap (λ (x : List ℕ). frameOf (a .version) (a .in-work) (a .begin) (a .at) x (a .room .now)) (slice-cut (a .at) (a .end) (c .before .before .before .before .before .before .before .before .before .before .before .before .before .least .result) (a .s .now) (c .before .before .before .before .before .before .before .before .before .before .before .before .before .least .ensures))
 
-same-length-2 : tie.Need-same-length-2
-same-length-2 c = search needs
+same-length-4 : tie.Need-same-length-4
+same-length-4 c = search needs
 
 returns-4 : tie.Need-returns-4
 returns-4 c =
-    let a = c .before .before .before .before .before .before .before .before .before .before .before .before .before .before .before .before .before .before .before .args in
-    let S = a .s .now in
+    let a = c .before .before .before .before .before .before .before .before .before .before .before .before .before .before .before .before .before .before .before .before .before .args in
+    let S = c .before .before .before .before .before .before .before .before .before .before .before .before .before .before .before .before .before .source .result .now in
     let last = c .before .before .before .before .before .before .before .before .before .before .before .before .before .before .before .before .least .result in
     let h = c .before .before .before .before .before .before .before .before .before .before .before .before .before .id .given .0 in
     let e = sym (c .before .before .before .before .before .before .before .before .before .before .before .before .before .id .given .1) ∙ c .before .before .before .before .before .before .before .before .before .before .before .before .before .before .before .decode .ensures in
     let le : last ≤ length S = omega (arith, c .before .before .before .before .before .before .before .before .before .before .before .before .before .before .before .before .least .ensures) in
     let p = placed (a .version) 1 (a .at) last S le (h .0) (h .1 .0) (h .1 .1 .0) (h .1 .1 .1 .0) (h .1 .1 .1 .1 .0) (h .1 .1 .1 .1 .1 .0) (sym e) in
     let q = c .before .before .before .before .body .given .0 in
-    body-shown (a .version) (a .in-work) (a .begin) (a .at) (slice (a .at) last S) (a .room .now) (h .0) (h .1 .0) (h .1 .1 .0) (h .1 .1 .1 .0) (h .1 .1 .1 .1 .0) (h .1 .1 .1 .1 .1 .0) e
-    (c .before .before .before .before .before .before .before .before .before .before .before .shown-kind .result) (c .before .before .before .before .before .before .before .before .before .before .is-resynced .result) (c .before .before .before .before .before .before .before .before .before .before .before .shown-kind .ensures) (c .before .before .before .before .before .before .before .before .before .before .is-resynced .ensures)
-    (slice (a .at + h .1 .1 .1 .1 .0) (a .at + h .1 .1 .1 .1 .0 + h .1 .1 .1 .1 .1 .0) S) (c .before .before .before .before .before .before .before .before .enter .last .0) (p .body) (q .0) (q .1 .0)
+    frame-shown (a .version) (a .in-work) (a .begin) (a .at) (a .end) (c .before .before .before .before .before .before .before .before .before .before .before .before .before .before .before .before .least .result) (a .tag .now) (a .work .now) (c .before .before .before .before .before .before .before .before .before .before .before .before .before .before .before .before .before .source .result .now) (c .before .before .before .before .before .before .before .before .before .before .before .before .before .before .before .before .before .source .ensures) (c .before .before .before .before .before .before .before .before .before .before .before .before .before .before .before .before .least .ensures) (h .0) (h .1 .0) (h .1 .1 .0) (h .1 .1 .1 .0) (h .1 .1 .1 .1 .0) (h .1 .1 .1 .1 .1 .0) e
+    (c .before .before .before .before .before .before .before .before .before .before .before .shown-kind .result) (c .before .before .before .before .before .before .before .before .before .before .is-resynced .result) (c .before .before .before .before .before .before .before .before .before .before .before .shown-kind .ensures) (c .before .before .before .before .before .before .before .before .before .before .is-resynced .ensures) (p .body) (c .before .before .before .before .before .before .before .before .enter .last .0) (q .0) (q .1 .0)
     (ap {B = Opened × List ℕ} (λ (x : Opened). (x, c .before .before .before .before .before .before .before .before .enter .last .0)) (sym (c .before .before .before .before .body .given .1)) ∙ c .before .before .before .before .before .before .before .before .enter .ensures)
     (c .record-of .result) (c .before .beyond .result) (c .before .before .either .result) (c .before .beyond .ensures) (c .before .before .either .ensures) (c .record-of .ensures)
-    ∙ ap (λ (x : List ℕ). frameOf (a .version) (a .in-work) (a .begin) (a .at) x (a .room .now)) (slice-cut (a .at) (a .end) (c .before .before .before .before .before .before .before .before .before .before .before .before .before .before .before .before .least .result) (a .s .now) (c .before .before .before .before .before .before .before .before .before .before .before .before .before .before .before .before .least .ensures))
 
 pub frame-at-spec : {M : Type 1} → statement M
 frame-at-spec =
     tie.close
     (tie.spec
+    source-requires
     least-requires
     decode-requires
     enum-told
@@ -152,9 +153,11 @@ frame-at-spec =
     either-requires
     beyond-requires
     record-of-requires
-    returns
-    returns-2
     same-length
-    returns-3
+    returns
     same-length-2
+    returns-2
+    same-length-3
+    returns-3
+    same-length-4
     returns-4)

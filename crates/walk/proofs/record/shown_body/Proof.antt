@@ -1,0 +1,98 @@
+-- `walk::record::shown_body` meets its contract. Assumes nothing.
+use mathlib.Core.Path.{_≡_, sym, ap, _∙_}
+use Prim.Native.Nat.{_+_, _-_, _≤_}
+use native.Mathlib.Omega.{arith}
+use mathlib.Core.Bool.{Bool, _||_}
+use lib.ListN.{length}
+use lib.Seq.{slice, length-slice}
+use Rattle.walk.specs.Sources.{sourceOf}
+use Rattle.walk.proofs.Sources.{shows-refused, shows-run, shows-parts}
+use borrow.Author.Needs.{needs}
+use Rattle.walk.proofs.record.shown_body.Statement.{statement}
+use Rattle.walk.proofs.record.shown_body.Tie as tie
+
+either-requires : tie.Need-either-requires
+either-requires c κs = search needs
+
+source-requires : tie.Need-source-requires
+source-requires c κs = search needs
+
+parse-requires : tie.Need-parse-requires
+parse-requires c κs = search needs
+
+enum-known-k : tie.Need-enum-known-k
+enum-known-k c = search needs
+
+enum-known-parts : tie.Need-enum-known-parts
+enum-known-parts c = search needs
+
+place-requires : tie.Need-place-requires
+place-requires c κs = search needs
+
+run-inside-requires : tie.Need-run-inside-requires
+run-inside-requires c κs = search needs
+
+same-length : tie.Need-same-length
+same-length c = search needs
+
+returns : tie.Need-returns
+returns c =
+    let a = c .before .before .before .before .before .before .before .before .before .before .before .before .before .before .before .args in
+    let S = c .before .before .before .before .before .before .before .before .before .before .source .result .now in
+    let es : S ≡ sourceOf (a .in-work || a .resynced) (a .work .now) (a .tag .now) =
+    c .before .before .before .before .before .before .before .before .before .before .source .ensures ∙ ap (λ (x : Bool). sourceOf x (a .work .now) (a .tag .now)) (c .before .before .before .before .before .before .before .before .before .before .before .before .either .ensures) in
+    let within : a .to ≤ length S = omega (arith, ap length es, c .before .before .before .before .before .before .before .before .before .before .before .before .before .before .before .pre .1) in
+    let long : length (slice (a .from) (a .to) S) ≡ a .to - a .from = length-slice (a .from) (a .to) S within in
+    let l : a .from + length (slice (a .from) (a .to) S) ≡ a .to = omega (arith, c .before .before .before .before .before .before .before .before .before .before .before .before .before .before .before .pre .0) in
+    let e = sym (c .before .before .before .before .before .before .before .parts .given .1) ∙ c .before .before .before .before .before .before .before .before .before .parse .ensures in
+    shows-run (a .in-work) (a .resynced) (a .version) (a .kind) (a .from) (a .to) (a .tag .now) (a .work .now) S es l (c .before .before .before .before .before .before .before .parts .given .0 .0) e (c .before .before .before .before .before .place .result) (c .before .before .before .before .before .place .ensures)
+    (c .before .before .before .run-inside .result) (c .before .before .before .run-inside .last .0) (c .before .before .before .run-inside .ensures) (c .if1 .taken)
+
+sub-len : tie.Need-sub-len
+sub-len c = search needs
+
+same-length-2 : tie.Need-same-length-2
+same-length-2 c = search needs
+
+returns-2 : tie.Need-returns-2
+returns-2 c =
+    let a = c .before .before .before .before .before .before .before .before .before .args in
+    let S = c .before .before .before .before .source .result .now in
+    let es : S ≡ sourceOf (a .in-work || a .resynced) (a .work .now) (a .tag .now) =
+    c .before .before .before .before .source .ensures ∙ ap (λ (x : Bool). sourceOf x (a .work .now) (a .tag .now)) (c .before .before .before .before .before .before .either .ensures) in
+    shows-refused (a .in-work) (a .resynced) (a .version) (a .kind) (a .from) (a .to) (a .tag .now) (a .work .now) S es (c .before .k .given .0 .0) (sym (c .before .k .given .1) ∙ c .before .before .before .parse .ensures)
+
+same-length-3 : tie.Need-same-length-3
+same-length-3 c = search needs
+
+returns-3 : tie.Need-returns-3
+returns-3 c =
+    let a = c .before .before .before .before .before .before .before .before .before .before .before .before .before .before .before .args in
+    let S = c .before .before .before .before .before .before .before .before .before .before .source .result .now in
+    let es : S ≡ sourceOf (a .in-work || a .resynced) (a .work .now) (a .tag .now) =
+    c .before .before .before .before .before .before .before .before .before .before .source .ensures ∙ ap (λ (x : Bool). sourceOf x (a .work .now) (a .tag .now)) (c .before .before .before .before .before .before .before .before .before .before .before .before .either .ensures) in
+    let within : a .to ≤ length S = omega (arith, ap length es, c .before .before .before .before .before .before .before .before .before .before .before .before .before .before .before .pre .1) in
+    let long : length (slice (a .from) (a .to) S) ≡ a .to - a .from = length-slice (a .from) (a .to) S within in
+    let l : a .from + length (slice (a .from) (a .to) S) ≡ a .to = omega (arith, c .before .before .before .before .before .before .before .before .before .before .before .before .before .before .before .pre .0) in
+    let e = sym (c .before .before .before .before .before .before .before .parts .given .1) ∙ c .before .before .before .before .before .before .before .before .before .parse .ensures in
+    shows-parts (a .in-work) (a .resynced) (a .version) (a .kind) (a .from) (a .to) (a .tag .now) (a .work .now) S es l (c .before .before .before .before .before .before .before .parts .given .0 .0) e (c .before .before .before .before .before .place .result) (c .before .before .before .before .before .place .ensures)
+    (c .before .before .before .run-inside .result) (c .before .before .before .run-inside .last .0) (c .before .before .before .run-inside .ensures) (c .if1 .left) (a .to - a .from) (sym long)
+
+pub shown-body-spec : {M : Type 1} → statement M
+shown-body-spec =
+    tie.close
+    (tie.spec
+    either-requires
+    source-requires
+    parse-requires
+    enum-known-k
+    enum-known-parts
+    place-requires
+    run-inside-requires
+    same-length
+    returns
+    sub-len
+    same-length-2
+    returns-2
+    same-length-3
+    returns-3)
