@@ -5,20 +5,7 @@ use crate::Stop;
 use format::Shown;
 use walk::record::frame_at;
 ghost use mathlib.Core.Path.{_≡_};
-ghost use mathlib.Core.Bool.{true};
-ghost use mathlib.Core.List.{[]};
-ghost use lib.Seq.{slice};
-ghost use Rattle.format.specs.Walk.{frameOf};
 ghost use Rattle.reader.specs.Reader.{stoppedAs, movedTo, answerOf, runStep, stepOf};
-
-// The frame at the reader's place, of those in the work buffer: it needs no room.
-fn shown_in_work(work: &[u8], r: Reader) -> Shown
-    ensures { λ s. ⌜ s ≡ frameOf (r .version) true (r .begin) (r .at) (slice (r .at) (r .end) (now (work .entry))) [] .0 ⌝ }
-{
-    let version = r.version;
-    let mut none = [0u8; 1];
-    frame_at(&mut none[..0], work, version, true, r.begin, r.at, r.end)
-}
 
 impl Reader {
     // The same reader, stopped.
@@ -66,11 +53,16 @@ impl Reader {
     fn go(self, work: &mut [u8], tag: &[u8]) -> Step
         ensures { λ r. ⌜ (r, now (work .exit)) ≡ runStep (self .in_work) self (now (tag .entry)) (now (work .entry)) ⌝ }
     {
-        if self.in_work {
-            return self.answer(shown_in_work(&work[..], self));
-        }
         let version = self.version;
-        self.answer(frame_at(work, tag, version, false, self.begin, self.at, self.end))
+        self.answer(frame_at(
+            work,
+            tag,
+            version,
+            self.in_work,
+            self.begin,
+            self.at,
+            self.end,
+        ))
     }
 
     // Takes the next frame: its record, the end or a refusal, with the moved reader. An ended reader stays ended, a
