@@ -6,6 +6,7 @@ asked too and must agree; places and lengths in the printed line come from it.
 
 A case in stdin, numbers big-endian: edition (1 byte: 2, 3, 4), whether the bytes are a work buffer (1 byte: 0, 1), and 4 bytes
 each: length of the room, first frame byte, place of the frame, end, length of the bytes; then the bytes. The room is filled with A5.
+Bytes that are a work buffer have no room and stay as they are; in the line they stand in the place of the room.
 A line of stdout: number of the case, `nothing`, `refused N`, or
   frame ID KIND NUMBERS whole|short plain|compressed at PLACE tag|work body S L name S L names S L rest S L next PLACE
 with S the start and L the length of a span, then ` room LENGTH HEX` (its first 64 bytes, `-` for none) and, if it is longer, ` sum A B`:
@@ -521,32 +522,33 @@ case("2.4 flagged at a place behind others", 4, f4(b"XYZW", b"\x07") + R3, raw("
 
 
 def answered(c):
-    """The model's answer to a case, and the room then."""
+    """The model's answer to a case, and the work buffer then: the room, or the bytes where they are a work buffer."""
     _, version, octets, _, room_length, _, begin, at, end, in_work = c
     room = bytearray([FILL]) * room_length
+    work = bytearray(octets) if in_work else room
     try:
-        return model.frame_at(room, octets, version, in_work, begin, at, end), room
+        return model.frame_at(room, work if in_work else octets, version, in_work, begin, at, end), work
     except model.Refused as refusal:
-        return refusal.number, room
+        return refusal.number, work
 
 
-def stated(found, octets, room):
+def stated(found, octets, work):
     """The model's answer in the words of the table."""
     if found is None:
         return NOTHING
     if isinstance(found, int):
         return refused(found)
     r, _ = found
-    # where no body was resynchronised, the bytes given are the buffer that it lies in, a work buffer or not
-    source = room if r.in_work and len(room) > 0 else octets
+    source = work if r.in_work else octets
     name, names, rest = (model.part(span, source).hex() for span in (r.name, r.names, r.rest))
     return frame(r.kind, r.numbers, name, names, rest, r.short, r.compressed, r.in_work)
 
 
-def agree(c, found, room):
-    name, _, octets, answer, length, left, *_ = c
-    assert stated(found, octets, room) == answer, (name, stated(found, octets, room), answer)
-    assert room == left + bytes([FILL]) * (length - len(left)), (name, room.hex(), left.hex())
+def agree(c, found, work):
+    name, _, octets, answer, length, left, *_, in_work = c
+    assert stated(found, octets, work) == answer, (name, stated(found, octets, work), answer)
+    expected = octets if in_work else left + bytes([FILL]) * (length - len(left))
+    assert work == expected, (name, work.hex(), expected.hex())
 
 
 def spans(r):
@@ -587,9 +589,9 @@ def main():
     assert len(names) == len(set(names)), "two cases of one name"
     lines = []
     for i, c in enumerate(CASES, 1):
-        found, room = answered(c)
-        agree(c, found, room)
-        lines.append("%d %s %s\n" % (i, answer_words(found), room_words(room)))
+        found, work = answered(c)
+        agree(c, found, work)
+        lines.append("%d %s %s\n" % (i, answer_words(found), room_words(work)))
     folder = Path(__file__).resolve().parent.parent / "crates" / "frames"
     folder.mkdir(exist_ok=True)
     (folder / "stdin").write_bytes(b"".join(map(packed, CASES)))

@@ -1,5 +1,5 @@
-// Replays hand-made frames: reads cases from standard input, and prints for each what stands at its place and what the room
-// holds then. The layout of a case and of a line stands in tests/frames.py.
+// Replays hand-made frames: reads cases from standard input, and prints for each what stands at its place and what the
+// work buffer holds then. The layout of a case and of a line stands in tests/frames.py.
 mod print;
 
 use format::Shown;
@@ -56,25 +56,25 @@ fn answer(shown: Shown) {
     }
 }
 
-// What stands at the place of a case, and the room then.
-fn shown(case: Case, room: &mut [u8], s: &[u8]) {
+// What stands at the place of a case, and the work buffer then.
+fn shown(case: Case, work: &mut [u8], tag: &[u8]) {
     let v = case.version;
     let begin = case.begin as usize;
     let at = case.at as usize;
     let end = case.end as usize;
-    answer(frame_at(room, s, v, case.in_work, begin, at, end));
-    print::room(room);
+    answer(frame_at(work, tag, v, case.in_work, begin, at, end));
+    print::room(work);
     say(b"\n");
 }
 
-// Lends a case its room.
-fn replay(case: Case, s: &[u8]) {
+// Lends a case its room beside the bytes.
+fn replay(case: Case, tag: &[u8]) {
     let mut space = [0xA5u8; 65536];
     let n = io::count(case.room as isize, &space);
-    shown(case, &mut space[..n], s);
+    shown(case, &mut space[..n], tag);
 }
 
-// Reads a case and replays it, and answers whether there was one.
+// Reads a case and replays it, and answers whether there was one. Bytes that are a work buffer are lent as that, with an empty tag.
 fn next(number: u64) -> bool {
     let mut edition = [0u8; 1];
     if io::read_full(0, &mut edition) < 1 {
@@ -84,7 +84,11 @@ fn next(number: u64) -> bool {
     let case = next_case(&edition);
     let mut space = [0u8; 65536];
     let n = next_bytes(&mut space, case.len);
-    replay(case, &space[..n]);
+    if case.in_work {
+        shown(case, &mut space[..n], b"");
+    } else {
+        replay(case, &space[..n]);
+    }
     true
 }
 
