@@ -5,7 +5,7 @@ use native.Mathlib.Numerals.{add-one}
 use native.Mathlib.Omega.{arith}
 use mathlib.Core.List.{List, [], _∷_, _++_, append-assoc}
 use lib.ListN.{length, set, getD, take, drop, length-set, length-append}
-use lib.Seq.{slice, length-slice, sets, sets-eq, length-sets, length-take-le, take-at, drop-at, drop-drop, take-set-le, set-set, set-getD}
+use lib.Seq.{slice, length-slice, sets, sets-eq, length-sets, length-take-le, take-at, drop-at, drop-drop, take-set-le, set-set}
 use Rattle.lists.proofs.Slices.{slice-none, slice-next}
 
 -- ---- a list that is stored
@@ -94,10 +94,6 @@ module _ {o₀ : List ℕ} {p₀ : ℕ} {l₀ o : List ℕ} {p : ℕ} where
   -- a byte over another, at one place
   pub over : {x : ℕ} {l : List ℕ} (y : ℕ) → Storing o₀ p₀ l₀ o p (x ∷ l) → Storing o₀ p₀ l₀ (set (set o p y) p x) (p + 1) l
   over {x} y s = on (sym (set-set o p y x)) (put s)
-
-  -- a byte that stands there already
-  pub keep : {l : List ℕ} (i d : ℕ) → Storing o₀ p₀ l₀ o p l → Storing o₀ p₀ l₀ (set o i (getD o i d)) p l
-  keep i d s = on (sym (set-getD o i d)) s
 
   -- what is left is stored at once: the place behind the whole, and the buffer with it
   pub rest : {l : List ℕ} → Storing o₀ p₀ l₀ o p l → _≡_ {A = ℕ × List ℕ} (p + length l, sets o p l) (p₀ + length l₀, sets o₀ p₀ l₀)
