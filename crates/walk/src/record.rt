@@ -44,7 +44,7 @@ pub enum Lies {
 fn source<'a>(in_work: bool, work: &'a [u8], tag: &'a [u8]) -> &'a [u8]
     ensures { λ r. ⌜ now r ≡ sourceOf «in_work» (now (work .entry)) (now (tag .entry)) ⌝ }
 {
-    if in_work { work } else { tag }
+    if in_work { &work[..] } else { &tag[..] }
 }
 
 // The record of a frame at a place, counted from the first frame byte.
