@@ -10,7 +10,7 @@ use Rattle.format.specs.Ids.{classOf, isUtf8, kindOf}
 use Rattle.format.specs.Frame.{headOf}
 use Rattle.format.specs.Text.{textEnd}
 use Rattle.format.specs.Record.{Rec}
-use Rattle.format.specs.Walk.{walked, frameOf}
+use Rattle.format.specs.Walk.{walked}
 use Rattle.format.specs.Listing.{tagLine, frameLine, endLine, refusedLine}
 use Rattle.format.specs.declared.Version.{Version}
 use Rattle.format.specs.declared.Mode.{Mode}
@@ -20,6 +20,7 @@ use Rattle.unsynch.specs.Puts.{encodedOf, intoOf, inAreaOf, placedOf}
 use Rattle.frame.specs.Bodies.{parsedOf}
 use Rattle.frame.specs.References.{referencesIn, referenceOf, unpackOf}
 use Rattle.walk.specs.Areas.{inArea}
+use Rattle.walk.specs.Sources.{frameIn}
 use Rattle.lines.specs.Placed.{placedOf as lineAt}
 use Rattle.reader.specs.Reader.{headerOf, openOf, stepOf}
 use Rattle.reader.specs.declared.Reader.{Reader}
@@ -96,8 +97,8 @@ walk-one strict v depth s room = one-answer (walked strict v depth s room)
 pub walk-in-one : (strict : Bool) (v : Version) (depth from to split : ℕ) (area : List ℕ) → OneAnswer (inArea strict v depth from to split area)
 walk-in-one strict v depth from to split area = one-answer (inArea strict v depth from to split area)
 
-pub frame-at-one : (v : Version) (inWork : Bool) (begin at : ℕ) (s room : List ℕ) → OneAnswer (frameOf v inWork begin at s room)
-frame-at-one v inWork begin at s room = one-answer (frameOf v inWork begin at s room)
+pub frame-at-one : (v : Version) (inWork : Bool) (begin at end : ℕ) (tag work : List ℕ) → OneAnswer (frameIn v inWork begin at end tag work)
+frame-at-one v inWork begin at end tag work = one-answer (frameIn v inWork begin at end tag work)
 
 -- ---- lines
 
