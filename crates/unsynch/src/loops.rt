@@ -161,9 +161,10 @@ fn drop_bytes(buf: &mut [u8], at: usize, s: &[u8], from: usize, to: usize) -> us
     requires { ⌜ at + length (editedAfter resyncBy (now s) from to) ≤ length (now buf) ⌝ }
     ensures { λ r. ⌜ (r, now (buf .exit)) ≡ stored (editedAfter resyncBy (now (s .entry)) from to) at (now (buf .entry)) ⌝ }
 {
+    let last = to - 1;
     let mut o = at;
     let mut i = from;
-    while i + 2 < to {
+    while i + 1 < last {
         let b = s[i + 1];
         buf[o] = b;
         o += bit(stays(s[i], b));

@@ -14,11 +14,11 @@ use Rattle.unsynch.proofs.loops.drop_bytes.Statement.{statement}
 use Rattle.unsynch.proofs.loops.drop_bytes.Tie as tie
 
 abbrev Inv-loop : tie.InvT-loop
-Inv-loop buf₀ at s from to o₀ i₀ buf o i =
+Inv-loop buf₀ at s from to last o₀ i₀ buf o i =
     (from ≤ i) × (i < to) × Storing buf₀ at (editedAfter resyncBy s from to) buf o (editedAfter resyncBy s i to)
 
 abbrev μ-loop : tie.MeasureT-loop
-μ-loop buf₀ at s from to o₀ i₀ buf o i = to - i
+μ-loop buf₀ at s from to last o₀ i₀ buf o i = to - i
 
 -- the store lies in the buffer, and leaves what is to be left: f says that the byte stays
 turn : (c : tie.After-shared-slice-known2 Inv-loop μ-loop)
@@ -34,6 +34,9 @@ turn c f q e is =
     (stays (a .s .now) (L .i) (a .to) (omega arith) (omega arith) f e)
     (λ z. next-stays (a .s .now) (L .i) (a .to) (omega arith) (omega arith) (sym e ∙ z))
     is
+
+sub-last : tie.Need-sub-last Inv-loop μ-loop
+sub-last c = search needs
 
 loop-holds : tie.Need-loop-holds Inv-loop μ-loop
 loop-holds c = (omega arith, omega arith, begin _ _ _ (omega arith))
@@ -88,6 +91,7 @@ drop-bytes-spec =
     (tie.spec
     Inv-loop
     μ-loop
+    sub-last
     loop-holds
     add-loop
     add-b
