@@ -18,8 +18,8 @@ use Rattle.format.proofs.Encoded.{encode-length}
 use Rattle.writer.specs.Writer.{Adding, appendOf, addOf}
 use Rattle.writer.specs.declared.Writer.{Writer}
 use Rattle.writer.specs.declared.Added.{Added}
-use Rattle.writer.proofs.Firsts.{refused, passed, only}
-use Rattle.writer.proofs.Order.{with-size}
+use Rattle.checks.proofs.Firsts.{refused, passed, only}
+use Rattle.checks.proofs.Order.{with-size}
 
 module _ (w : Writer) (r : Rec) (b : List ℕ) where
   abbrev lost : Bool

@@ -12,7 +12,7 @@ use Rattle.format.specs.declared.Version.{Version}
 use Rattle.format.specs.declared.Version.the-variants.{Id3v22, Id3v23, Id3v24}
 use Rattle.format.specs.declared.Mode.{Mode}
 use Rattle.format.proofs.Checks.{none-refused, first-none}
-use Rattle.writer.specs.Sizes.{sizeRefusal}
+use Rattle.checks.specs.Sizes.{sizeRefusal}
 use Rattle.writer.specs.Pens.{Sized}
 
 same-size : (v : Version) (m : Mode) (r : Rec) → sizeRefusal v (length (storedOf v m (bodyBytes (r .content)))) ≡ first (sizeChecks v m r)

@@ -1,11 +1,6 @@
 -- Worked cases of the writer, then laws.
 pub mod Cases
-pub mod Firsts
-pub mod Headings
-pub mod Closed
-pub mod Fitting
 pub mod Lengths
-pub mod Order
 pub mod Adds
 pub mod Ranges
 pub mod Puts

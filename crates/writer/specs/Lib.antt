@@ -1,8 +1,6 @@
 -- What writing answers, from document 01.
 pub mod Writer
 pub mod Answers
-pub mod Checks
-pub mod Sizes
 pub mod Pens
 pub mod Layouts
 pub mod Smalls

@@ -1,11 +1,11 @@
 // Adding a record: its frame behind those that the collecting buffer has.
 use crate::Added;
 use crate::Writer;
-use crate::checks::record_check;
 use crate::frames::measure_frame;
 use crate::frames::put_frame;
-use crate::ids::is_lost;
-use crate::sizes::size_check;
+use checks::ids::is_lost;
+use checks::record::record_check;
+use checks::sizes::size_check;
 use format::Heading;
 use format::Version;
 use format::refusals::NO_ROOM;

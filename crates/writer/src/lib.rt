@@ -2,19 +2,13 @@
 pub mod add;
 pub mod begin;
 mod bodies;
-mod checks;
 mod counter;
 pub mod finish;
 mod frames;
-mod ids;
-mod names;
 mod numbers;
 mod pack;
 mod pens;
-mod sizes;
 mod small;
-mod tables;
-mod texts;
 
 use format::Mode;
 use format::Version;

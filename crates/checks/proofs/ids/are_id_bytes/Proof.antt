@@ -1,0 +1,44 @@
+-- `writer::ids::are_id_bytes` meets its contract. Assumes nothing.
+use mathlib.Core.Path.{sym, _∙_}
+use borrow.Author.Tests.{not-true, not-false}
+use Rattle.checks.proofs.Headings.{three-bytes}
+use borrow.Author.Needs.{needs}
+use Rattle.checks.proofs.ids.are_id_bytes.Statement.{statement}
+use Rattle.checks.proofs.ids.are_id_bytes.Tie as tie
+
+is-id-byte-requires : tie.Need-is-id-byte-requires
+is-id-byte-requires c κs = search needs
+
+returns : tie.Need-returns
+returns c =
+    let high = sym (c .before .is-id-byte .ensures) ∙ not-true _ (c .if1 .taken) in
+    rw (three-bytes, high)
+
+is-id-byte-requires-2 : tie.Need-is-id-byte-requires-2
+is-id-byte-requires-2 c κs = search needs
+
+returns-2 : tie.Need-returns-2
+returns-2 c =
+    let high = sym (c .before .before .before .is-id-byte .ensures) ∙ not-false _ (c .before .before .if1 .left) in
+    let middle = sym (c .before .is-id-byte2 .ensures) ∙ not-true _ (c .if2 .taken) in
+    rw (three-bytes, high, middle)
+
+is-id-byte-requires-3 : tie.Need-is-id-byte-requires-3
+is-id-byte-requires-3 c κs = search needs
+
+returns-3 : tie.Need-returns-3
+returns-3 c =
+    let high = sym (c .before .before .before .before .is-id-byte .ensures) ∙ not-false _ (c .before .before .before .if1 .left) in
+    let middle = sym (c .before .before .is-id-byte2 .ensures) ∙ not-false _ (c .before .if2 .left) in
+    rw (three-bytes, high, middle) (c .is-id-byte3 .ensures)
+
+pub are-id-bytes-spec : {M : Type 1} → statement M
+are-id-bytes-spec =
+    tie.close
+    (tie.spec
+    is-id-byte-requires
+    returns
+    is-id-byte-requires-2
+    returns-2
+    is-id-byte-requires-3
+    returns-3)

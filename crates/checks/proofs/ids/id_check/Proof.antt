@@ -1,0 +1,80 @@
+-- `writer::ids::id_check` meets its contract: the id, then the kind under it, then the marks. Assumes nothing.
+use mathlib.Core.Path.{_≡_, refl, sym, ap, _∙_}
+use mathlib.Core.List.{List, [], _∷_}
+use Prim.Native.Nat.{ℕ}
+use borrow.Author.Tests.{not-true, not-false}
+use Rattle.format.specs.Bytes.{pick, first}
+use Rattle.format.specs.Ids.{kindNumber}
+use Rattle.format.specs.Record.{recOf}
+use Rattle.format.specs.Encode.{idCheck, rawCheck}
+use Rattle.checks.proofs.Firsts.{refused, passed}
+use Rattle.checks.proofs.Headings.{no-id, from-kinds, marks}
+use borrow.Author.Needs.{needs}
+use Rattle.checks.proofs.ids.id_check.Statement.{statement}
+use Rattle.checks.proofs.ids.id_check.Tie as tie
+
+-- behind the kinds' refusal
+kinds : (c : tie.After-kinds-refusal) (name names rest deviations : List ℕ) →
+    let a = c .before .before .before .before .before .before .args in
+    let r = recOf (a .heading) name names rest deviations in
+    first (idCheck (a .version) r ∷ rawCheck (a .version) r ∷ []) ≡ first (c .kinds-refusal .result ∷ pick (a .heading .short) 25 0 ∷ pick (a .heading .compressed) 25 0 ∷ [])
+kinds c name names rest deviations =
+    let a = c .before .before .before .before .before .before .args in
+    let is = sym (c .before .before .before .before .before .is-id .ensures) ∙ not-false _ (c .before .before .before .before .if1 .left) in
+    let own = c .before .before .before .fields-number .ensures name names rest deviations in
+    let said = c .before .kind-number .ensures ∙ ap kindNumber (c .before .before .kind-of .ensures) in
+    from-kinds (a .version) (a .heading) name names rest deviations is _ _ (c .kinds-refusal .result) own said (c .kinds-refusal .ensures)
+
+is-id-requires : tie.Need-is-id-requires
+is-id-requires c κs = search needs
+
+returns : tie.Need-returns
+returns c name names rest deviations =
+    let a = c .before .before .args in
+    no-id (a .version) (a .heading) name names rest deviations (sym (c .before .is-id .ensures) ∙ not-true _ (c .if1 .taken))
+
+fields-number-requires : tie.Need-fields-number-requires
+fields-number-requires c κs = search needs
+
+kind-of-requires : tie.Need-kind-of-requires
+kind-of-requires c κs = search needs
+
+kind-number-requires : tie.Need-kind-number-requires
+kind-number-requires c κs = search needs
+
+kinds-refusal-requires : tie.Need-kinds-refusal-requires
+kinds-refusal-requires c κs = search needs
+
+returns-2 : tie.Need-returns-2
+returns-2 c name names rest deviations = sym (kinds (c .before) name names rest deviations ∙ refused _ _ (c .if2 .taken))
+
+returns-3 : tie.Need-returns-3
+returns-3 c name names rest deviations =
+    let a = c .before .before .before .before .before .before .before .before .args in
+    let marked = kinds (c .before .before) name names rest deviations ∙ passed _ _ (c .before .if2 .left) in
+    sym (marked ∙ marks {compressed = a .heading .compressed} (c .if3 .taken) refl)
+
+returns-4 : tie.Need-returns-4
+returns-4 c name names rest deviations =
+    let marked = kinds (c .before .before .before) name names rest deviations ∙ passed _ _ (c .before .before .if2 .left) in
+    sym (marked ∙ marks (c .before .if3 .left) (c .if4 .taken))
+
+returns-5 : tie.Need-returns-5
+returns-5 c name names rest deviations =
+    let marked = kinds (c .before .before .before) name names rest deviations ∙ passed _ _ (c .before .before .if2 .left) in
+    sym (marked ∙ marks (c .before .if3 .left) (c .if4 .left))
+
+pub id-check-spec : {M : Type 1} → statement M
+id-check-spec =
+    tie.close
+    (tie.spec
+    is-id-requires
+    returns
+    fields-number-requires
+    kind-of-requires
+    kind-number-requires
+    kinds-refusal-requires
+    returns-2
+    returns-3
+    returns-4
+    returns-5)

@@ -1,0 +1,68 @@
+-- `writer::ids::is_lost` meets its contract: the tables are the definition's lists. Assumes nothing.
+use borrow.Author.Tests.{not-true, not-false}
+use borrow.Author.Needs.{needs}
+use Rattle.checks.proofs.ids.is_lost.Statement.{statement}
+use Rattle.checks.proofs.ids.is_lost.Tie as tie
+
+returns : tie.Need-returns
+returns c = rw (not-true (c .before .args .altered) (c .if1 .taken))
+
+enum-told : tie.Need-enum-told
+enum-told c = search needs
+
+slice-aggregate-is-among : tie.Need-slice-aggregate-is-among
+slice-aggregate-is-among c = search needs
+
+is-among-requires : tie.Need-is-among-requires
+is-among-requires c κs = search needs
+
+enum-told-2 : tie.Need-enum-told-2
+enum-told-2 c = search needs
+
+slice-aggregate-is-among-2 : tie.Need-slice-aggregate-is-among-2
+slice-aggregate-is-among-2 c = search needs
+
+is-among-requires-2 : tie.Need-is-among-requires-2
+is-among-requires-2 c κs = search needs
+
+enum-told-3 : tie.Need-enum-told-3
+enum-told-3 c = search needs
+
+slice-aggregate-is-among-3 : tie.Need-slice-aggregate-is-among-3
+slice-aggregate-is-among-3 c = search needs
+
+is-among-requires-3 : tie.Need-is-among-requires-3
+is-among-requires-3 c κs = search needs
+
+returns-2 : tie.Need-returns-2
+returns-2 c =
+    let altered = not-false (c .before .before .before .before .before .args .altered) (c .before .before .before .before .if1 .left) in
+    rw (altered, c .before .before .enum-told .given .1) (c .is-among .ensures)
+
+returns-3 : tie.Need-returns-3
+returns-3 c =
+    let altered = not-false (c .before .before .before .before .before .args .altered) (c .before .before .before .before .if1 .left) in
+    rw (altered, c .before .before .enum-told2 .given .1) (c .is-among2 .ensures)
+
+returns-4 : tie.Need-returns-4
+returns-4 c =
+    let altered = not-false (c .before .before .before .before .before .args .altered) (c .before .before .before .before .if1 .left) in
+    rw (altered, c .before .before .enum-told3 .given .1) (c .is-among3 .ensures)
+
+pub is-lost-spec : {M : Type 1} → statement M
+is-lost-spec =
+    tie.close
+    (tie.spec
+    returns
+    enum-told
+    slice-aggregate-is-among
+    is-among-requires
+    enum-told-2
+    slice-aggregate-is-among-2
+    is-among-requires-2
+    enum-told-3
+    slice-aggregate-is-among-3
+    is-among-requires-3
+    returns-2
+    returns-3
+    returns-4)

@@ -1,0 +1,44 @@
+-- `writer::checks::record_check` meets its contract: the heading, then the early checks, then the late ones. Assumes nothing.
+use mathlib.Core.Path.{sym, _∙_}
+use Rattle.checks.proofs.Firsts.{refused, passed}
+use Rattle.checks.proofs.Order.{in-steps}
+use borrow.Author.Needs.{needs}
+use Rattle.checks.proofs.record.record_check.Statement.{statement}
+use Rattle.checks.proofs.record.record_check.Tie as tie
+
+id-check-requires : tie.Need-id-check-requires
+id-check-requires c κs = search needs
+
+returns : tie.Need-returns
+returns c =
+    let a = c .before .before .before .before .before .before .args in
+    rw (in-steps, ← c .before .id-check .ensures (a .name .now) (a .names .now) (a .rest .now) (a .deviations .now)) (sym (refused _ _ (c .if1 .taken)))
+
+early-check-requires : tie.Need-early-check-requires
+early-check-requires c κs = search needs
+
+returns-2 : tie.Need-returns-2
+returns-2 c =
+    let a = c .before .before .before .before .before .before .before .before .args in
+    rw (in-steps, ← c .before .before .before .id-check .ensures (a .name .now) (a .names .now) (a .rest .now) (a .deviations .now), ← c .before .early-check .ensures (a .rest .now) (a .deviations .now))
+    (sym (passed _ _ (c .before .before .if1 .left) ∙ refused _ _ (c .if2 .taken)))
+
+late-check-requires : tie.Need-late-check-requires
+late-check-requires c κs = search needs
+
+returns-3 : tie.Need-returns-3
+returns-3 c =
+    let a = c .before .before .before .before .before .before .before .before .before .args in
+    rw (in-steps, ← c .before .before .before .before .id-check .ensures (a .name .now) (a .names .now) (a .rest .now) (a .deviations .now), ← c .before .before .early-check .ensures (a .rest .now) (a .deviations .now))
+    (c .late-check .ensures (a .name .now) (a .names .now) ∙ sym (passed _ _ (c .before .before .before .if1 .left) ∙ passed _ _ (c .before .if2 .left)))
+
+pub record-check-spec : {M : Type 1} → statement M
+record-check-spec =
+    tie.close
+    (tie.spec
+    id-check-requires
+    returns
+    early-check-requires
+    returns-2
+    late-check-requires
+    returns-3)

@@ -1,0 +1,80 @@
+-- `writer::tables::deviations_check` meets its contract: the deviations, then the steps, then 34. Assumes nothing.
+use mathlib.Core.Path.{_≡_, sym, _∙_}
+use mathlib.Core.Bool.{true, _&&_}
+use Prim.Native.Nat.{_%_, _^_}
+use lib.ListN.{length}
+use lib.Dec.{eqb, ltb}
+use borrow.Author.Tests.{not-true, not-false, eq-eqb, ne-eqb}
+use Rattle.format.specs.Bytes.{first}
+use Rattle.format.specs.Table.{fit}
+use Rattle.checks.proofs.Firsts.{only}
+use borrow.Author.Needs.{needs}
+use Rattle.checks.proofs.tables.deviations_check.Statement.{statement}
+use Rattle.checks.proofs.tables.deviations_check.Tie as tie
+
+even : (c : tie.Else1) → eqb (length (c .before .before .args .deviations .now) % 2) 0 ≡ true
+even c = eq-eqb _ _ (c .if1 .left)
+
+fitting : (c : tie.Else2) → let a = c .before .before .before .before .args in (eqb (length (a .deviations .now) % 2) 0 && fit (a .v) (a .w) (a .deviations .now)) ≡ true
+fitting c = rw (even (c .before .before)) (sym (c .before .all-fit .ensures) ∙ not-false _ (c .if2 .left))
+
+short : (c : tie.Else3) → ltb (c .before .before .before .before .before .before .args .bytes) (2 ^ 24) ≡ true
+short c = sym (c .before .fits2 .ensures) ∙ not-false _ (c .if3 .left)
+
+returns : tie.Need-returns
+unfolding first
+returns c = rw (ne-eqb _ _ (c .if1 .taken))
+
+all-fit-requires : tie.Need-all-fit-requires
+all-fit-requires c κs = search needs
+
+returns-2 : tie.Need-returns-2
+unfolding first
+returns-2 c =
+    let over = sym (c .before .all-fit .ensures) ∙ not-true _ (c .if2 .taken) in
+    rw (even (c .before .before), over)
+
+fits-requires : tie.Need-fits-requires
+fits-requires c κs = search needs
+
+returns-3 : tie.Need-returns-3
+unfolding first
+returns-3 c =
+    let over = sym (c .before .fits2 .ensures) ∙ not-true _ (c .if3 .taken) in
+    rw (fitting (c .before .before), over)
+
+fits-requires-2 : tie.Need-fits-requires-2
+fits-requires-2 c κs = search needs
+
+returns-4 : tie.Need-returns-4
+unfolding first
+returns-4 c =
+    let over = sym (c .before .fits3 .ensures) ∙ not-true _ (c .if4 .taken) in
+    rw (fitting (c .before .before .before .before), short (c .before .before), over)
+
+sum-of-requires : tie.Need-sum-of-requires
+sum-of-requires c κs = search needs
+
+odd-check-requires : tie.Need-odd-check-requires
+odd-check-requires c κs = search needs
+
+returns-5 : tie.Need-returns-5
+unfolding first
+returns-5 c =
+    let brief = sym (c .before .before .before .fits3 .ensures) ∙ not-false _ (c .before .before .if4 .left) in
+    rw (fitting (c .before .before .before .before .before .before), short (c .before .before .before .before), brief, ← c .before .sum-of .ensures) (c .odd-check .ensures ∙ sym (only _))
+
+pub deviations-check-spec : {M : Type 1} → statement M
+deviations-check-spec =
+    tie.close
+    (tie.spec
+    returns
+    all-fit-requires
+    returns-2
+    fits-requires
+    returns-3
+    fits-requires-2
+    returns-4
+    sum-of-requires
+    odd-check-requires
+    returns-5)
