@@ -4,6 +4,7 @@ use Prim.Native.Nat.{ℕ}
 use mathlib.Core.Bool.{Bool}
 use mathlib.Core.List.{List}
 use lib.ListN.{length}
+use Rattle.format.specs.Bytes.{first}
 use Rattle.format.specs.Numbers.{bytesOf, fromSynchsafe}
 use Rattle.format.specs.Unsynch.{resynchronised, unsynchronised}
 use Rattle.format.specs.Ids.{classOf, isUtf8, kindOf}
@@ -11,6 +12,7 @@ use Rattle.format.specs.Frame.{headOf}
 use Rattle.format.specs.Text.{textEnd}
 use Rattle.format.specs.Record.{Rec}
 use Rattle.format.specs.Walk.{walked}
+use Rattle.format.specs.Encode.{recordChecks, isLost}
 use Rattle.format.specs.Listing.{tagLine, frameLine, endLine, refusedLine}
 use Rattle.format.specs.declared.Version.{Version}
 use Rattle.format.specs.declared.Mode.{Mode}
@@ -24,6 +26,7 @@ use Rattle.walk.specs.Sources.{frameIn}
 use Rattle.lines.specs.Placed.{placedOf as lineAt}
 use Rattle.reader.specs.Reader.{headerOf, openOf, stepOf}
 use Rattle.reader.specs.declared.Reader.{Reader}
+use Rattle.checks.specs.Sizes.{sizeRefusal}
 use Rattle.writer.specs.Writer.{beginOf, beginPlainOf, addOf, finishOf}
 use Rattle.writer.specs.declared.Writer.{Writer}
 use Rattle.listed.specs.Lines.{linesOf}
@@ -124,6 +127,17 @@ open-one tag work = one-answer (openOf tag work)
 
 pub step-one : (r : Reader) (tag work : List ℕ) → OneAnswer (stepOf r tag work)
 step-one r tag work = one-answer (stepOf r tag work)
+
+-- ---- checks
+
+pub record-check-one : (v : Version) (r : Rec) → OneAnswer (first (recordChecks v r))
+record-check-one v r = one-answer (first (recordChecks v r))
+
+pub is-lost-one : (v : Version) (altered : Bool) (id : ℕ) → OneAnswer (isLost v altered id)
+is-lost-one v altered id = one-answer (isLost v altered id)
+
+pub size-check-one : (v : Version) (size : ℕ) → OneAnswer (sizeRefusal v size)
+size-check-one v size = one-answer (sizeRefusal v size)
 
 -- ---- writer
 
