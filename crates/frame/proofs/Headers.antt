@@ -14,7 +14,7 @@ use Rattle.format.specs.Frame.{headLen, frameSize, isEncrypted, isGrouped, isCo
 use Rattle.format.specs.declared.Version.{Version}
 use Rattle.format.specs.declared.Head.{Head}
 use Rattle.format.proofs.Checks.{none-of, none-refused, none-else, first-stops}
-use Rattle.frame.specs.Headers.{firstChecks, Tested, Begun}
+use Rattle.frame.specs.Headers.{firstChecks, Begun}
 
 -- ---- the first checks
 
@@ -50,6 +50,12 @@ module _ (v : Version) (depth : ℕ) (s : List ℕ) where
     refused : (getD s 0 0 ≡ 0 → ⊥) → (k : ℕ) → (k ≡ 0 → ⊥) → first (frameChecks v depth s) ≡ k → Head.Refused k ≡ headOf v depth s
     unfolding headOf
     refused some k ne e = rw (le-ltb (length s) (headLen v) long, ne-eqb (getD s 0 0) 0 some, e, ne-eqb k 0 ne)
+
+-- a frame begins, and its first checks give k
+pub record Tested (v : Version) (depth k : ℕ) (s : List ℕ) : Type 0 where
+  pub long : headLen v ≤ length s
+  pub some : getD s 0 0 ≡ 0 → ⊥
+  pub given : k ≡ first (take 4 (frameChecks v depth s))
 
 -- the first checks are those of an edition whose flags say so
 pub tested : {v : Version} {depth k : ℕ} {s : List ℕ} {encrypted grouped : Bool} → idLen v ≡ 4 → headLen v ≤ length s → (getD s 0 0 ≡ 0 → ⊥)

@@ -208,11 +208,5 @@ guards-turn guard prev f x s is = rw (← is) (by f)
 
 -- ---- what a size that was measured says
 
-pub sized-below : {exact r : ℕ} → Sized exact r → r < 2 ^ 28 → r ≡ exact
-sized-below s h = ⊎-elim (λ e. e) (λ l. absurd (omega arith)) s
-
-pub sized-beyond : {exact r : ℕ} → Sized exact r → 2 ^ 28 ≤ r → 2 ^ 28 ≤ exact
-sized-beyond s h = ⊎-elim (λ e. omega arith) (λ l. l .0) s
-
 pub paced-sized : {exact r : Pen} → Paced exact r → Sized (exact .at) (r .at)
 paced-sized p = ⊎-elim (λ e. inl (ap (λ (z : Pen). z .at) e)) (λ l. inr l) p

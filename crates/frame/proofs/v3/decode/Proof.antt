@@ -3,8 +3,7 @@ use mathlib.Core.Path.{refl, ap, _∙_}
 use borrow.Author.Needs.{needs}
 use Rattle.format.specs.Frame.{headOf}
 use Rattle.format.specs.declared.Version.the-variants.{Id3v23}
-use Rattle.frame.specs.Headers.{Tested}
-use Rattle.frame.proofs.Headers.{tested, ends-short, ends-padded, refused-first, begun}
+use Rattle.frame.proofs.Headers.{Tested, tested, ends-short, ends-padded, refused-first, begun}
 use Rattle.frame.proofs.v3.decode.Statement.{statement}
 use Rattle.frame.proofs.v3.decode.Tie as tie
 

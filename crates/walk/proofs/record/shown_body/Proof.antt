@@ -1,6 +1,6 @@
 -- `walk::record::shown_body` meets its contract. Assumes nothing.
 use mathlib.Core.Path.{_≡_, sym, ap, _∙_}
-use Prim.Native.Nat.{_+_, _-_, _≤_}
+use Prim.Native.Nat.{_+_, _-_}
 use native.Mathlib.Omega.{arith}
 use mathlib.Core.Bool.{Bool, _||_}
 use lib.ListN.{length}
@@ -32,21 +32,29 @@ place-requires c κs = search needs
 run-inside-requires : tie.Need-run-inside-requires
 run-inside-requires c κs = search needs
 
+-- of a body that was read: its source, how long it is, and where it ends
+within : (d : tie.After-run-inside)
+    → let a = d .before .before .before .before .before .before .before .before .before .before .before .before .args in
+    let S = d .before .before .before .before .before .before .before .source .result .now in
+    (S ≡ sourceOf (a .in-work || a .resynced) (a .work .now) (a .tag .now))
+    × (length (slice (a .from) (a .to) S) ≡ a .to - a .from)
+    × (a .from + length (slice (a .from) (a .to) S) ≡ a .to)
+within d =
+    let a = d .before .before .before .before .before .before .before .before .before .before .before .before .args in
+    let S = d .before .before .before .before .before .before .before .source .result .now in
+    let es : S ≡ sourceOf (a .in-work || a .resynced) (a .work .now) (a .tag .now) =
+    d .before .before .before .before .before .before .before .source .ensures ∙ ap (λ (x : Bool). sourceOf x (a .work .now) (a .tag .now)) (d .before .before .before .before .before .before .before .before .before .either .ensures) in
+    let long : length (slice (a .from) (a .to) S) ≡ a .to - a .from = length-slice (a .from) (a .to) S (omega (arith, ap length es, d .before .before .before .before .before .before .before .before .before .before .before .before .pre .1)) in
+    (es, long, omega (arith, d .before .before .before .before .before .before .before .before .before .before .before .before .pre .0))
+
 same-length : tie.Need-same-length
 same-length c = search needs
 
 returns : tie.Need-returns
 returns c =
-    let a = c .before .before .before .before .before .before .before .before .before .before .before .before .before .before .before .args in
-    let S = c .before .before .before .before .before .before .before .before .before .before .source .result .now in
-    let es : S ≡ sourceOf (a .in-work || a .resynced) (a .work .now) (a .tag .now) =
-    c .before .before .before .before .before .before .before .before .before .before .source .ensures ∙ ap (λ (x : Bool). sourceOf x (a .work .now) (a .tag .now)) (c .before .before .before .before .before .before .before .before .before .before .before .before .either .ensures) in
-    let within : a .to ≤ length S = omega (arith, ap length es, c .before .before .before .before .before .before .before .before .before .before .before .before .before .before .before .pre .1) in
-    let long : length (slice (a .from) (a .to) S) ≡ a .to - a .from = length-slice (a .from) (a .to) S within in
-    let l : a .from + length (slice (a .from) (a .to) S) ≡ a .to = omega (arith, c .before .before .before .before .before .before .before .before .before .before .before .before .before .before .before .pre .0) in
-    let e = sym (c .before .before .before .before .before .before .before .parts .given .1) ∙ c .before .before .before .before .before .before .before .before .before .parse .ensures in
-    shows-run (a .in-work) (a .resynced) (a .version) (a .kind) (a .from) (a .to) (a .tag .now) (a .work .now) S es l (c .before .before .before .before .before .before .before .parts .given .0 .0) e (c .before .before .before .before .before .place .result) (c .before .before .before .before .before .place .ensures)
-    (c .before .before .before .run-inside .result) (c .before .before .before .run-inside .last .0) (c .before .before .before .run-inside .ensures) (c .if1 .taken)
+    let d = c .before .before .before in
+    let k = within d in
+    shows-run _ _ _ _ _ _ _ _ _ (k .0) (k .2) _ (sym (d .before .before .before .before .parts .given .1) ∙ d .before .before .before .before .before .before .parse .ensures) _ (d .before .before .place .ensures) _ _ (d .run-inside .ensures) (c .if1 .taken)
 
 sub-len : tie.Need-sub-len
 sub-len c = search needs
@@ -67,16 +75,9 @@ same-length-3 c = search needs
 
 returns-3 : tie.Need-returns-3
 returns-3 c =
-    let a = c .before .before .before .before .before .before .before .before .before .before .before .before .before .before .before .args in
-    let S = c .before .before .before .before .before .before .before .before .before .before .source .result .now in
-    let es : S ≡ sourceOf (a .in-work || a .resynced) (a .work .now) (a .tag .now) =
-    c .before .before .before .before .before .before .before .before .before .before .source .ensures ∙ ap (λ (x : Bool). sourceOf x (a .work .now) (a .tag .now)) (c .before .before .before .before .before .before .before .before .before .before .before .before .either .ensures) in
-    let within : a .to ≤ length S = omega (arith, ap length es, c .before .before .before .before .before .before .before .before .before .before .before .before .before .before .before .pre .1) in
-    let long : length (slice (a .from) (a .to) S) ≡ a .to - a .from = length-slice (a .from) (a .to) S within in
-    let l : a .from + length (slice (a .from) (a .to) S) ≡ a .to = omega (arith, c .before .before .before .before .before .before .before .before .before .before .before .before .before .before .before .pre .0) in
-    let e = sym (c .before .before .before .before .before .before .before .parts .given .1) ∙ c .before .before .before .before .before .before .before .before .before .parse .ensures in
-    shows-parts (a .in-work) (a .resynced) (a .version) (a .kind) (a .from) (a .to) (a .tag .now) (a .work .now) S es l (c .before .before .before .before .before .before .before .parts .given .0 .0) e (c .before .before .before .before .before .place .result) (c .before .before .before .before .before .place .ensures)
-    (c .before .before .before .run-inside .result) (c .before .before .before .run-inside .last .0) (c .before .before .before .run-inside .ensures) (c .if1 .left) (a .to - a .from) (sym long)
+    let d = c .before .before .before in
+    let k = within d in
+    shows-parts _ _ _ _ _ _ _ _ _ (k .0) (k .2) _ (sym (d .before .before .before .before .parts .given .1) ∙ d .before .before .before .before .before .before .parse .ensures) _ (d .before .before .place .ensures) _ _ (d .run-inside .ensures) (c .if1 .left) _ (sym (k .1))
 
 pub shown-body-spec : {M : Type 1} → statement M
 shown-body-spec =
