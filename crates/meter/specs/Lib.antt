@@ -1,0 +1,3 @@
+-- What the meter answers: the reader's steps, repeated.
+pub mod Meter
+pub mod Answers
