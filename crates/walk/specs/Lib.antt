@@ -4,3 +4,4 @@ pub mod Steps
 pub mod Areas
 pub mod Sources
 pub mod Openings
+pub mod Passing

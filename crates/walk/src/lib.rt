@@ -2,6 +2,7 @@
 // the answers mean stands in specs/.
 mod choices;
 mod inside;
+pub mod passing;
 pub mod record;
 pub mod run;
 mod steps;
