@@ -1,6 +1,6 @@
 -- What the proofs use.
-mod Headers
-mod Utf8
+pub mod Headers
+pub mod Utf8
 mod Words
 mod Ends
 mod Children
