@@ -9,3 +9,4 @@ pub mod Bounds
 pub mod Metering
 pub mod Money
 pub mod Samples
+pub mod MoneySamples
