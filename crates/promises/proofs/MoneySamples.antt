@@ -20,7 +20,7 @@ use Rattle.meter.specs.Meter.{meterOpenOf, nextIn, nextOf}
 use Rattle.meter.specs.declared.Meter.{Meter}
 use Rattle.promises.specs.Written.{Written}
 use Rattle.promises.specs.Reading.{Ending, ended, refused}
-use Rattle.promises.specs.Metering.{Counted, countersOf, Metering, meterFrom, meterAll}
+use Rattle.promises.specs.Metering.{Counted, countersOf, meterFrom, meterAll}
 use Rattle.promises.specs.Money.{Clear, total}
 use Rattle.promises.specs.Samples.{sampleOf}
 use Rattle.promises.proofs.Money.{meter-written}
