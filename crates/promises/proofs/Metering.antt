@@ -55,6 +55,7 @@ abbrev pub framesFrom : ℕ → List Rec → ℕ
 framesFrom n [] = n
 framesFrom n (r ∷ rs) = framesFrom (oneMore n) rs
 
+-- what a metering from m on gives, where this is what the reader reads from there
 pub record Meters (v : Version) (m : Meter) (read : Reading) (o : Metering) : Type 0 where
   pub counted : o .counted ≡ countersFrom (m .frames) (read .0)
   pub ending : o .ending ≡ read .1
@@ -122,7 +123,7 @@ module _ (v : Version) (n k : ℕ) (tag : List ℕ)
   on-meters m work left (Step.End r) e kept fin = stops v m r ended
   on-meters m work left (Step.Refused j r) e kept fin = stops v m r (refused j)
 
--- In as many calls as the reader has steps, if these are enough.
+-- In at least as many calls as the reader has steps, if these are enough.
 pub from-meters : (v : Version) (n k : ℕ) (tag : List ℕ) (m : Meter) (work : List ℕ) → n ≤ k → m .reader .version ≡ v
     → (readFrom n tag (m .reader) work .1 ≡ unfinished → ⊥) → Meters v m (readFrom n tag (m .reader) work) (meterFrom k tag m work)
 unfolding readFrom meterFrom
