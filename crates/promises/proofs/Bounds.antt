@@ -85,6 +85,18 @@ pub step-ahead : (r : Reader) (tag work : List ℕ) (rec : Record) (r′ : Reade
 unfolding stepOf
 step-ahead r tag work rec r′ e = stop-ahead (r .stop) r tag work rec r′ e
 
+stop-version : (x : Stop) (r : Reader) (tag work : List ℕ) (rec : Record) (r′ : Reader) → stepAs x r tag work .0 ≡ Step.Frame rec r′ → r′ .version ≡ r .version
+stop-version Stop.Running r tag work rec r′ e =
+    let m = frame-shown (shown (r .in_work) r tag work) r rec r′ (sym (shows (r .in_work) r tag work) ∙ e) in
+    ap (λ (x : Reader). x .version) (m .1 .1)
+stop-version Stop.Ended r tag work rec r′ e = cc
+stop-version (Stop.Failed k) r tag work rec r′ e = cc
+
+-- The edition stays.
+pub step-version : (r : Reader) (tag work : List ℕ) (rec : Record) (r′ : Reader) → stepOf r tag work .0 ≡ Step.Frame rec r′ → r′ .version ≡ r .version
+unfolding stepOf
+step-version r tag work rec r′ e = stop-version (r .stop) r tag work rec r′ e
+
 -- ---- any number of steps
 
 -- what n steps found in so many bytes, some of them spare

@@ -6,4 +6,7 @@ pub mod Stepping
 pub mod RoundTrip
 pub mod NoSync
 pub mod Bounds
+pub mod Metering
+pub mod Money
 pub mod Samples
+pub mod MoneySamples

@@ -2,4 +2,6 @@
 pub mod Written
 pub mod Reading
 pub mod Promises
+pub mod Metering
+pub mod Money
 pub mod Samples

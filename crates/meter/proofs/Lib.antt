@@ -1,0 +1,2 @@
+-- Laws of what the meter answers.
+pub mod Nexts

@@ -1,0 +1,123 @@
+-- What is promised of the meter, on the definitions alone: what is counted is what was read, and what was written; and the marks are true. Assumes nothing.
+use mathlib.Core.Path.{_≡_}
+use Prim.Native.Nat.{ℕ, _+_, _%_, _^_, _≤_}
+use mathlib.Core.Bool.{Bool, true, false, _&&_, _||_}
+use mathlib.Core.Logic.{_↔_}
+use mathlib.Core.List.{List, [], _∷_}
+use lib.ListN.{length}
+use lib.Dec.{eqb}
+use Rattle.format.specs.Bytes.{pick}
+use Rattle.format.specs.Header.{editionOf, versionOf}
+use Rattle.format.specs.Record.{Content, text, popularimeter, table, chapter, contents, raw, Rec}
+use Rattle.format.specs.declared.Version.{Version}
+use Rattle.meter.specs.Meter.{isMissing, meterOpenOf, isMeterId, nextOf}
+use Rattle.meter.specs.declared.Meter.{Meter}
+use Rattle.meter.specs.declared.MeterOpened.{MeterOpened}
+use Rattle.meter.specs.declared.Next.{Next}
+use Rattle.promises.specs.Written.{Written}
+use Rattle.promises.specs.Reading.{ended, unfinished, readAll}
+use Rattle.promises.specs.Metering.{Counted, countersOf, meterAll}
+
+-- ---- the marks
+
+-- whether a record is short
+abbrev pub anyShort : List Rec → Bool
+anyShort [] = false
+anyShort (r ∷ rs) = r .short || anyShort rs
+
+-- whether a record is compressed under a popularimeter's id
+abbrev pub anyPacked : Version → List Rec → Bool
+anyPacked v [] = false
+anyPacked v (r ∷ rs) = (r .compressed && isMeterId v (r .id)) || anyPacked v rs
+
+-- what a meter says of a tag and of the records in it is true
+pub record Marked (tag : List ℕ) (records : List Rec) (m : Meter) : Type 0 where
+  pub short : m .short ≡ anyShort records
+  pub compressed : m .compressed ≡ anyPacked (versionOf (editionOf tag)) records
+  pub missing : m .missing ≡ isMissing tag
+  pub frames : m .frames ≡ length records % 2 ^ 64
+
+-- no meter where opening was refused, else one that says what is true
+pub data Last (tag : List ℕ) (records : List Rec) : MeterOpened → List Meter → Type 0 where
+  none : {k : ℕ} → Last tag records (MeterOpened.Refused k) []
+  one : {first m : Meter} → Marked tag records m → Last tag records (MeterOpened.Ready first) (m ∷ [])
+
+-- ---- any bytes
+
+-- The meter answers the whole popularimeters of what the reader reads, in their order, and ends as the reader does; its marks are true.
+abbrev pub MeterReads : Type 0
+MeterReads = (tag work : List ℕ)
+    → (meterAll tag work .counted ≡ countersOf (readAll tag work .0))
+    × (meterAll tag work .ending ≡ readAll tag work .1)
+    × Last tag (readAll tag work .0) (meterOpenOf tag work .0) (meterAll tag work .last)
+
+-- Every metering of a whole tag ends or is refused.
+abbrev pub MeterFinishes : Type 0
+MeterFinishes = (tag work : List ℕ) → meterAll tag work .ending ≡ unfinished → ⊥
+
+-- A refused meter stays refused with its number, an ended one ended, whatever buffers come with it.
+abbrev pub MeterStaysRefused : Type 0
+MeterStaysRefused = (m m′ : Meter) (tag work left tag′ work′ : List ℕ) (k : ℕ)
+    → nextOf m tag work ≡ (Next.Refused k m′, left) → nextOf m′ tag′ work′ ≡ (Next.Refused k m′, work′)
+
+abbrev pub MeterStaysEnded : Type 0
+MeterStaysEnded = (m m′ : Meter) (tag work left tag′ work′ : List ℕ)
+    → nextOf m tag work ≡ (Next.End m′, left) → nextOf m′ tag′ work′ ≡ (Next.End m′, work′)
+
+-- ---- a written tag
+
+-- nothing short, nothing compressed, nothing missing, and every record passed
+pub record Clear (records : List Rec) (m : Meter) : Type 0 where
+  pub short : m .short ≡ false
+  pub compressed : m .compressed ≡ false
+  pub missing : m .missing ≡ false
+  pub frames : m .frames ≡ length records
+
+-- Metering a finished tag with a work buffer at least as long as the tag gives the popularimeters that were accepted, in their order, then the end, and nothing is marked.
+abbrev pub MeterWritten : Type 0
+MeterWritten = (version mode padding : ℕ) (records : List Rec) (tag work : List ℕ)
+    → Written version mode padding records tag → length tag ≤ length work
+    → (m : Meter) × (meterAll tag work ≡ record { counted = countersOf records; ending = ended; last = m ∷ [] }) × Clear records m
+
+-- ---- one user's counters
+
+-- whether two lists are the same bytes
+abbrev pub sameBytes : List ℕ → List ℕ → Bool
+sameBytes [] [] = true
+sameBytes [] (y ∷ t) = false
+sameBytes (x ∷ s) [] = false
+sameBytes (x ∷ s) (y ∷ t) = eqb x y && sameBytes s t
+
+-- a counter of this user, or nothing
+abbrev pub ifOf : List ℕ → List ℕ → ℕ → ℕ
+ifOf user owner counter = pick (sameBytes owner user) counter 0
+
+-- the sum of a user's counters, without a limit
+abbrev pub total : List ℕ → List Counted → ℕ
+total user [] = 0
+total user (c ∷ cs) = ifOf user (c .user) (c .counter) + total user cs
+
+-- what a user owes by one record, and by a list
+abbrev pub owedAs : List ℕ → Content → ℕ
+owedAs user (text e s) = 0
+owedAs user (popularimeter owner rating counter) = ifOf user owner counter
+owedAs user (table f b k v w ds) = 0
+owedAs user (chapter e a b c d run) = 0
+owedAs user (contents e t o children run) = 0
+owedAs user (raw body) = 0
+
+abbrev pub owed : List ℕ → List Rec → ℕ
+owed user [] = 0
+owed user (r ∷ rs) = pick (r .short) 0 (owedAs user (r .content)) + owed user rs
+
+-- The test finds just the same bytes.
+abbrev pub SameBytes : Type 0
+SameBytes = (s t : List ℕ) → (sameBytes s t ≡ true) ↔ (s ≡ t)
+
+-- What is counted for a user is what the user owes by the records that are read, and by those that were written.
+abbrev pub OwedRead : Type 0
+OwedRead = (user tag work : List ℕ) → total user (meterAll tag work .counted) ≡ owed user (readAll tag work .0)
+
+abbrev pub OwedWritten : Type 0
+OwedWritten = (version mode padding : ℕ) (records : List Rec) (user tag work : List ℕ)
+    → Written version mode padding records tag → length tag ≤ length work → total user (meterAll tag work .counted) ≡ owed user records
