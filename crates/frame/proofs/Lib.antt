@@ -1,7 +1,6 @@
 -- What the proofs use.
 pub mod Headers
 pub mod Utf8
-mod Words
 mod Ends
 mod Children
 mod Onto

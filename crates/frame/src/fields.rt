@@ -35,14 +35,6 @@ pub(crate) fn read24(s: &[u8], at: usize) -> u32
     (wide(s[at]) * 256 + wide(s[at + 1])) * 256 + wide(s[at + 2])
 }
 
-// The number that four bytes from `at` on make.
-pub(crate) fn read32(s: &[u8], at: usize) -> u32
-    requires { ⌜ at + 4 ≤ length (now s) ⌝ }
-    ensures { λ r. ⌜ r ≡ number (slice at (at + 4) (now (s .entry))) ⌝ }
-{
-    read24(s, at) * 256 + wide(s[at + 3])
-}
-
 // Whether a bit is set in flags.
 pub(crate) fn has(bit: u8, flags: u8) -> bool
     requires { ⌜ 0 < bit ⌝ }

@@ -1,2 +1,2 @@
 -- What the proofs use.
-mod Words
+pub mod Words

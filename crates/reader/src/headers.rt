@@ -8,6 +8,7 @@ use format::refusals::NO_TAG;
 use format::refusals::SMALL_EXTENDED_HEADER;
 use format::refusals::UNKNOWN_FLAGS;
 use format::refusals::UNKNOWN_VERSION;
+use loads::read32;
 ghost use mathlib.Core.Path.{_≡_};
 ghost use Prim.Native.Nat.{_+_, _≤_, _<_, min};
 ghost use lib.ListN.{length};
@@ -23,13 +24,6 @@ const ID3: u32 = 0x49_44_33;
 // The header flag for an extended header; in 2.2 for a compressed tag.
 const EXTENDED: u8 = 0x40;
 
-// A byte as a wider number.
-fn wide(x: u8) -> u32
-    ensures { λ r. ⌜ (r ≡ x) × (r < 256) ⌝ }
-{
-    x as u32
-}
-
 // The smaller number.
 fn least(a: usize, b: usize) -> usize
     ensures { λ r. ⌜ r ≡ min a b ⌝ }
@@ -43,14 +37,6 @@ pub(crate) fn has(bit: u8, flags: u8) -> bool
     ensures { λ r. ⌜ r ≡ isSet bit flags ⌝ }
 {
     flags / bit % 2 == 1
-}
-
-// The number that four bytes from `at` on make.
-fn read32(s: &[u8], at: usize) -> u32
-    requires { ⌜ at + 4 ≤ length (now s) ⌝ }
-    ensures { λ r. ⌜ r ≡ number (slice at (at + 4) (now (s .entry))) ⌝ }
-{
-    ((wide(s[at]) * 256 + wide(s[at + 1])) * 256 + wide(s[at + 2])) * 256 + wide(s[at + 3])
 }
 
 // The number that four synchsafe bytes from `at` on make.

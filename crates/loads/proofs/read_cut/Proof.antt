@@ -1,7 +1,7 @@
 -- `loads::read_cut` meets its contract. Assumes nothing.
 use native.Mathlib.Omega.{arith}
 use borrow.Author.Needs.{needs}
-use Rattle.loads.proofs.Words.{number-none, number-one, number-two, number-three}
+use Rattle.loads.proofs.Words.{number-none, number-one, number-two, number-left}
 use Rattle.loads.proofs.read_cut.Statement.{statement}
 use Rattle.loads.proofs.read_cut.Tie as tie
 
@@ -65,7 +65,7 @@ add-result c = search needs
 returns-4 : tie.Need-returns-4
 returns-4 c =
     let start = c .before .before .before .before .before .before .before .before .before .before in
-    rw (c .before .before .before .before .before .before .wide .ensures .0, c .before .before .before .wide2 .ensures .0, c .wide3 .ensures .0) (number-three (start .args .at) (start .args .s .now) (omega arith))
+    rw (c .before .before .before .before .before .before .wide .ensures .0, c .before .before .before .wide2 .ensures .0, c .wide3 .ensures .0) (number-left (start .args .at) (start .args .s .now) (omega arith))
 
 pub read-cut-spec : {M : Type 1} → statement M
 read-cut-spec =

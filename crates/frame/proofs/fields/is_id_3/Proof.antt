@@ -2,7 +2,7 @@
 use mathlib.Core.Path.{sym, ap, _∙_}
 use borrow.Author.Needs.{needs}
 use Rattle.format.specs.Ids.{isUtf8}
-use Rattle.frame.proofs.Words.{three}
+use Rattle.loads.proofs.Words.{three}
 use Rattle.frame.proofs.fields.is_id_3.Statement.{statement}
 use Rattle.frame.proofs.fields.is_id_3.Tie as tie
 

@@ -2,7 +2,7 @@
 use mathlib.Core.Path.{sym, ap, _∙_}
 use borrow.Author.Needs.{needs}
 use Rattle.format.specs.Ids.{isUtf8}
-use Rattle.frame.proofs.Words.{four}
+use Rattle.loads.proofs.Words.{four}
 use Rattle.frame.proofs.fields.is_id_4.Statement.{statement}
 use Rattle.frame.proofs.fields.is_id_4.Tie as tie
 

@@ -1,7 +1,7 @@
 -- `frame::fields::read24` meets its contract. Assumes nothing.
 use native.Mathlib.Omega.{arith}
 use borrow.Author.Needs.{needs}
-use Rattle.frame.proofs.Words.{number-three}
+use Rattle.loads.proofs.Words.{number-three}
 use Rattle.frame.proofs.fields.read24.Statement.{statement}
 use Rattle.frame.proofs.fields.read24.Tie as tie
 

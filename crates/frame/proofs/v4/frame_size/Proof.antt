@@ -4,7 +4,7 @@ use Prim.Native.Nat.{ℕ}
 use native.Mathlib.Omega.{arith}
 use borrow.Author.Needs.{needs}
 use Rattle.format.specs.Numbers.{bytesOf, fromSynchsafe}
-use Rattle.frame.proofs.Words.{bytes-back}
+use Rattle.loads.proofs.Words.{bytes-back}
 use Rattle.frame.proofs.v4.frame_size.Statement.{statement}
 use Rattle.frame.proofs.v4.frame_size.Tie as tie
 

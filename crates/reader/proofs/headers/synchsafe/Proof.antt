@@ -4,7 +4,7 @@ use Prim.Native.Nat.{ℕ}
 use native.Mathlib.Omega.{arith}
 use borrow.Author.Needs.{needs}
 use Rattle.format.specs.Numbers.{bytesOf, fromSynchsafe}
-use Rattle.reader.proofs.Words.{synchsafe-four}
+use Rattle.loads.proofs.Words.{synchsafe-four}
 use Rattle.reader.proofs.headers.synchsafe.Statement.{statement}
 use Rattle.reader.proofs.headers.synchsafe.Tie as tie
 
