@@ -1,6 +1,6 @@
 -- What the proofs use.
 pub mod Headers
-pub mod Utf8
+mod Utf8
 mod Ends
 mod Children
 mod Onto

@@ -1,2 +1,3 @@
--- Laws of what the meter answers.
+-- Laws of the meter.
 pub mod Nexts
+mod Glances

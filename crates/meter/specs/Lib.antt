@@ -1,3 +1,4 @@
 -- What the meter answers: the reader's steps, repeated.
 pub mod Meter
 pub mod Answers
+pub mod Glances

@@ -3,15 +3,14 @@ use Prim.Native.Nat.{ℕ, zero, suc, _+_, _-_, _%_, _^_}
 use mathlib.Core.Bool.{Bool, true, false, _&&_, _||_}
 use mathlib.Core.List.{List, [], _∷_}
 use lib.ListN.{length}
-use lib.Dec.{ltb, eqb}
+use lib.Dec.{ltb}
 use Rattle.format.specs.Bytes.{pick}
 use Rattle.format.specs.Header.{sizeOf}
-use Rattle.format.specs.Ids.{kindOf, kindNumber}
 use Rattle.format.specs.declared.Version.{Version}
-use Rattle.format.specs.declared.Kind.{Kind}
 use Rattle.format.specs.declared.Fields.{Fields}
 use Rattle.format.specs.declared.Heading.{Heading}
 use Rattle.format.specs.declared.Record.{Record}
+use Rattle.walk.specs.Passing.{isMeterId}
 use Rattle.reader.specs.Reader.{openOf, Stepped, stepOf}
 use Rattle.reader.specs.declared.Reader.{Reader}
 use Rattle.reader.specs.declared.Opened.{Opened}
@@ -45,11 +44,7 @@ meterOpenOf tag work = (openedAs (isMissing tag) (openOf tag work .0), openOf ta
 abbrev pub oneMore : ℕ → ℕ
 oneMore n = (n + 1) % 2 ^ 64
 
--- an id of a popularimeter
-abbrev pub isMeterId : Version → ℕ → Bool
-isMeterId v id = eqb (kindNumber (kindOf v id)) (kindNumber Kind.Popularimeter)
-
--- a compressed frame under such an id, which is shown raw
+-- a compressed frame under a popularimeter's id, which is shown raw
 abbrev pub isPacked : Version → Heading → Bool
 isPacked v h = h .compressed && isMeterId v (h .id)
 

@@ -10,7 +10,8 @@ use Rattle.format.specs.Bytes.{pick}
 use Rattle.format.specs.Header.{editionOf, versionOf}
 use Rattle.format.specs.Record.{Content, text, popularimeter, table, chapter, contents, raw, Rec}
 use Rattle.format.specs.declared.Version.{Version}
-use Rattle.meter.specs.Meter.{isMissing, meterOpenOf, isMeterId, nextOf}
+use Rattle.walk.specs.Passing.{isMeterId}
+use Rattle.meter.specs.Meter.{isMissing, meterOpenOf, nextOf}
 use Rattle.meter.specs.declared.Meter.{Meter}
 use Rattle.meter.specs.declared.MeterOpened.{MeterOpened}
 use Rattle.meter.specs.declared.Next.{Next}

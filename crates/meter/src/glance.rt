@@ -1,0 +1,119 @@
+// A glance at a frame's header: few instructions for nearly all frames of nearly all tags. Whatever it leaves unclear is
+// looked at in full.
+use format::Kind;
+use format::Version;
+use frame::body::kind_of;
+use loads::read32;
+use unsynch::decode_u32;
+ghost use mathlib.Core.Path.{_≡_};
+ghost use Prim.Native.Nat.{_+_, _≤_};
+ghost use lib.ListN.{length};
+ghost use lib.Seq.{slice};
+ghost use Rattle.meter.specs.Glances.{tenOf, sizeBy, Sorted, withFlag, Says};
+
+// What a glance tells: nothing, the end, or a whole frame with so many bytes of body, which is passed, is passed once it
+// is resynchronised, or is a popularimeter.
+pub enum Glance {
+    Unclear,
+    End,
+    Plain(usize),
+    Flagged(usize),
+    Meter(usize),
+}
+
+// A body of a kind, `size` bytes of s from `first` on. A text and a raw body are not looked through.
+fn by_kind(s: &[u8], kind: Kind, first: usize, size: usize) -> Glance
+    requires { ⌜ first + size ≤ length (now s) ⌝ }
+    ensures { λ r. ⌜ Sorted kind size (slice first (first + size) (now (s .entry))) r ⌝ }
+{
+    match kind {
+        Kind::Text => {
+            if size == 0 {
+                return Glance::Unclear;
+            }
+            if s[first] > 3 {
+                return Glance::Unclear;
+            }
+            Glance::Plain(size)
+        }
+        Kind::Popularimeter => Glance::Meter(size),
+        Kind::Raw => Glance::Plain(size),
+        Kind::Table => Glance::Unclear,
+        Kind::Chapter => Glance::Unclear,
+        Kind::Contents => Glance::Unclear,
+    }
+}
+
+// The same of a body that is resynchronised.
+fn with_flag(g: Glance) -> Glance
+    ensures { λ r. ⌜ r ≡ withFlag g ⌝ }
+{
+    match g {
+        Glance::Plain(size) => Glance::Flagged(size),
+        Glance::Unclear => Glance::Unclear,
+        Glance::End => Glance::Unclear,
+        Glance::Flagged(_) => Glance::Unclear,
+        Glance::Meter(_) => Glance::Unclear,
+    }
+}
+
+// The size that four bytes say: plain in 2.3, synchsafe in 2.4. Below 128 both say the same.
+fn size_of(word: u32, v4: bool) -> usize
+    ensures { λ r. ⌜ r ≡ sizeBy v4 word ⌝ }
+{
+    if word < 0x80 {
+        return word as usize;
+    }
+    if v4 {
+        decode_u32(word) as usize
+    } else {
+        word as usize
+    }
+}
+
+// A header of ten bytes at `at`, with `left` bytes behind it: an ASCII id, and no flag but that for unsynchronised bytes.
+fn glance10(s: &[u8], at: usize, left: usize, v4: bool) -> Glance
+    requires { ⌜ at + 10 + left ≤ length (now s) ⌝ }
+    ensures { λ r. ⌜ Says (tenOf v4) (slice at (at + 10 + left) (now (s .entry))) r ⌝ }
+{
+    let id = read32(s, at);
+    if id < 0x100_0000 {
+        return Glance::End;
+    }
+    if id & 0x8080_8080 != 0 {
+        return Glance::Unclear;
+    }
+    let size = size_of(read32(s, at + 4), v4);
+    if left < size {
+        return Glance::Unclear;
+    }
+    let flags = s[at + 9];
+    if flags == 0 {
+        return by_kind(s, kind_of(Version::Id3v24, id), at + 10, size);
+    }
+    if flags == 2 {
+        if v4 {
+            return with_flag(by_kind(s, kind_of(Version::Id3v24, id), at + 10, size));
+        }
+    }
+    Glance::Unclear
+}
+
+// A header of six bytes at `at`, with `left` bytes behind it: an ASCII id.
+fn glance6(s: &[u8], at: usize, left: usize) -> Glance
+    requires { ⌜ at + 6 + left ≤ length (now s) ⌝ }
+    ensures { λ r. ⌜ Says Version.Id3v22 (slice at (at + 6 + left) (now (s .entry))) r ⌝ }
+{
+    let id = read32(s, at) / 0x100;
+    if id < 0x1_0000 {
+        return Glance::End;
+    }
+    if id & 0x80_8080 != 0 {
+        return Glance::Unclear;
+    }
+    let size = (read32(s, at + 2) % 0x100_0000) as usize;
+    if left < size {
+        return Glance::Unclear;
+    }
+    by_kind(s, kind_of(Version::Id3v22, id), at + 6, size)
+}
