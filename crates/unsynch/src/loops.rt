@@ -189,7 +189,7 @@ fn drop_last(buf: &mut [u8], at: usize, s: &[u8], from: usize, to: usize) -> usi
     at
 }
 
-// The same eight bytes at once: those behind eight places without an FF all stay, and are copied. Others go through byte by byte.
+// As drop_bytes, eight bytes at once: those behind eight bytes of which none is FF all stay, and are copied. The others go byte by byte.
 fn drop_words(buf: &mut [u8], at: usize, s: &[u8], from: usize, to: usize) -> usize
     requires { ⌜ (from < to) × (to ≤ length (now s)) ⌝ }
     requires { ⌜ at + length (editedAfter resyncBy (now s) from to) ≤ length (now buf) ⌝ }
