@@ -73,16 +73,15 @@ module _ (how : How) (s : List ℕ) (i m to : ℕ) (after : i ≤ m) (lt : m < t
               (v .0, ap (λ (z : ℕ × List ℕ). take n (z .1)) g ∙ take-sets n o p (editedAfter how o i (m + 1)) behind ∙ e, v .1),
         )
 
--- a block of 64 bytes that the edit leaves alone is copied
-module _ (how : How) (s : List ℕ) (i to : ℕ) (lt : i + 64 < to) (le : to ≤ length s) (alone : hitsAfter how s i (i + 65) ≡ 0) where
+-- n bytes that the edit leaves alone are copied
+module _ (how : How) (s : List ℕ) (i n to : ℕ) (lt : i + n < to) (le : to ≤ length s) (alone : hitsAfter how s i (i + n + 1) ≡ 0) where
   pub block : {o₀ : List ℕ} {p₀ : ℕ} {l₀ o : List ℕ} {p : ℕ} → Storing o₀ p₀ l₀ o p (editedAfter how s i to)
-      → (p + 64 ≤ length o)
-      × ((r : ℕ) (o′ : List ℕ) → _≡_ {A = ℕ × List ℕ} (r, o′) (stored (slice (i + 1) (i + 65) s) p o) → Storing o₀ p₀ l₀ o′ r (editedAfter how s (i + 64) to))
+      → (p + n ≤ length o)
+      × ((r : ℕ) (o′ : List ℕ) → _≡_ {A = ℕ × List ℕ} (r, o′) (stored (slice (i + 1) (i + n + 1) s) p o) → Storing o₀ p₀ l₀ o′ r (editedAfter how s (i + n) to))
   block {o} {p} t =
-      let e : i + 65 ≡ i + 64 + 1 = omega arith in
-      let same : slice (i + 1) (i + 65) s ≡ editedAfter how s i (i + 64 + 1) = sym (left-alone how s i (i + 65) alone) ∙ ap (editedAfter how s i) e in
-      let u = piece how s i (i + 64) to (omega arith) lt le t in
-      (omega (arith, u .0, ap length same, length-slice (i + 1) (i + 65) s (omega arith)), λ r o′ g. u .1 r o′ (g ∙ ap (λ (l : List ℕ). stored l p o) same) .1)
+      let same = left-alone how s i (i + n + 1) alone in
+      let u = piece how s i (i + n) to (omega arith) lt le t in
+      (omega (arith, u .0, ap length same, length-slice (i + 1) (i + n + 1) s (omega arith)), λ r o′ g. u .1 r o′ (g ∙ sym (ap (λ (l : List ℕ). stored l p o) same)) .1)
 
 -- a byte, and behind it what is left
 pub stored-first : (x at : ℕ) (l u o : List ℕ) → u ≡ x ∷ l → stored l (at + 1) (set o at x) ≡ stored u at o

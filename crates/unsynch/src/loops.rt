@@ -189,6 +189,26 @@ fn drop_last(buf: &mut [u8], at: usize, s: &[u8], from: usize, to: usize) -> usi
     at
 }
 
+// As drop_bytes, eight bytes at once: those behind eight bytes of which none is FF all stay, and are copied. The others go byte by byte.
+fn drop_words(buf: &mut [u8], at: usize, s: &[u8], from: usize, to: usize) -> usize
+    requires { ⌜ (from < to) × (to ≤ length (now s)) ⌝ }
+    requires { ⌜ at + length (editedAfter resyncBy (now s) from to) ≤ length (now buf) ⌝ }
+    ensures { λ r. ⌜ (r, now (buf .exit)) ≡ stored (editedAfter resyncBy (now (s .entry)) from to) at (now (buf .entry)) ⌝ }
+{
+    let mut o = at;
+    let mut i = from;
+    while i + 8 < to {
+        let last = i + 8;
+        if blocks::any_ff(s, i, 8) {
+            o = drop_bytes(buf, o, s, i, last + 1);
+        } else {
+            o = blocks::copy_behind(buf, o, s, i, 8);
+        }
+        i = last;
+    }
+    drop_bytes(buf, o, s, i, to)
+}
+
 // Stores what the edit makes of the bytes of s behind place from, up to place to, where 00, and E0 to FF with `high`, get a 00 before them.
 // Each turn stores a 00 and then the byte, over it or behind it. The answer is the place behind what is stored.
 fn insert_bytes(buf: &mut [u8], at: usize, s: &[u8], from: usize, to: usize, how: How) -> usize
@@ -223,7 +243,7 @@ fn edit_after(buf: &mut [u8], at: usize, s: &[u8], from: usize, to: usize, how: 
     let mut run: usize = 64;
     while i + 64 < to {
         if blocks::hits(s, i, how) == 0 {
-            o = blocks::copy_behind(buf, o, s, i);
+            o = blocks::copy_behind(buf, o, s, i, 64);
             i += 64;
             run = 64;
         } else {
@@ -236,7 +256,7 @@ fn edit_after(buf: &mut [u8], at: usize, s: &[u8], from: usize, to: usize, how: 
     edit_by_byte(buf, o, s, i, to, how)
 }
 
-// The same, byte by byte: each kind of edit has its own loop, and one that concerns no byte is a copy.
+// The same without blocks: each kind of edit has its own loop, and one that concerns no byte is a copy.
 fn edit_by_byte(buf: &mut [u8], at: usize, s: &[u8], from: usize, to: usize, how: How) -> usize
     requires { ⌜ (from < to) × (to ≤ length (now s)) ⌝ }
     requires { ⌜ at + length (editedAfter how (now s) from to) ≤ length (now buf) ⌝ }
@@ -250,7 +270,7 @@ fn edit_by_byte(buf: &mut [u8], at: usize, s: &[u8], from: usize, to: usize, how
         copy(buf, at, s, from + 1, to);
         return at + (to - from - 1);
     }
-    drop_bytes(buf, at, s, from, to)
+    drop_words(buf, at, s, from, to)
 }
 
 // Stores s[from..to], edited, from `at` on. The answer is the place behind what is stored.

@@ -12,16 +12,16 @@ use Rattle.unsynch.proofs.blocks.any_ff.Statement.{statement}
 use Rattle.unsynch.proofs.blocks.any_ff.Tie as tie
 
 abbrev Inv-loop : tie.InvT-loop
-Inv-loop s i any₀ k₀ any k = (k ≤ 64) × ((any || anyFF (slice (i + k) (i + 64) s)) ≡ anyFF (slice i (i + 64) s))
+Inv-loop s i n any₀ k₀ any k = (k ≤ n) × ((any || anyFF (slice (i + k) (i + n) s)) ≡ anyFF (slice i (i + n) s))
 
 abbrev μ-loop : tie.MeasureT-loop
-μ-loop s i any₀ k₀ any k = 64 - k
+μ-loop s i n any₀ k₀ any k = n - k
 
 loop-holds : tie.Need-loop-holds Inv-loop μ-loop
 loop-holds c =
     let a = c .args in
     let here : a .i + 0 ≡ a .i = omega arith in
-    (omega arith, ap (λ (j : ℕ). anyFF (slice j (a .i + 64) (a .s .now))) here)
+    (omega arith, ap (λ (j : ℕ). anyFF (slice j (a .i + a .n) (a .s .now))) here)
 
 add-any : tie.Need-add-any Inv-loop μ-loop
 add-any c = omega arith
@@ -39,14 +39,14 @@ loop-again : tie.Need-loop-again Inv-loop μ-loop
 loop-again c =
     let a = c .before .before .before .args in
     let L = c .before .before .loop in
-    (omega arith, any-turn (a .s .now) (a .i) (L .k) (a .i + 64) (L .any) _ (omega arith) (omega arith) (L .inv .1))
+    (omega arith, any-turn (a .s .now) (a .i) (L .k) (a .i + a .n) (L .any) _ (omega arith) (omega arith) (L .inv .1))
 
 returns : tie.Need-returns Inv-loop μ-loop
 unfolding anyFF
 returns c =
     let a = c .before .before .args in
     let L = c .before .loop in
-    sym (ap (λ (l : List ℕ). L .any || anyFF l) (slice-none (a .i + L .k) (a .i + 64) (a .s .now) (omega arith)) ∙ or-false (L .any)) ∙ L .inv .1
+    sym (ap (λ (l : List ℕ). L .any || anyFF l) (slice-none (a .i + L .k) (a .i + a .n) (a .s .now) (omega arith)) ∙ or-false (L .any)) ∙ L .inv .1
 
 pub any-ff-spec : {M : Type 1} → statement M
 any-ff-spec =

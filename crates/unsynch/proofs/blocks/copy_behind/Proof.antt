@@ -19,6 +19,9 @@ add-copy c = search needs
 add-copy-2 : tie.Need-add-copy-2
 add-copy-2 c = search needs
 
+add-copy-3 : tie.Need-add-copy-3
+add-copy-3 c = search needs
+
 copy-requires : tie.Need-copy-requires
 copy-requires c κs = search needs
 
@@ -37,9 +40,9 @@ same-length c = search needs
 returns : tie.Need-returns
 returns c =
     let a = c .before .before .before .before .before .before .before .before .before .before .args in
-    let part : List ℕ = slice (a .i + 1) (a .i + 65) (a .s .now) in
-    let block = slice-copy (a .s .now) (replicate 64 0) _ (a .i + 1) (a .i + 65) 64 (omega arith) (omega arith) (omega arith) (c .before .before .before .before .before .before .copy .ensures) in
-    let n : a .at + 64 ≡ a .at + length part = omega (arith, length-slice (a .i + 1) (a .i + 65) (a .s .now) (omega arith)) in
+    let part : List ℕ = slice (a .i + 1) (a .i + a .n + 1) (a .s .now) in
+    let block = slice-copy (a .s .now) (replicate 64 0) _ (a .i + 1) (a .i + a .n + 1) (a .n) (omega arith) (omega arith) (omega arith) (c .before .before .before .before .before .before .copy .ensures) in
+    let n : a .at + a .n ≡ a .at + length part = omega (arith, length-slice (a .i + 1) (a .i + a .n + 1) (a .s .now) (omega arith)) in
     λ j. (n j, (c .before .before .copy2 .ensures ∙ ap (sets (a .buf .now) (a .at)) block) j)
 
 pub copy-behind-spec : {M : Type 1} → statement M
@@ -49,6 +52,7 @@ copy-behind-spec =
     slice-aggregate-copy
     add-copy
     add-copy-2
+    add-copy-3
     copy-requires
     slice-aggregate-copy-2
     copy-requires-2

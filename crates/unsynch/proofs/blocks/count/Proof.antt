@@ -16,7 +16,7 @@ number true = (refl, omega arith)
 number false = (refl, omega arith)
 
 abbrev Inv-loop : tie.InvT-loop
-Inv-loop s i how n₀ k₀ n k = (n ≤ k) × (k ≤ 64) × (n + hitsAfter how s (i + k) (i + 65) ≡ hitsAfter how s i (i + 65))
+Inv-loop s i how n₀ k₀ n k = (n ≤ k) × (k ≤ 64) × (n + hitsAfter how s (i + k) (i + 64 + 1) ≡ hitsAfter how s i (i + 64 + 1))
 
 abbrev μ-loop : tie.MeasureT-loop
 μ-loop s i how n₀ k₀ n k = 64 - k
@@ -25,7 +25,7 @@ loop-holds : tie.Need-loop-holds Inv-loop μ-loop
 loop-holds c =
     let a = c .before .args in
     let here : a .i + 0 ≡ a .i = omega arith in
-    (omega arith, omega arith, omega (arith, ap (λ (j : ℕ). hitsAfter (a .how) (a .s .now) j (a .i + 65)) here))
+    (omega arith, omega arith, omega (arith, ap (λ (j : ℕ). hitsAfter (a .how) (a .s .now) j (a .i + 64 + 1)) here))
 
 add-hit : tie.Need-add-hit Inv-loop μ-loop
 add-hit c = omega arith
@@ -62,15 +62,15 @@ loop-again c =
     let a = c .before .before .before .before .before .before .args in
     let L = c .before .before .before .before .loop in
     let here : a .i + L .k + 1 ≡ a .i + (L .k + 1) = omega arith in
-    let one = counts (a .how) (a .s .now) (a .i + L .k) (a .i + 65) (omega arith) (omega arith) (c .hit .result) (c .hit .ensures) in
-    let same = ap (λ (j : ℕ). hitsAfter (a .how) (a .s .now) j (a .i + 65)) here in
+    let one = counts (a .how) (a .s .now) (a .i + L .k) (a .i + 64 + 1) (omega arith) (omega arith) (c .hit .result) (c .hit .ensures) in
+    let same = ap (λ (j : ℕ). hitsAfter (a .how) (a .s .now) j (a .i + 64 + 1)) here in
     (omega (arith, number (c .hit .result)), omega arith, omega (arith, number (c .hit .result), one, same))
 
 returns : tie.Need-returns Inv-loop μ-loop
 returns c =
     let a = c .before .before .before .args in
     let L = c .before .loop in
-    omega (arith, hits-end (a .how) (a .s .now) (a .i + L .k) (a .i + 65) (omega arith))
+    omega (arith, hits-end (a .how) (a .s .now) (a .i + L .k) (a .i + 64 + 1) (omega arith))
 
 pub count-spec : {M : Type 1} → statement M
 count-spec =

@@ -1,7 +1,6 @@
 -- `unsynch::blocks::hits` meets its contract. Assumes nothing.
-use mathlib.Core.Path.{_≡_, sym, ap, _∙_}
+use mathlib.Core.Path.{sym, _∙_}
 use Prim.Native.Nat.{_+_}
-use Rattle.unsynch.specs.Edits.{hitsAfter}
 use Rattle.unsynch.proofs.Edits.{no-ff}
 use native.Mathlib.Omega.{arith}
 use borrow.Author.Needs.{needs}
@@ -23,9 +22,7 @@ returns c = search needs
 returns-2 : tie.Need-returns-2
 returns-2 c =
     let a = c .before .before .before .args in
-    let e : a .i + 64 + 1 ≡ a .i + 65 = omega arith in
-    let none = no-ff (a .how) (a .s .now) 64 (a .i) (a .i + 64) (omega arith) (omega arith) (sym (c .before .any-ff .ensures) ∙ c .if1 .left) in
-    sym none ∙ ap (hitsAfter (a .how) (a .s .now) (a .i)) e
+    sym (no-ff (a .how) (a .s .now) 64 (a .i) (a .i + 64) (omega arith) (omega arith) (sym (c .before .any-ff .ensures) ∙ c .if1 .left))
 
 pub hits-spec : {M : Type 1} → statement M
 hits-spec = tie.close (tie.spec any-ff-requires count-requires cast-result returns returns-2)

@@ -30,7 +30,7 @@ copy-behind-requires c κs =
     let a = c .before .before .before .before .before .before .before .args in
     let L = c .before .before .before .before .loop in
     let alone = sym (c .before .before .hits .ensures) ∙ c .before .if1 .taken in
-    (omega arith, block (a .how) (a .s .now) (L .i) (a .to) (omega arith) (omega arith) alone (L .inv .4) .0)
+    (omega arith, omega arith, block (a .how) (a .s .now) (L .i) 64 (a .to) (omega arith) (omega arith) alone (L .inv .4) .0)
 
 add-i : tie.Need-add-i Inv-loop μ-loop
 add-i c = omega arith
@@ -44,7 +44,7 @@ loop-again c =
     let L = c .before .before .before .before .before .before .before .loop in
     let alone = sym (c .before .before .before .before .before .hits .ensures) ∙ c .before .before .before .before .if1 .taken in
     let stores = c .before .before .copy-behind in
-    let t = block (a .how) (a .s .now) (L .i) (a .to) (omega arith) (omega arith) alone (L .inv .4) .1 (stores .result) (stores .last .0) (stores .ensures) in
+    let t = block (a .how) (a .s .now) (L .i) 64 (a .to) (omega arith) (omega arith) alone (L .inv .4) .1 (stores .result) (stores .last .0) (stores .ensures) in
     (omega arith, omega arith, omega arith, omega arith, t)
 
 sub-least : tie.Need-sub-least Inv-loop μ-loop

@@ -50,8 +50,8 @@ returns-2 c =
     omega (arith, ap length e, length-slice (a .from + 1) (a .to) (a .s .now) (omega arith)) in
     λ j. (n j, (c .before .before .copy .ensures ∙ ap (sets (a .buf .now) (a .at)) (sym e)) j)
 
-drop-bytes-requires : tie.Need-drop-bytes-requires
-drop-bytes-requires c κs =
+drop-words-requires : tie.Need-drop-words-requires
+drop-words-requires c κs =
     let a = c .before .before .before .before .args in
     omega (arith, ap (λ (how : How). length (editedAfter how (a .s .now) (a .from) (a .to))) (c .before .before .before .before .pre .1 .1 .drops (c .before .if1 .left)))
 
@@ -61,7 +61,7 @@ same-length-3 c = search needs
 returns-3 : tie.Need-returns-3
 returns-3 c =
     let a = c .before .before .before .before .before .before .before .args in
-    c .before .before .drop-bytes .ensures
+    c .before .before .drop-words .ensures
     ∙ ap (λ (how : How). stored (editedAfter how (a .s .now) (a .from) (a .to)) (a .at) (a .buf .now)) (sym (c .before .before .before .before .before .before .before .pre .1 .1 .drops (c .before .before .before .before .if1 .left)))
 
 pub edit-by-byte-spec : {M : Type 1} → statement M
@@ -78,6 +78,6 @@ edit-by-byte-spec =
     add-result
     same-length-2
     returns-2
-    drop-bytes-requires
+    drop-words-requires
     same-length-3
     returns-3)

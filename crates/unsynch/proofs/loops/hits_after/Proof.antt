@@ -1,5 +1,5 @@
 -- `unsynch::loops::hits_after` meets its contract. Assumes nothing.
-use mathlib.Core.Path.{_≡_, ap}
+use mathlib.Core.Path.{_≡_}
 use Prim.Native.Nat.{_+_, _-_, _≤_, _<_}
 use Rattle.unsynch.specs.Edits.{hitsAfter}
 use Rattle.unsynch.proofs.Edits.{few-after, hits-parted}
@@ -26,7 +26,7 @@ add-n : tie.Need-add-n Inv-loop μ-loop
 add-n c =
     let a = c .before .before .before .before .args in
     let L = c .before .before .loop in
-    omega (arith, few-after (a .how) (a .s .now) (L .i) (L .i + 65) (omega arith) (omega arith))
+    omega (arith, few-after (a .how) (a .s .now) (L .i) (L .i + 64 + 1) (omega arith) (omega arith))
 
 add-i : tie.Need-add-i Inv-loop μ-loop
 add-i c = omega arith
@@ -38,11 +38,9 @@ loop-again : tie.Need-loop-again Inv-loop μ-loop
 loop-again c =
     let a = c .before .before .before .before .args in
     let L = c .before .before .loop in
-    let e : L .i + 65 ≡ L .i + 64 + 1 = omega arith in
-    let same = ap (hitsAfter (a .how) (a .s .now) (L .i)) e in
-    let few = few-after (a .how) (a .s .now) (L .i) (L .i + 65) (omega arith) (omega arith) in
+    let few = few-after (a .how) (a .s .now) (L .i) (L .i + 64 + 1) (omega arith) (omega arith) in
     let both = hits-parted (a .how) (a .s .now) 64 (L .i) (L .i + 64) (a .to) (omega arith) (omega arith) (omega arith) in
-    (omega arith, omega arith, omega (arith, few), omega (arith, both, same))
+    (omega arith, omega arith, omega (arith, few), omega (arith, both))
 
 hits-by-byte-requires : tie.Need-hits-by-byte-requires Inv-loop μ-loop
 hits-by-byte-requires c κs = omega arith
