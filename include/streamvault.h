@@ -200,8 +200,8 @@ uint32_t sv_step(const uint8_t *tag, size_t tag_len, uint8_t *work, size_t work_
                  uint64_t *record, size_t record_len);
 
 /*
- * Opens a tag for its counters alone: a meter at its first frame. It refuses what sv_open refuses, and leaves the work
- * buffer as sv_open does. A refusal changes nothing.
+ * Opens a tag for its counters alone: a meter at its first frame. It refuses what sv_open refuses, needs as long a work
+ * buffer, and leaves it as sv_open does. A refusal changes nothing.
  */
 uint32_t sv_meter_open(const uint8_t *tag, size_t tag_len, uint8_t *work, size_t work_len, uint64_t *meter, size_t meter_len);
 

@@ -142,19 +142,15 @@ fn sum(words: &[OsString]) -> Result<Command, String> {
     let (mut format, mut jobs, mut paths) = (Format::Table, None, Vec::new());
     let mut words = Words::of(words);
     while let Some(word) = words.next() {
-        let option = match word {
-            Word::Option(option) => option,
-            Word::Path(path) => {
-                paths.push(PathBuf::from(path));
-                continue;
-            }
-        };
-        match option.to_str() {
-            Some("--csv") => format = only(format, Format::Csv)?,
-            Some("--json") => format = only(format, Format::Json)?,
-            Some("--jobs") => jobs = Some(threads(words.value())?),
-            Some("--help" | "-h") => return Ok(Command::Help),
-            _ => return Err(no_option(option)),
+        match word {
+            Word::Path(path) => paths.push(PathBuf::from(path)),
+            Word::Option(option) => match option.to_str() {
+                Some("--csv") => format = only(format, Format::Csv)?,
+                Some("--json") => format = only(format, Format::Json)?,
+                Some("--jobs") => jobs = Some(threads(words.value())?),
+                Some("--help" | "-h") => return Ok(Command::Help),
+                _ => return Err(no_option(option)),
+            },
         }
     }
     if paths.is_empty() {

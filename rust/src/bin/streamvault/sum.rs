@@ -12,7 +12,7 @@ use std::fmt;
 use std::fs::File;
 use std::io;
 use std::iter::Enumerate;
-use std::path::PathBuf;
+use std::path::{Path, PathBuf};
 use std::sync::Mutex;
 use std::thread;
 use streamvault::{Ending, Meter, Refusal};
@@ -122,7 +122,7 @@ impl Sum {
             let others: Vec<_> = (1..jobs).map_while(spawn).collect();
             let mut sum = share()?;
             for other in others {
-                sum.join(other.join().expect("a thread ends"))?;
+                sum.join(other.join().expect("a thread ends")?)?;
             }
             sum.problems.sort_by_key(|problem| problem.order);
             Ok(sum)
@@ -135,8 +135,7 @@ impl Sum {
     }
 
     /// Takes what another thread summed.
-    fn join(&mut self, other: Result<Sum, TooLarge>) -> Result<(), TooLarge> {
-        let other = other?;
+    fn join(&mut self, other: Sum) -> Result<(), TooLarge> {
         for (user, total) in &other.users {
             self.add(user, *total)?;
         }
@@ -245,7 +244,7 @@ impl Worker {
     }
 
     /// Reads the parts of a file. Its length is that of the open file, and not of what the path may lead to by now.
-    fn read(&mut self, path: &PathBuf) -> io::Result<()> {
+    fn read(&mut self, path: &Path) -> io::Result<()> {
         let file = File::open(path)?;
         let len = file.metadata()?.len();
         self.parts.read(&file, len)
@@ -411,7 +410,7 @@ mod tests {
         let (mut sum, _) = sum_of(&[&one]);
         let (mut other, _) = sum_of(&[&one, &one]);
         other.list("x", Lack::Compressed);
-        sum.join(Ok(other)).unwrap();
+        sum.join(other).unwrap();
         assert_eq!(sum.users[&b"a"[..]], Total { popularimeters: 3, counter: 9 });
         assert_eq!((sum.all, sum.tags), (Total { popularimeters: 6, counter: 24 }, 3));
         assert!(!sum.all_read());
