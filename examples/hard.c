@@ -188,6 +188,39 @@ static void stepping(void)
     free(record);
 }
 
+/* Opens a tag for its counters and goes to its end; or goes on from words that no opening left. */
+static void metering(void)
+{
+    size_t tag_len, meter_len, metered_len, work_len = below(400);
+    uint8_t *tag = some_tag(&tag_len);
+    uint8_t *work = bytes(work_len);
+    uint64_t *meter = words(SV_METER_WORDS, &meter_len);
+    uint64_t *metered = words(SV_METERED_WORDS, &metered_len);
+    uint32_t answer = 0;
+    uint64_t kept = 0;
+    if (below(2)) {
+        answer = sv_meter_open(tag, tag_len, work, work_len, meter, meter_len);
+        check("sv_meter_open", answer, 0);
+    } else {
+        mostly(meter, meter_len, SV_METER_VERSION, 2 + below(3));
+        mostly(meter, meter_len, SV_METER_IN_WORK, below(2));
+        mostly(meter, meter_len, SV_METER_AT, below(30));
+        mostly(meter, meter_len, SV_METER_STOP, SV_STOP_RUNNING);
+        mostly(meter, meter_len, SV_METER_NUMBER, 0);
+        for (size_t i = SV_METER_SHORT; i < SV_METER_WORDS; i++)
+            mostly(meter, meter_len, i, below(2));
+        kept = meter_len > SV_METER_NUMBER ? meter[SV_METER_NUMBER] : 0;
+    }
+    for (size_t calls = tag_len / 6 + 1; answer == 0 && calls > 0; calls--) {
+        answer = sv_meter_next(tag, tag_len, work, work_len, meter, meter_len, metered, metered_len);
+        check("sv_meter_next", answer, kept);
+    }
+    free(tag);
+    free(work);
+    free(meter);
+    free(metered);
+}
+
 static void writing(void)
 {
     size_t writer_len, record_len, count_len, lens[5];
@@ -235,6 +268,7 @@ int main(int argc, char **argv)
         state = (uint64_t)i * 0x1000000001B3u;
         reading();
         stepping();
+        metering();
         writing();
     }
     printf("%lu cases, every answer known\n", cases);

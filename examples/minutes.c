@@ -1,12 +1,12 @@
 /*
- * Prints the user and the counter of each popularimeter in a tag, from a file or from standard input. Then writes a small
- * tag, and reads it back in the same way.
+ * Prints the user and the counter of each popularimeter in a tag, from a file or from standard input, and why counters may
+ * be missing. Then writes a small tag, and reads it back in the same way. rust/examples/minutes.rs is the same in Rust.
  *
  *     rt staticlib capi
  *     cc -std=c99 -Iinclude examples/minutes.c target/staticlib/libcapi.a -o minutes
  *     ./minutes FILE
  *
- * Exit status: 0 both tags were read to their end, 1 one was refused, 2 there was no input or no memory.
+ * Exit status: 0 every popularimeter of both tags was shown, 1 one may be missing, 2 there was no input or no memory.
  */
 #include "streamvault.h"
 
@@ -37,34 +37,44 @@ static uint8_t *read_all(FILE *in, size_t *len)
     return bytes;
 }
 
-/* Prints a record, if it is a popularimeter. A short one says less than was written, and is not counted. */
-static void print_record(const uint8_t *buffer, const uint64_t *record)
+/* Prints a popularimeter; the buffer is the one that its user lies in. */
+static void print_popularimeter(const uint8_t *buffer, const uint64_t *metered)
 {
-    if (record[SV_RECORD_KIND] != SV_KIND_POPULARIMETER)
-        return;
-    fwrite(buffer + record[SV_RECORD_NAME_START], 1, (size_t)record[SV_RECORD_NAME_LEN], stdout);
-    printf(" %" PRIu64 "%s\n", record[SV_POPULARIMETER_COUNTER], record[SV_RECORD_SHORT] ? " (short)" : "");
+    fwrite(buffer + metered[SV_METERED_USER_START], 1, (size_t)metered[SV_METERED_USER_LEN], stdout);
+    printf(" %" PRIu64 "\n", metered[SV_METERED_COUNTER]);
 }
 
-/* Prints the popularimeters of a tag; answers 0, or the refusal that ended it. */
-static uint32_t print_tag(const uint8_t *tag, size_t len)
+/* Says why popularimeters may be missing, from the last answer and the meter; answers 0 where none is. */
+static int print_missing(uint32_t answer, const uint64_t *meter)
 {
-    uint64_t reader[SV_READER_WORDS];
-    uint64_t record[SV_RECORD_WORDS];
+    int refused = answer != SV_END;
+    int cut = meter[SV_METER_SHORT] || meter[SV_METER_MISSING];
+    int compressed = meter[SV_METER_COMPRESSED] != 0;
+    if (refused)
+        printf("refused %" PRIu32 "\n", answer);
+    if (cut)
+        printf("cut\n");
+    if (compressed)
+        printf("compressed\n");
+    return refused || cut || compressed;
+}
+
+/* Prints the popularimeters of a tag; answers 0 where none is missing. */
+static int print_tag(const uint8_t *tag, size_t len)
+{
+    uint64_t meter[SV_METER_WORDS] = {0};
+    uint64_t metered[SV_METERED_WORDS];
     uint8_t *work = malloc(len > 0 ? len : 1);
     if (work == NULL)
         exit(2);
-    uint32_t answer = sv_open(tag, len, work, len, reader, SV_READER_WORDS);
+    uint32_t answer = sv_meter_open(tag, len, work, len, meter, SV_METER_WORDS);
     while (answer == 0) {
-        answer = sv_step(tag, len, work, len, reader, SV_READER_WORDS, record, SV_RECORD_WORDS);
+        answer = sv_meter_next(tag, len, work, len, meter, SV_METER_WORDS, metered, SV_METERED_WORDS);
         if (answer == 0)
-            print_record(record[SV_RECORD_IN_WORK] ? work : tag, record);
+            print_popularimeter(metered[SV_METERED_IN_WORK] ? work : tag, metered);
     }
     free(work);
-    if (answer == SV_END)
-        return 0;
-    printf("refused %" PRIu32 "\n", answer);
-    return answer;
+    return print_missing(answer, meter);
 }
 
 /* Writes a tag with one popularimeter; answers its length, 0 where a call is refused. */
@@ -100,12 +110,12 @@ int main(int argc, char **argv)
     if (in != stdin)
         fclose(in);
     printf("given:\n");
-    uint32_t given = print_tag(bytes, len);
+    int given = print_tag(bytes, len);
     free(bytes);
 
     uint8_t tag[128];
     printf("written:\n");
     size_t written = write_tag(tag, sizeof tag);
-    uint32_t again = print_tag(tag, written);
+    int again = print_tag(tag, written);
     return given == 0 && again == 0 ? 0 : 1;
 }

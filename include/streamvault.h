@@ -5,17 +5,20 @@
  * memset from the C library and nothing else. It allocates nothing, keeps nothing between calls and calls nothing back, so
  * any thread may use it.
  *
- * Every function answers 0, or the number of a refusal; sv_step also SV_END. The caller lends every buffer:
+ * Every function answers 0, or the number of a refusal; sv_step and sv_meter_next also SV_END. The caller lends every
+ * buffer:
  *
  * - A buffer is a pointer and a count of its elements, one directly after the other. The count may be 0, and the pointer
  *   then null.
  * - A buffer that a call may change (one without const) must not overlap another buffer of the same call.
- * - What a tag, a reader, a record or a writer is lies in words of 64 bits, at the places named below. More words may be
- *   lent than named; those behind are never changed. Fewer are refused with SV_NO_ROOM, and nothing at all is changed.
- * - No call trusts what it is lent. Words that no call leaves are refused: those of a reader or of a writer with
- *   SV_UNKNOWN_VERSION, those of a record with SV_WRONG_ID.
+ * - What a tag, a reader, a meter, a record or a writer is lies in words of 64 bits, at the places named below. More words
+ *   may be lent than named; those behind are never changed. Fewer are refused with SV_NO_ROOM, and nothing at all is
+ *   changed.
+ * - No call trusts what it is lent. Words that no call leaves are refused: those of a reader, of a meter or of a writer
+ *   with SV_UNKNOWN_VERSION, those of a record with SV_WRONG_ID.
  *
  * Reading: sv_open, then sv_step with the same tag, work buffer and reader until it answers something other than 0.
+ * Counters alone: sv_meter_open, then sv_meter_next in the same way; the meter's marks then say whether some may be missing.
  * Writing: sv_begin, sv_add for each record, sv_finish.
  */
 #ifndef STREAMVAULT_H
@@ -30,7 +33,7 @@ extern "C" {
 
 /* ---- answers besides 0 */
 
-/* sv_step: there is no further frame. */
+/* sv_step: there is no further frame. sv_meter_next: there is no further popularimeter. */
 #define SV_END 256
 
 /* Refusals, in the tag header. */
@@ -92,6 +95,31 @@ extern "C" {
 #define SV_STOP_RUNNING 0
 #define SV_STOP_ENDED 1
 #define SV_STOP_REFUSED 2
+
+/* ---- the words of a meter: a reader's, and what it passed */
+
+#define SV_METER_WORDS 11
+#define SV_METER_VERSION 0     /* the first seven are those of a reader */
+#define SV_METER_IN_WORK 1
+#define SV_METER_BEGIN 2
+#define SV_METER_AT 3
+#define SV_METER_END 4
+#define SV_METER_STOP 5
+#define SV_METER_NUMBER 6
+#define SV_METER_FRAMES 7      /* frames passed so far, modulo 2^64 */
+#define SV_METER_SHORT 8       /* 1 where one of them was short */
+#define SV_METER_COMPRESSED 9  /* 1 where one of them was a compressed frame under a popularimeter's id */
+#define SV_METER_MISSING 10    /* 1 where the tag has fewer bytes than its header says */
+
+/* ---- the words of a popularimeter that was metered */
+
+#define SV_METERED_WORDS 6
+#define SV_METERED_IN_WORK 0    /* 1 where the user lies in the work buffer, 0 where it lies in the tag */
+#define SV_METERED_USER_START 1
+#define SV_METERED_USER_LEN 2
+#define SV_METERED_RATING 3
+#define SV_METERED_COUNTER 4
+#define SV_METERED_FRAME 5      /* the number of its frame, from 0 */
 
 /* ---- the words of a record, read or to be written */
 
@@ -170,6 +198,24 @@ uint32_t sv_open(const uint8_t *tag, size_t tag_len, uint8_t *work, size_t work_
  */
 uint32_t sv_step(const uint8_t *tag, size_t tag_len, uint8_t *work, size_t work_len, uint64_t *reader, size_t reader_len,
                  uint64_t *record, size_t record_len);
+
+/*
+ * Opens a tag for its counters alone: a meter at its first frame. It refuses what sv_open refuses, needs as long a work
+ * buffer, and leaves it as sv_open does. A refusal changes nothing.
+ */
+uint32_t sv_meter_open(const uint8_t *tag, size_t tag_len, uint8_t *work, size_t work_len, uint64_t *meter, size_t meter_len);
+
+/*
+ * The next whole popularimeter of the top level, or SV_END. It answers what sv_step repeated up to there answers, and leaves
+ * the work buffer as those steps do. Frames that are short are passed over and marked, and so are compressed ones under a
+ * popularimeter's id; popularimeters inside chapters are not shown. The user stays where it lies until the next call. At the
+ * end and on a refusal the words of the popularimeter stay as they were. An ended meter answers SV_END again, a refused one
+ * its number.
+ *
+ * Where it answers SV_END and none of the meter's three marks is set, every popularimeter of the top level was shown.
+ */
+uint32_t sv_meter_next(const uint8_t *tag, size_t tag_len, uint8_t *work, size_t work_len, uint64_t *meter, size_t meter_len,
+                       uint64_t *metered, size_t metered_len);
 
 /*
  * All deviations of a lookup table, two by two (bytes, milliseconds), from its packed references, which are the rest of

@@ -55,10 +55,19 @@ fn small_tags(version: Version) {
     let tags: Vec<_> = (0..TAGS).map(|i| small_tag(version, i as u64 * 977)).collect();
     let (steps, sum) = library_walk(&tags);
     assert_eq!((steps, sum), plain_walk(&tags));
+    assert_eq!((steps, sum), library_meter(&tags));
     let library = best(|| library_walk(black_box(&tags)));
+    let meter = best(|| library_meter(black_box(&tags)));
     let plain = best(|| plain_walk(black_box(&tags)));
     println!("{TAGS} small tags, {version}, open and step:");
     println!("  {:.1} ns for a step", library / steps as f64);
+    per_tag(library, plain);
+    println!("{TAGS} small tags, {version}, by the meter:");
+    println!("  {:.1} ns for a tag", meter / TAGS as f64);
+    per_tag(meter, plain);
+}
+
+fn per_tag(library: f64, plain: f64) {
     println!("  {:.0} tags in a second", TAGS as f64 / (library / 1e9));
     println!("  {:.2} times a plain walk in Rust", library / plain);
 }
@@ -76,6 +85,23 @@ fn library_walk(tags: &[Vec<u8>]) -> (u64, u64) {
                 sum += record[SV_POPULARIMETER_COUNTER];
             }
         }
+    }
+    (steps, sum)
+}
+
+/// The same by the meter.
+fn library_meter(tags: &[Vec<u8>]) -> (u64, u64) {
+    let (mut meter, mut metered) = ([0; SV_METER_WORDS], [0; SV_METERED_WORDS]);
+    let (mut steps, mut sum) = (0, 0);
+    for tag in tags {
+        let mut answer = calls::meter_open(tag, &mut [], &mut meter);
+        while answer == 0 {
+            answer = calls::meter_next(tag, &mut [], &mut meter, &mut metered);
+            if answer == 0 {
+                sum += metered[SV_METERED_COUNTER];
+            }
+        }
+        steps += meter[SV_METER_FRAMES] + 1;
     }
     (steps, sum)
 }

@@ -1,7 +1,7 @@
 #!/usr/bin/env bash
 # Holds the new library against the crate id3 1.17.2 and against other programs: lays everything out, builds it and runs all.
 #
-#   rust/compare/run.sh                     all: the comparison, then peers.sh, then speed.sh
+#   rust/compare/run.sh                     all: the comparison, then peers.sh, speed.sh and sum.sh
 #   rust/compare/run.sh compare [OPTIONS]   the comparison: 10,000,000 generated tags, every short input and cut, 1,000,000 lists; OPTIONS as in README.md
 #   rust/compare/run.sh read HEX            both answers to one tag
 #   rust/compare/run.sh write LIST          the verdict on one list
@@ -20,7 +20,7 @@ out=${OUT:-$repository/target/compare}
 
 if [ $# = 0 ]; then
     failed=()
-    for part in "run.sh compare" peers.sh speed.sh; do
+    for part in "run.sh compare" peers.sh speed.sh sum.sh; do
         echo "== $part"
         # shellcheck disable=SC2086
         "$here"/$part || failed+=("$part")
@@ -29,7 +29,7 @@ if [ $# = 0 ]; then
         echo "failed: ${failed[*]}"
         exit 1
     fi
-    echo "all three ran without an unlisted difference"
+    echo "all four ran without an unlisted difference"
     exit 0
 fi
 

@@ -1,8 +1,8 @@
 #!/usr/bin/env bash
-# Times how the new library, the crate id3 1.17.2, libid3tag and TagLib (Debian's packages libid3tag0-dev and libtag1-dev) open small tags and go through
-# their frames, in one run over the same bytes. Only on x86-64: in an emulator a time says nothing.
+# Times how the new library (by its meter, and by a reader's steps), the crate id3 1.17.2, libid3tag and TagLib (Debian's packages libid3tag0-dev and
+# libtag1-dev) read the counters of small tags, in one run over the same bytes. Only on x86-64: in an emulator a time says nothing.
 #
-#   rust/compare/speed.sh
+#   rust/compare/speed.sh [TAGS]     20,000 of each kind if not given
 #
 #   OUT, SOURCE, PACKAGE, STREAMVAULT_LIB_DIR   as in run.sh
 set -euo pipefail
@@ -29,4 +29,4 @@ fi
 find_rust
 cd "$out/compare"
 cargo build -j1 --release --quiet --target "$target" --bin speed
-exec "target/$target/release/speed" "${peers[@]}"
+exec "target/$target/release/speed" "${1:-20000}" "${peers[@]}"

@@ -47,6 +47,31 @@ pub fn step(tag: &[u8], work: &mut [u8], reader: &mut [u64], record: &mut [u64])
     }
 }
 
+/// Opens a tag for its counters alone: a meter at its first frame.
+pub fn meter_open(tag: &[u8], work: &mut [u8], meter: &mut [u64]) -> u32 {
+    // SAFETY: pointers and lengths are those of live slices, and those written are borrowed alone.
+    unsafe {
+        sys::sv_meter_open(tag.as_ptr(), tag.len(), work.as_mut_ptr(), work.len(), meter.as_mut_ptr(), meter.len())
+    }
+}
+
+/// The next whole popularimeter, or [`sys::SV_END`].
+pub fn meter_next(tag: &[u8], work: &mut [u8], meter: &mut [u64], metered: &mut [u64]) -> u32 {
+    // SAFETY: pointers and lengths are those of live slices, and those written are borrowed alone.
+    unsafe {
+        sys::sv_meter_next(
+            tag.as_ptr(),
+            tag.len(),
+            work.as_mut_ptr(),
+            work.len(),
+            meter.as_mut_ptr(),
+            meter.len(),
+            metered.as_mut_ptr(),
+            metered.len(),
+        )
+    }
+}
+
 /// All deviations of a lookup table, two by two, from its packed references.
 pub fn references(record: &[u64], rest: &[u8], deviations: &mut [u32], count: &mut [u64]) -> u32 {
     // SAFETY: pointers and lengths are those of live slices, and those written are borrowed alone.

@@ -3,29 +3,28 @@
 //! The library is written in Rattle and linked as a static library for x86-64 Linux; this crate is the thin layer over its
 //! C interface. It decides nothing about the format: what a tag says, and what is refused, is the library's answer.
 //!
-//! - [`header`] and [`Reader`] read a tag that lies in memory, [`read`] all of it at once.
+//! - [`Meter`] reads the counters of a tag that lies in memory, and nothing else.
+//! - [`header`] and [`Reader`] read all of it frame by frame, [`read`] at once.
 //! - [`Writer`] makes a tag of records.
 //! - [`references`] unpacks a lookup table.
 //! - A [`Refusal`] is a number and its meaning.
 //!
 //! ```
-//! use streamvault::{Content, Mode, Reader, Version, Writer};
+//! use streamvault::{Content, Meter, Mode, Version, Writer};
 //!
 //! // write a tag
 //! let mut writer = Writer::new(Version::Id3v23, Mode::Crate);
 //! writer.add(b"POPM", &Content::Popularimeter { user: b"room 7", rating: 0, counter: 90 })?;
 //! let tag = writer.finish(16)?;
 //!
-//! // and read it
+//! // and read its counters
 //! let mut minutes = 0;
-//! let mut reader = Reader::open(&tag, Vec::new())?;
-//! while let Some(frame) = reader.next_frame() {
-//!     let frame = frame?;
-//!     if let (Content::Popularimeter { counter, .. }, false) = (frame.content, frame.short) {
-//!         minutes += counter;
-//!     }
+//! let mut meter = Meter::open(&tag, Vec::new())?;
+//! while let Some(popularimeter) = meter.next_popularimeter() {
+//!     minutes += popularimeter?.counter;
 //! }
 //! assert_eq!(minutes, 90);
+//! assert!(meter.ending().is_whole());
 //! # Ok::<(), streamvault::Refusal>(())
 //! ```
 
@@ -34,15 +33,20 @@
 pub mod calls;
 mod id;
 mod kinds;
+mod meter;
 mod reader;
 mod record;
 mod refusal;
+mod state;
 pub mod sys;
+mod work;
 mod writer;
 
 pub use id::Id;
 pub use kinds::{Encoding, Kind, Mode, Version};
-pub use reader::{header, read, Header, Reader, Records, Work};
+pub use meter::{Ending, Meter, Popularimeter};
+pub use reader::{header, read, Header, Reader, Records};
 pub use record::{references, Content, Frame, Record, Reference, Table};
 pub use refusal::Refusal;
+pub use work::Work;
 pub use writer::Writer;

@@ -29,6 +29,28 @@ extern "C" {
         record_len: usize,
     ) -> u32;
 
+    /// Opens a tag for its counters alone.
+    pub fn sv_meter_open(
+        tag: *const u8,
+        tag_len: usize,
+        work: *mut u8,
+        work_len: usize,
+        meter: *mut u64,
+        meter_len: usize,
+    ) -> u32;
+
+    /// The next whole popularimeter, or [`SV_END`].
+    pub fn sv_meter_next(
+        tag: *const u8,
+        tag_len: usize,
+        work: *mut u8,
+        work_len: usize,
+        meter: *mut u64,
+        meter_len: usize,
+        metered: *mut u64,
+        metered_len: usize,
+    ) -> u32;
+
     /// All deviations of a lookup table, two by two.
     pub fn sv_references(
         record: *const u64,
@@ -80,7 +102,7 @@ extern "C" {
 
 // ---- answers besides 0
 
-/// A step: there is no further frame.
+/// A step: there is no further frame. A meter: there is no further popularimeter.
 pub const SV_END: u32 = 256;
 
 /// The refusal numbers, each with its meaning, which [`Refusal`](crate::Refusal) prints.
@@ -186,14 +208,58 @@ pub const SV_READER_STOP: usize = 5;
 /// The refusal, where the reader was refused; else 0.
 pub const SV_READER_NUMBER: usize = 6;
 
-// ---- whether a reader goes on
+// ---- whether a reader or a meter goes on
 
-/// A reader goes on.
+/// It goes on.
 pub const SV_STOP_RUNNING: u64 = 0;
-/// A reader has met the end.
+/// It has met the end.
 pub const SV_STOP_ENDED: u64 = 1;
-/// A reader was refused.
+/// It was refused.
 pub const SV_STOP_REFUSED: u64 = 2;
+
+// ---- the words of a meter: a reader's, and what it passed
+
+/// Words of a meter.
+pub const SV_METER_WORDS: usize = 11;
+/// As of a reader.
+pub const SV_METER_VERSION: usize = 0;
+/// As of a reader.
+pub const SV_METER_IN_WORK: usize = 1;
+/// As of a reader.
+pub const SV_METER_BEGIN: usize = 2;
+/// As of a reader.
+pub const SV_METER_AT: usize = 3;
+/// As of a reader.
+pub const SV_METER_END: usize = 4;
+/// As of a reader.
+pub const SV_METER_STOP: usize = 5;
+/// As of a reader.
+pub const SV_METER_NUMBER: usize = 6;
+/// Frames passed so far, modulo 2^64.
+pub const SV_METER_FRAMES: usize = 7;
+/// 1 where one of them was short.
+pub const SV_METER_SHORT: usize = 8;
+/// 1 where one of them was a compressed frame under a popularimeter's id.
+pub const SV_METER_COMPRESSED: usize = 9;
+/// 1 where the tag has fewer bytes than its header says.
+pub const SV_METER_MISSING: usize = 10;
+
+// ---- the words of a popularimeter that was metered
+
+/// Words of a popularimeter that was metered.
+pub const SV_METERED_WORDS: usize = 6;
+/// 1 where the user lies in the work buffer, 0 where it lies in the tag.
+pub const SV_METERED_IN_WORK: usize = 0;
+/// The user: its first byte.
+pub const SV_METERED_USER_START: usize = 1;
+/// The user: its length.
+pub const SV_METERED_USER_LEN: usize = 2;
+/// The rating.
+pub const SV_METERED_RATING: usize = 3;
+/// The counter.
+pub const SV_METERED_COUNTER: usize = 4;
+/// The number of its frame, from 0.
+pub const SV_METERED_FRAME: usize = 5;
 
 // ---- the words of a record, read or to be written
 

@@ -201,7 +201,17 @@ fn numbers(constants: &Constants) -> BTreeMap<&str, u64> {
 
 // ---- the comparisons
 
-const EXPORTED: [&str; 7] = ["sv_add", "sv_begin", "sv_finish", "sv_header", "sv_open", "sv_references", "sv_step"];
+const EXPORTED: [&str; 9] = [
+    "sv_add",
+    "sv_begin",
+    "sv_finish",
+    "sv_header",
+    "sv_meter_next",
+    "sv_meter_open",
+    "sv_open",
+    "sv_references",
+    "sv_step",
+];
 
 #[test]
 fn the_source_exports_what_rust_declares() {
@@ -229,7 +239,7 @@ fn the_constants_of_the_header_are_those_of_rust() {
 fn the_source_counts_words_as_rust_does() {
     let source = constants_after(&source(), "const ", "//");
     let rust = constants_after(&text("rust/src/sys.rs"), "pub const SV_", "///");
-    for name in ["HEADER", "READER", "RECORD", "WRITER", "COUNT"] {
+    for name in ["HEADER", "READER", "METER", "METERED", "RECORD", "WRITER", "COUNT"] {
         assert_eq!(source[name].0, rust[&format!("{name}_WORDS")].0, "{name}");
     }
     assert_eq!(source["END"].0, rust["END"].0);

@@ -45,20 +45,15 @@ fn the_sum_as_comma_separated_values() {
 }
 
 #[test]
-fn damaged_files_are_listed_and_their_short_counters_not_counted() {
-    let output = run(&["sum", "samples/damaged"]);
-    let want = "counter  popularimeters  user
-     14               2  room 1
-
-in all 14 from 2 popularimeters
-2 files with a tag, 0 without
-samples/damaged/refused.mp3: refused 5: bytes are missing: of the extended header, of a data length, or of a 2.3 body (popularimeters counted before it: 1)
-samples/damaged/short.mp3: short, not counted: frame 2, counter 1, user room 2
-";
+fn the_sum_of_all_samples_lists_the_damaged_ones() {
+    let output = run(&["sum", "samples", "--csv"]);
+    let want = "user,popularimeters,counter\nhex:636166E9,1,0\nroom 1,26,4294967599\nroom 2,11,67983\n";
     assert_eq!(said(&output), (want.to_string(), 1));
-    let output = run(&["sum", "samples/damaged", "--csv"]);
-    assert_eq!(said(&output), ("user,popularimeters,counter\nroom 1,2,14\n".to_string(), 1));
-    assert!(err(&output).contains("refused 5") && err(&output).contains("short, not counted"));
+    let listed = err(&output);
+    assert!(listed.lines().all(|line| line.starts_with("samples/damaged/")), "{listed}");
+    // one file after another by their names
+    let paths: Vec<_> = listed.lines().map(|line| line.split_once(": ").unwrap().0).collect();
+    assert!(paths.is_sorted(), "{listed}");
 }
 
 #[test]
@@ -66,13 +61,40 @@ fn the_sum_as_json() {
     let (out, status) = said(&run(&["sum", "--json", "samples"]));
     assert_eq!(status, 1);
     for part in [
-        r#"{"user": "room 1", "popularimeters": 5, "counter": "4294967452"}"#,
-        r#""tags": 6,"#,
-        r#""without_tag": 1,"#,
-        r#"{"file": "samples/damaged/short.mp3", "frame": 2, "user": "room 2", "counter": "1"}"#,
+        r#"{"user": "room 1", "popularimeters": 26, "counter": "4294967599"}"#,
+        r#""tags": 34,"#,
+        r#""without_tag": 3,"#,
+        r#"{"file": "samples/damaged/cut-in-popularimeter-2.3.mp3", "number": 5, "meaning": "#,
+        r#"{"file": "samples/damaged/short-frame.mp3", "promised": 112, "there": 112, "short_frame": true, "counted_before": 1}"#,
+        r#"{"file": "samples/damaged/compressed-2.4.mp3"}"#,
+        r#"{"file": "samples/damaged/second-tag.mp3", "found": "second tag", "at": 120}"#,
+        r#"{"file": "samples/damaged/tag-at-end.mp3", "found": "footer at the end", "at": 248}"#,
         r#""unreadable": []"#,
     ] {
         assert!(out.contains(part), "{part} in {out}");
+    }
+}
+
+#[test]
+fn the_number_of_threads_changes_nothing() {
+    let folder = folder("jobs");
+    let songs = ["march/first.mp3", "damaged/cut-in-picture-2.3.mp3", "march/third.mp3", "damaged/second-tag.mp3"];
+    let songs = songs.map(|song| fs::read(root().join("samples").join(song)).unwrap());
+    for number in 0..400 {
+        let inner = folder.join(format!("{}", number % 7));
+        fs::create_dir_all(&inner).unwrap();
+        fs::write(inner.join(format!("{number}.mp3")), &songs[number % 4]).unwrap();
+    }
+    symlink("gone", folder.join("3/dangling.mp3")).unwrap();
+    let path = folder.to_str().unwrap();
+    for format in [&[][..], &["--csv"], &["--json"]] {
+        let summed = |jobs: &str| run(&[&["sum", "--jobs", jobs], format, &[path]].concat());
+        let one = summed("1");
+        assert_eq!(said(&one).1, 1);
+        assert_eq!(one, run(&[&["sum"], format, &[path]].concat()));
+        for jobs in ["2", "3", "8", "50"] {
+            assert_eq!(one, summed(jobs), "{jobs} threads, {format:?}");
+        }
     }
 }
 
@@ -107,6 +129,29 @@ fn what_cannot_be_read_is_listed() {
 }
 
 #[test]
+fn a_file_whose_bytes_cannot_be_read_is_listed() {
+    // it opens, and its first byte is none that can be read
+    let (out, status) = said(&run(&["sum", "/proc/self/mem"]));
+    assert_eq!(status, 1);
+    assert!(out.contains("/proc/self/mem: not readable: "), "{out}");
+}
+
+#[test]
+fn a_footer_of_its_own_is_no_further_tag() {
+    let folder = folder("footer");
+    let song = fs::read(root().join("samples/damaged/second-tag-behind-footer.mp3")).unwrap();
+    // the tag with its footer alone, with sound, and with an ID3v1 tag
+    let footed = &song[..122];
+    let old = [&b"TAG"[..], &[0; 125]].concat();
+    for (name, behind) in [("a.mp3", &[][..]), ("b.mp3", &[0xFF; 300]), ("c.mp3", &old)] {
+        fs::write(folder.join(name), [footed, behind].concat()).unwrap();
+    }
+    let (out, status) = said(&run(&["sum", folder.to_str().unwrap()]));
+    assert_eq!(status, 0, "{out}");
+    assert!(out.contains("in all 921 from 6 popularimeters\n3 files with a tag, 0 without\n"), "{out}");
+}
+
+#[test]
 fn only_the_tag_is_read_of_a_large_file() {
     let folder = folder("large");
     let mut song = fs::read(root().join("samples/march/first.mp3")).unwrap();
@@ -118,8 +163,9 @@ fn only_the_tag_is_read_of_a_large_file() {
     // the same where the header claims more than there is
     song[6..10].copy_from_slice(&[0xFF; 4]);
     fs::write(&path, &song).unwrap();
-    let (out, _) = said(&run(&["sum", path.to_str().unwrap()]));
-    assert!(out.contains("in all 125 "), "{out}");
+    let (out, status) = said(&run(&["sum", path.to_str().unwrap()]));
+    assert_eq!(status, 1);
+    assert!(out.contains("in all 125 ") && out.contains("bytes of a tag of 536870921 are there"), "{out}");
 }
 
 #[test]
@@ -142,7 +188,7 @@ fn the_listing_from_standard_input_and_of_a_refused_file() {
     let (out, status) = said(&output);
     assert_eq!(status, 0);
     assert!(out.ends_with("counter 17\nend 2\n"), "{out}");
-    let (out, status) = said(&run(&["list", "samples/damaged/refused.mp3"]));
+    let (out, status) = said(&run(&["list", "samples/damaged/cut-in-picture-2.3.mp3"]));
     assert_eq!(status, 1);
     assert!(out.ends_with("counter 7\nrefused 5\n"), "{out}");
     assert_eq!(said(&run(&["list", "samples/march/no-tag.mp3"])), ("refused 1\n".to_string(), 1));
@@ -150,7 +196,7 @@ fn the_listing_from_standard_input_and_of_a_refused_file() {
 
 #[test]
 fn bad_usage_is_status_2() {
-    for words in [&["sum"][..], &["list"], &["sum", "--xml", "."], &["help!"]] {
+    for words in [&["sum"][..], &["list"], &["sum", "--xml", "."], &["sum", "--jobs", "0", "."], &["help!"]] {
         let output = run(words);
         assert_eq!(said(&output), (String::new(), 2), "{words:?}");
         assert!(err(&output).contains("usage: "), "{words:?}");

@@ -8,6 +8,8 @@ pub mod linked;
 pub mod listing;
 pub mod lists;
 pub mod rng;
+#[cfg(feature = "library")]
+pub mod songs;
 pub mod sources;
 pub mod tags;
 pub mod texts;

@@ -23,9 +23,35 @@ pub fn read(tag: &[u8], work: &mut Vec<u8>) -> Seen {
         Ok(_) => {
             assert_eq!(0, opened, "open refuses what header takes");
             seen.stop = steps(tag, work, &mut reader, &mut seen.frames);
+            metered(tag, work, &seen);
         }
     }
     seen
+}
+
+/// The meter shows the whole popularimeters among these frames, has their marks, and ends as the steps do.
+fn metered(tag: &[u8], work: &mut [u8], seen: &Seen) {
+    let (mut meter, mut found) = ([0; sys::SV_METER_WORDS], [0; sys::SV_METERED_WORDS]);
+    assert_eq!(0, calls::meter_open(tag, work, &mut meter), "the meter refuses what is opened");
+    let whole = |frame: &&Frame| frame.kind == sys::SV_KIND_POPULARIMETER && !frame.short;
+    for frame in seen.frames.iter().filter(whole) {
+        assert_eq!(0, calls::meter_next(tag, work, &mut meter, &mut found), "the meter shows no popularimeter");
+        let source = if found[sys::SV_METERED_IN_WORK] == 1 { &*work } else { tag };
+        let user = &source[found[sys::SV_METERED_USER_START] as usize..][..found[sys::SV_METERED_USER_LEN] as usize];
+        let numbers = [found[sys::SV_METERED_RATING], found[sys::SV_METERED_COUNTER]];
+        assert_eq!((user, &numbers[..]), (&frame.name[..], &frame.numbers[..2]), "the meter shows another popularimeter");
+        assert!(std::ptr::eq(frame, &seen.frames[found[sys::SV_METERED_FRAME] as usize]), "the meter counts frames otherwise");
+    }
+    let stop = match seen.stop {
+        Stop::Refused { number, .. } => number,
+        _ => sys::SV_END,
+    };
+    assert_eq!(stop, calls::meter_next(tag, work, &mut meter, &mut found), "the meter ends otherwise");
+    let short = seen.frames.iter().any(|frame| frame.short);
+    let compressed = seen.frames.iter().any(|frame| frame.compressed && frame.id == 0x504F_504D);
+    let missing = seen.header.as_ref().is_ok_and(|header| (tag.len() as u64) < 10 + header.size);
+    let marks = [seen.frames.len() as u64, short.into(), compressed.into(), missing.into()];
+    assert_eq!(marks, meter[sys::SV_METER_FRAMES..], "the meter's marks are others");
 }
 
 fn header(tag: &[u8]) -> Result<Header, u32> {

@@ -1,16 +1,17 @@
-//! How fast the new library, the crate and other libraries open small tags and go through their frames, in one run over the same bytes.
+//! How fast the new library, the crate and other libraries read the counters of small tags, in one run over the same bytes: the library by its meter and by
+//! a reader's steps, the others by going through the frames.
 //!
-//!     speed [PEER...]     PEER is a shared library with the function `peer_read` (peers/)
+//!     speed TAGS [PEER...]     TAGS of each kind are read; PEER is a shared library with the function `peer_read` (peers/)
 //!
 //! Each is first asked for the number of frames and the sum of all counters, which must be the same. The times are the best of several rounds; in
 //! each round every reader has its turn.
+use compare::songs::{box_tag, sold_tag};
 use std::ffi::{c_char, c_int, c_void, CString};
 use std::hint::black_box;
 use std::io::Cursor;
 use std::time::Instant;
-use streamvault::{calls, sys, Content, Encoding, Mode, Version, Writer};
+use streamvault::{calls, sys, Mode, Version};
 
-const TAGS: usize = 20_000;
 const ROUNDS: usize = 9;
 
 /// Frames, and the sum of the counters.
@@ -24,17 +25,19 @@ struct Reader {
 }
 
 fn main() {
-    let mut readers = vec![reader("streamvault", library), reader("id3 1.17.2", by_crate)];
-    for path in std::env::args().skip(1) {
+    let mut words = std::env::args().skip(1);
+    let count: usize = words.next().and_then(|word| word.parse().ok()).expect("the number of tags comes first");
+    let mut readers = vec![reader("meter", by_meter), reader("steps", by_steps), reader("id3 1.17.2", by_crate)];
+    for path in words {
         let peer = loaded(&path);
         let name = path.rsplit('/').next().unwrap_or(&path).trim_end_matches(".so").to_string();
         readers.push(Reader { name, read: Box::new(move |tags| by_peer(peer, tags)), best: f64::INFINITY });
     }
-    for version in [Version::Id3v23, Version::Id3v24] {
+    for version in [Version::Id3v22, Version::Id3v23, Version::Id3v24] {
         for (what, make) in KINDS {
-            let tags: Vec<_> = (0..TAGS).map(|i| make(version, i as u64 * 977)).collect();
+            let tags: Vec<_> = (0..count).map(|i| make(version, i as u64 * 977)).collect();
             measure(&mut readers, &tags);
-            println!("{TAGS} tags, {version}, {what}, {} bytes each:", tags[0].len());
+            println!("{count} tags, {version}, {what}, {} bytes each:", tags[0].len());
             show(&readers);
         }
     }
@@ -72,51 +75,37 @@ fn show(readers: &[Reader]) {
 
 type Make = fn(Version, u64) -> Vec<u8>;
 
+const USER: &[u8] = b"room 7";
+
 const KINDS: [(&str, Make); 3] = [
-    ("as a box leaves it, four frames", plain_tag),
-    ("the same, unsynchronised", unsynchronised_tag),
-    ("as a shop sells it, thirteen frames with a picture", sold_tag),
+    ("as a box leaves it, four frames", |version, counter| box_tag(version, Mode::Off, USER, counter)),
+    ("the same, unsynchronised", |version, counter| box_tag(version, Mode::Standard, USER, counter)),
+    ("as a shop sells it, thirteen frames with a picture", |version, counter| sold_tag(version, USER, counter)),
 ];
-
-/// As a box leaves it: some texts, a popularimeter, a private frame.
-fn small_tag(version: Version, mode: Mode, counter: u64) -> Vec<u8> {
-    let mut writer = Writer::new(version, mode);
-    let text = |text| Content::Text { encoding: Encoding::Latin1, text };
-    writer.add(b"TIT2", &text(&b"A song of some length"[..])).unwrap();
-    writer.add(b"TPE1", &text(b"Somebody")).unwrap();
-    writer.add(b"POPM", &Content::Popularimeter { user: b"room 7", rating: 3, counter }).unwrap();
-    let mut private = b"owner\0".to_vec();
-    private.resize(200, 7);
-    writer.add(b"PRIV", &Content::Raw { body: private }).unwrap();
-    writer.finish(64).unwrap()
-}
-
-fn plain_tag(version: Version, counter: u64) -> Vec<u8> {
-    small_tag(version, Mode::Off, counter)
-}
-
-fn unsynchronised_tag(version: Version, counter: u64) -> Vec<u8> {
-    small_tag(version, Mode::Standard, counter)
-}
-
-/// As a shop sells it: ten texts in UTF-16, a comment, a picture of 4 KiB, and a popularimeter.
-fn sold_tag(version: Version, counter: u64) -> Vec<u8> {
-    let mut writer = Writer::new(version, Mode::Off);
-    for id in [b"TIT2", b"TPE1", b"TALB", b"TPE2", b"TCOM", b"TRCK", b"TPUB", b"TENC", b"TBPM", b"TCON"] {
-        let text = "\u{FEFF}17 Some words of it".encode_utf16().flat_map(u16::to_le_bytes).collect::<Vec<u8>>();
-        writer.add(id, &Content::Text { encoding: Encoding::Utf16, text }).unwrap();
-    }
-    writer.add(b"COMM", &Content::Raw { body: b"\0eng\0A comment".to_vec() }).unwrap();
-    let mut picture = b"\0image/jpeg\0\x03\0".to_vec();
-    picture.resize(4096, 7);
-    writer.add(b"APIC", &Content::Raw { body: picture }).unwrap();
-    writer.add(b"POPM", &Content::Popularimeter { user: b"room 7".to_vec(), rating: 3, counter }).unwrap();
-    writer.finish(64).unwrap()
-}
 
 // ---- the readers
 
-fn library(tags: &[Vec<u8>]) -> Found {
+/// Opened, every popularimeter, the end.
+fn by_meter(tags: &[Vec<u8>]) -> Found {
+    let (mut meter, mut metered) = ([0; sys::SV_METER_WORDS], [0; sys::SV_METERED_WORDS]);
+    let mut work = [0; 4096];
+    let mut found = (0, 0);
+    for tag in tags {
+        let mut answer = calls::meter_open(tag, &mut work, &mut meter);
+        while answer == 0 {
+            answer = calls::meter_next(tag, &mut work, &mut meter, &mut metered);
+            if answer == 0 {
+                found.1 += metered[sys::SV_METERED_COUNTER];
+            }
+        }
+        assert_eq!(answer, sys::SV_END);
+        found.0 += meter[sys::SV_METER_FRAMES];
+    }
+    found
+}
+
+/// Opened, every frame, the end.
+fn by_steps(tags: &[Vec<u8>]) -> Found {
     let (mut reader, mut record) = ([0; sys::SV_READER_WORDS], [0; sys::SV_RECORD_WORDS]);
     let mut work = [0; 4096];
     let mut found = (0, 0);

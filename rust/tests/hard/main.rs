@@ -2,11 +2,12 @@
 //!
 //! Every buffer lies beside pages that may not be touched. Every answer is held against the rules of the interface, and
 //! every buffer against what a call may change. The numbers are the same in each run; `STREAMVAULT_HARD_CASES` says how many
-//! cases there are (20,000 if it does not), `STREAMVAULT_HARD_FROM` with which the run begins.
+//! cases there are (30,000 if it does not), `STREAMVAULT_HARD_FROM` with which the run begins.
 
 #[path = "../common/mod.rs"]
 mod common;
 mod fence;
+mod metering;
 mod reading;
 mod tags;
 mod words;
@@ -30,6 +31,9 @@ const REFERENCES: &[u32] = &[0, 20, 21, 30];
 /// What only bodies of 2^24 and 2^28 bytes are answered, which are not made here.
 const NOT_MET: [(&str, u32); 2] = [("add", 23), ("add", 24)];
 
+/// How many cases there are, if nothing else is said.
+const CASES: u64 = 30_000;
+
 fn setting(name: &str, otherwise: u64) -> u64 {
     match std::env::var(name) {
         Ok(text) => text.parse().unwrap_or_else(|_| panic!("{name} is no number: {text}")),
@@ -51,29 +55,31 @@ impl Drop for Case {
 #[test]
 fn hard_use() {
     let from = setting("STREAMVAULT_HARD_FROM", 0);
-    let cases = setting("STREAMVAULT_HARD_CASES", 20_000);
+    let cases = setting("STREAMVAULT_HARD_CASES", CASES);
     let mut buffers = Buffers::new();
     for number in from..from + cases {
         let _case = Case(number);
         let mut numbers = Numbers(number.wrapping_mul(0x1000_0000_01B3));
-        match number % 8 {
+        match number % 12 {
             0 | 1 => buffers.reading(&mut numbers),
             2 => buffers.step_from_any_words(&mut numbers),
             3 => buffers.header(&mut numbers),
             4 => buffers.begin(&mut numbers),
             5 => buffers.add(&mut numbers),
             6 => buffers.finish(&mut numbers),
-            _ => buffers.references(&mut numbers),
+            7 => buffers.references(&mut numbers),
+            8..=10 => buffers.metering(&mut numbers),
+            _ => buffers.meter_from_any_words(&mut numbers),
         }
     }
-    if cases >= 20_000 {
+    if cases >= CASES {
         buffers.all_was_met();
     }
 }
 
 #[test]
 fn what_is_accepted_is_read_back() {
-    let cases = setting("STREAMVAULT_HARD_CASES", 20_000) / 20;
+    let cases = setting("STREAMVAULT_HARD_CASES", CASES) / 30;
     for number in 0..cases {
         let _case = Case(number);
         tags::there_and_back(&mut Numbers(number ^ 0xBAC4));
@@ -82,7 +88,7 @@ fn what_is_accepted_is_read_back() {
 
 // ---- buffers and calls
 
-/// A buffer for each parameter; `state` holds the words of a header, a reader or a writer.
+/// A buffer for each parameter; `state` holds the words of a header, a reader, a meter or a writer.
 struct Buffers {
     tag: Fenced<u8>,
     work: Fenced<u8>,
@@ -93,6 +99,7 @@ struct Buffers {
     deviations: Fenced<u32>,
     state: Fenced<u64>,
     record: Fenced<u64>,
+    metered: Fenced<u64>,
     count: Fenced<u64>,
     /// Every answer that was met, by the function's name.
     met: BTreeSet<(&'static str, u32)>,
@@ -110,6 +117,7 @@ impl Buffers {
             deviations: Fenced::new(),
             state: Fenced::new(),
             record: Fenced::new(),
+            metered: Fenced::new(),
             count: Fenced::new(),
             met: BTreeSet::new(),
         }
@@ -127,6 +135,8 @@ impl Buffers {
             ("header", HEADERS),
             ("open", OPENS),
             ("step", STEPS),
+            ("meter_open", OPENS),
+            ("meter_next", STEPS),
             ("begin", BEGINS),
             ("add", ADDS),
             ("finish", FINISHES),

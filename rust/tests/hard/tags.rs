@@ -59,15 +59,35 @@ pub fn any(numbers: &mut Numbers) -> Vec<u8> {
         2 | 3 => written(numbers).map_or_else(|_| Vec::new(), |(tag, _)| tag),
         _ => made(numbers),
     };
+    spoil(numbers, &mut tag);
+    tag
+}
+
+/// A tag with many popularimeters, between frames of any sort.
+pub fn with_counters(numbers: &mut Numbers) -> Vec<u8> {
+    let edition = 2 + numbers.below(3) as u8;
+    let id = if edition == 2 { id3(b"POP") } else { id4(b"POPM") };
+    let mut frames = Vec::new();
+    for _ in 0..numbers.below(8) {
+        let other = *numbers.one(&KINDS_AND_IDS);
+        let (kind, id) = if numbers.once_in(3) { other } else { (SV_KIND_POPULARIMETER, id) };
+        frames.extend(frame_of(numbers, edition, 2, kind, id));
+    }
+    let mut tag = around(numbers, edition, &frames);
+    spoil(numbers, &mut tag);
+    tag
+}
+
+/// Cuts one tag in four, and changes some bytes of another.
+fn spoil(numbers: &mut Numbers, tag: &mut Vec<u8>) {
     match numbers.below(4) {
         0 => {
             let len = numbers.below(tag.len() + 1);
             tag.truncate(len);
         }
-        1 => damage(numbers, &mut tag),
+        1 => damage(numbers, tag),
         _ => {}
     }
-    tag
 }
 
 /// Changes a few bytes.
@@ -80,15 +100,21 @@ fn damage(numbers: &mut Numbers, tag: &mut [u8]) {
     }
 }
 
-/// A tag whose header is mostly right, around frames with any flags.
+/// A tag of frames with any flags.
 fn made(numbers: &mut Numbers) -> Vec<u8> {
     let edition = 2 + numbers.below(3) as u8;
+    let frames = frames(numbers, edition, 4);
+    around(numbers, edition, &frames)
+}
+
+/// A header that is mostly right, frames and padding.
+fn around(numbers: &mut Numbers, edition: u8, frames: &[u8]) -> Vec<u8> {
     let flags = *numbers.one(&[0, 0, 0, 0x80, 0x80, 0x40, 0xC0, 0x20, 0x01]);
     let mut region = Vec::new();
     if flags & 0x40 != 0 {
         region.extend([0, 0, 0, *numbers.one(&[5, 6, 10, 20]), 0, 0]);
     }
-    region.extend(frames(numbers, edition, 4));
+    region.extend(frames);
     region.extend(vec![0; numbers.below(12)]);
     let size = if numbers.once_in(8) { numbers.below(300) } else { region.len() };
     let mut tag = b"ID3".to_vec();
@@ -112,6 +138,10 @@ fn frames(numbers: &mut Numbers, edition: u8, depth: usize) -> Vec<u8> {
 
 fn frame(numbers: &mut Numbers, edition: u8, depth: usize) -> Vec<u8> {
     let (kind, id) = *numbers.one(&KINDS_AND_IDS);
+    frame_of(numbers, edition, depth, kind, id)
+}
+
+fn frame_of(numbers: &mut Numbers, edition: u8, depth: usize, kind: u64, id: u64) -> Vec<u8> {
     let body = body(numbers, kind, edition, depth);
     let flags =
         if numbers.once_in(2) { 0 } else { *numbers.one(&[1, 2, 2, 2, 3, 8, 9, 10, 0x80, 0x80, 4, 0x20, 0x40]) };
@@ -147,7 +177,7 @@ fn body(numbers: &mut Numbers, kind: u64, edition: u8, depth: usize) -> Vec<u8> 
     let inner = if depth == 0 { Vec::new() } else { frames(numbers, edition, depth - 1) };
     match kind {
         SV_KIND_TEXT => [&[numbers.below(5) as u8], &some[..]].concat(),
-        SV_KIND_POPULARIMETER => [b"user\0", &some[..]].concat(),
+        SV_KIND_POPULARIMETER => [user(numbers), some].concat(),
         SV_KIND_TABLE => {
             let widths = [numbers.below(34) as u8, 4 * numbers.below(9) as u8];
             [&[0, 1, 0, 0, 2, 0, 0, 3], &widths[..], &some].concat()
@@ -156,6 +186,17 @@ fn body(numbers: &mut Numbers, kind: u64, edition: u8, depth: usize) -> Vec<u8> 
         SV_KIND_CONTENTS => [&b"t\0\x03\x02a\0b\0"[..], &inner].concat(),
         _ => some,
     }
+}
+
+/// A user and mostly its closing zero. Bytes that a search for the zero could take for it come often.
+fn user(numbers: &mut Numbers) -> Vec<u8> {
+    let len = if numbers.once_in(4) { numbers.below(40) } else { numbers.below(12) };
+    let mut user = numbers.bytes(len);
+    user.retain(|byte| *byte != 0);
+    if !numbers.once_in(20) {
+        user.push(0);
+    }
+    user
 }
 
 // ---- records

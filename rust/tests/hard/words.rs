@@ -47,6 +47,26 @@ pub fn is_reader(words: &[u64]) -> bool {
         && refused == (number != 0)
 }
 
+/// Words of a meter that are mostly in range.
+pub fn meter_words(numbers: &mut Numbers, tag: usize) -> Vec<u64> {
+    let mut words = some_words(numbers, SV_METER_WORDS);
+    for (word, good) in words.iter_mut().zip(reader_words(numbers, tag)) {
+        *word = good;
+    }
+    for place in [SV_METER_SHORT, SV_METER_COMPRESSED, SV_METER_MISSING] {
+        if place < words.len() && !numbers.once_in(15) {
+            words[place] = numbers.below(2) as u64;
+        }
+    }
+    words
+}
+
+/// Whether some call could have left these words of a meter.
+pub fn is_meter(words: &[u64]) -> bool {
+    let marks = [SV_METER_SHORT, SV_METER_COMPRESSED, SV_METER_MISSING];
+    is_reader(words) && marks.iter().all(|mark| words[*mark] <= 1)
+}
+
 /// Words of a writer that are mostly in range.
 pub fn writer_words(numbers: &mut Numbers, used: usize) -> Vec<u64> {
     let mut words = some_words(numbers, SV_WRITER_WORDS);

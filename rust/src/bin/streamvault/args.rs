@@ -5,43 +5,56 @@ use std::path::PathBuf;
 
 /// What is printed where the words make no command.
 pub const USAGE: &str = "\
-usage: streamvault sum [--csv | --json] PATH...
+usage: streamvault sum [--csv | --json] [--jobs N] PATH...
        streamvault list FILE
        streamvault --help | --version";
 
 /// What `--help` prints.
 pub const HELP: &str = "\
-streamvault sum [--csv | --json] PATH...
+streamvault sum [--csv | --json] [--jobs N] PATH...
 
     Sums the counters of popularimeters by user, over every file at or below the
-    paths. Of each file only the ID3v2 tag at its front is read. A file that does
+    paths. Of each file only the ID3v2 tag at its front is summed. A file that does
     not begin with ID3 has no tag.
 
-    - Each popularimeter of the top level counts, also several in one file.
-    - A popularimeter in a frame that the end of the tag cuts short is listed and
-      never counted.
-    - A refused file is listed with the number and its meaning. Popularimeters
-      that were read whole before the refusal are counted, and the list says how
-      many.
+    - Each whole popularimeter of the top level counts, also several in one file.
+      Those inside chapters do not.
     - A file that is reached by two names counts once. Links to files are
       followed, links to folders below the paths are not.
+
+    All that may be missing from the sum is listed, and the exit status is then 1:
+
+    - A refused tag, with the number and its meaning.
+    - A cut tag: one with fewer bytes than its header says, or with a frame that
+      its end cuts short. The list says how many bytes there should be and are.
+    - A tag with a compressed popularimeter.
+    - A further tag, which is not summed: directly behind the first one, or at the
+      end of the file, where the footer of a 2.4 tag stands last or before an
+      ID3v1 tag. Nothing is looked for elsewhere.
+    - A file or a folder that cannot be read, or that became shorter meanwhile.
+
+    What was whole before a refusal or a cut counts, and the list says how many
+    popularimeters that were. An empty file, and one that ends within the letters
+    ID3, is listed as a refused tag.
 
     A user is printed as it is where its bytes are printable ASCII. Any other user,
     an empty one, and one that begins with hex: are printed as hex: and the bytes
     in hexadecimal.
 
-    --csv     one line for each user; what was refused, short or not readable goes
-              to standard error
+    --csv     one line for each user; all that may be missing goes to standard
+              error
     --json    one object with everything; sums are strings, since they can be too
               large for a number
+    --jobs N  N threads read the files, 1 to 1024; as many as there are cores if it
+              is not given. What is printed is the same with any number.
 
 streamvault list FILE
 
     Lists the header and the frames of the top level of one tag, of any length.
     FILE may be - for standard input. Users are in hexadecimal, - for an empty one.
 
-Exit status: 0 all was read to its end; 1 something was refused, short (sum only)
-or not readable; 2 bad usage.
+Exit status: 0 all was read to its end; 1 something was refused or not readable,
+or (sum only) may be missing from the sum; 2 bad usage.
 ";
 
 /// How a sum is printed.
@@ -55,6 +68,9 @@ pub enum Format {
     Json,
 }
 
+/// The most threads that can be asked for.
+const MOST_JOBS: usize = 1024;
+
 /// What is to be done.
 #[derive(Debug, PartialEq, Eq)]
 pub enum Command {
@@ -62,8 +78,8 @@ pub enum Command {
     Help,
     /// Print the version.
     Version,
-    /// Sum all files below the paths.
-    Sum { format: Format, paths: Vec<PathBuf> },
+    /// Sum all files below the paths, by so many threads, or by one for each core.
+    Sum { format: Format, jobs: Option<usize>, paths: Vec<PathBuf> },
     /// List one file.
     List { file: PathBuf },
 }
@@ -81,55 +97,93 @@ pub fn parse(words: &[OsString]) -> Result<Command, String> {
     }
 }
 
-/// Options begin with a dash, up to a `--`; a dash alone is a path.
-fn split(words: &[OsString]) -> (Vec<&OsString>, Vec<PathBuf>) {
-    let mut options = Vec::new();
-    let mut paths = Vec::new();
-    let mut words = words.iter();
-    for word in words.by_ref() {
-        if word == "--" {
-            break;
-        }
-        let dashed = word.as_encoded_bytes().starts_with(b"-");
-        if dashed && word != "-" {
-            options.push(word);
-        } else {
-            paths.push(PathBuf::from(word));
-        }
+/// A word of a command.
+enum Word<'a> {
+    /// It begins with a dash, and stands before any `--`.
+    Option(&'a OsString),
+    /// Any other; a dash alone is a path.
+    Path(&'a OsString),
+}
+
+/// The words of a command, one after another.
+struct Words<'a> {
+    rest: std::slice::Iter<'a, OsString>,
+    only_paths: bool,
+}
+
+impl<'a> Words<'a> {
+    fn of(words: &'a [OsString]) -> Words<'a> {
+        Words { rest: words.iter(), only_paths: false }
     }
-    paths.extend(words.map(PathBuf::from));
-    (options, paths)
+
+    /// What follows an option.
+    fn value(&mut self) -> Option<&'a str> {
+        self.rest.next()?.to_str()
+    }
+}
+
+impl<'a> Iterator for Words<'a> {
+    type Item = Word<'a>;
+
+    fn next(&mut self) -> Option<Word<'a>> {
+        let word = self.rest.next()?;
+        if self.only_paths || word == "-" || !word.as_encoded_bytes().starts_with(b"-") {
+            return Some(Word::Path(word));
+        }
+        if word == "--" {
+            self.only_paths = true;
+            return self.next();
+        }
+        Some(Word::Option(word))
+    }
 }
 
 fn sum(words: &[OsString]) -> Result<Command, String> {
-    let (options, paths) = split(words);
-    let mut format = Format::Table;
-    for option in options {
-        let named = match option.to_str() {
-            Some("--csv") => Format::Csv,
-            Some("--json") => Format::Json,
-            Some("--help" | "-h") => return Ok(Command::Help),
-            _ => return Err(no_option(option)),
-        };
-        if format != Format::Table && format != named {
-            return Err("--csv and --json exclude each other".to_string());
+    let (mut format, mut jobs, mut paths) = (Format::Table, None, Vec::new());
+    let mut words = Words::of(words);
+    while let Some(word) = words.next() {
+        match word {
+            Word::Path(path) => paths.push(PathBuf::from(path)),
+            Word::Option(option) => match option.to_str() {
+                Some("--csv") => format = only(format, Format::Csv)?,
+                Some("--json") => format = only(format, Format::Json)?,
+                Some("--jobs") => jobs = Some(threads(words.value())?),
+                Some("--help" | "-h") => return Ok(Command::Help),
+                _ => return Err(no_option(option)),
+            },
         }
-        format = named;
     }
     if paths.is_empty() {
         return Err("sum needs a path".to_string());
     }
-    Ok(Command::Sum { format, paths })
+    Ok(Command::Sum { format, jobs, paths })
+}
+
+/// The format that is named, if no other was.
+fn only(before: Format, named: Format) -> Result<Format, String> {
+    if before != Format::Table && before != named {
+        return Err("--csv and --json exclude each other".to_string());
+    }
+    Ok(named)
+}
+
+/// The number of threads that a word says.
+fn threads(word: Option<&str>) -> Result<usize, String> {
+    let number = word.and_then(|word| word.parse().ok());
+    let number = number.filter(|number| (1..=MOST_JOBS).contains(number));
+    number.ok_or_else(|| format!("--jobs needs a number from 1 to {MOST_JOBS}"))
 }
 
 fn list(words: &[OsString]) -> Result<Command, String> {
-    let (options, paths) = split(words);
-    match options.first().and_then(|option| option.to_str()) {
-        Some("--help" | "-h") => return Ok(Command::Help),
-        _ if !options.is_empty() => return Err(no_option(options[0])),
-        _ => {}
+    let mut files = Vec::new();
+    for word in Words::of(words) {
+        match word {
+            Word::Path(file) => files.push(PathBuf::from(file)),
+            Word::Option(option) if option == "--help" || option == "-h" => return Ok(Command::Help),
+            Word::Option(option) => return Err(no_option(option)),
+        }
     }
-    match <[PathBuf; 1]>::try_from(paths) {
+    match <[PathBuf; 1]>::try_from(files) {
         Ok([file]) => Ok(Command::List { file }),
         Err(_) => Err("list needs one file".to_string()),
     }
@@ -150,7 +204,7 @@ mod tests {
     #[test]
     fn paths_and_options_in_any_order() {
         let paths = vec![PathBuf::from("a"), PathBuf::from("b")];
-        let want = Ok(Command::Sum { format: Format::Csv, paths });
+        let want = Ok(Command::Sum { format: Format::Csv, jobs: None, paths });
         assert_eq!(parsed(&["sum", "a", "--csv", "b"]), want);
         assert_eq!(parsed(&["sum", "--csv", "--csv", "a", "b"]), want);
     }
@@ -160,6 +214,18 @@ mod tests {
         let want = Ok(Command::List { file: PathBuf::from("--csv") });
         assert_eq!(parsed(&["list", "--", "--csv"]), want);
         assert_eq!(parsed(&["list", "-"]), Ok(Command::List { file: PathBuf::from("-") }));
+    }
+
+    #[test]
+    fn the_number_of_threads() {
+        let want = |jobs| Ok(Command::Sum { format: Format::Table, jobs, paths: vec![PathBuf::from("a")] });
+        assert_eq!(parsed(&["sum", "--jobs", "3", "a"]), want(Some(3)));
+        assert_eq!(parsed(&["sum", "a", "--jobs", "1024"]), want(Some(1024)));
+        assert_eq!(parsed(&["sum", "a"]), want(None));
+        for words in [&["sum", "a", "--jobs"][..], &["sum", "--jobs", "0", "a"], &["sum", "--jobs", "1025", "a"]] {
+            assert_eq!(parsed(words), Err("--jobs needs a number from 1 to 1024".to_string()));
+        }
+        assert_eq!(parsed(&["sum", "--jobs", "a"]), Err("--jobs needs a number from 1 to 1024".to_string()));
     }
 
     #[test]

@@ -1,27 +1,10 @@
-//! Files below paths, and the tag at a file's front.
+//! Files below paths.
 
 use std::collections::HashSet;
 use std::fs::{self, Metadata};
-use std::io::{self, Read};
+use std::io;
 use std::os::unix::fs::MetadataExt;
 use std::path::{Path, PathBuf};
-use streamvault::Header;
-
-/// Reads the tag at the front of a file and not the sound behind it; false where the file does not begin with ID3. A tag
-/// whose header is refused is given up to [`Header::PEEK`] bytes, which are refused in the same way.
-pub fn read_tag(mut input: impl Read, tag: &mut Vec<u8>) -> io::Result<bool> {
-    tag.clear();
-    input.by_ref().take(Header::PEEK as u64).read_to_end(tag)?;
-    if !tag.starts_with(b"ID3") {
-        return Ok(false);
-    }
-    if let Ok(header) = streamvault::header(tag) {
-        let len = header.tag_len();
-        tag.truncate(len);
-        input.take((len - tag.len()) as u64).read_to_end(tag)?;
-    }
-    Ok(true)
-}
 
 /// What was met below the paths.
 #[derive(Debug)]
@@ -53,9 +36,10 @@ impl Files {
 
     /// What lies at a path; nothing where it is a folder, or not to be read at all, as a pipe.
     fn look(&mut self, path: PathBuf, named: bool) -> io::Result<Option<Met>> {
-        let is_link = !named && fs::symlink_metadata(&path)?.is_symlink();
-        let metadata = fs::metadata(&path)?;
-        if metadata.is_dir() && is_link {
+        let found = fs::symlink_metadata(&path)?;
+        let is_link = found.is_symlink();
+        let metadata = if is_link { fs::metadata(&path)? } else { found };
+        if metadata.is_dir() && is_link && !named {
             return Ok(Some(Met::Link));
         }
         if metadata.is_dir() {
@@ -103,58 +87,5 @@ impl Iterator for Files {
                 Err(error) => return Some(Met::Unreadable(path, error)),
             }
         }
-    }
-}
-
-#[cfg(test)]
-mod tests {
-    use super::*;
-
-    fn tag_of(file: &[u8]) -> (bool, Vec<u8>) {
-        let mut tag = b"left over".to_vec();
-        let found = read_tag(file, &mut tag).unwrap();
-        (found, tag)
-    }
-
-    #[test]
-    fn only_the_tag_is_read() {
-        let mut file = b"ID3\x04\0\0\0\0\0\x0C".to_vec();
-        file.extend([0; 12]);
-        let len = file.len();
-        file.extend([0xFF; 1000]);
-        assert_eq!(tag_of(&file), (true, file[..len].to_vec()));
-    }
-
-    #[test]
-    fn a_tag_shorter_than_what_is_looked_at() {
-        assert_eq!(tag_of(b"ID3\x04\0\0\0\0\0\x02\0\0sound"), (true, b"ID3\x04\0\0\0\0\0\x02\0\0".to_vec()));
-    }
-
-    #[test]
-    fn a_file_that_ends_early_is_taken_as_far_as_it_goes() {
-        let file = b"ID3\x03\0\0\0\0\x7F\x7Fsome frames and no more";
-        assert_eq!(tag_of(file), (true, file.to_vec()));
-        assert_eq!(tag_of(b"ID3\x03"), (true, b"ID3\x03".to_vec()));
-    }
-
-    #[test]
-    fn the_extended_header_is_looked_at() {
-        let mut file = b"ID3\x03\0\x40\0\0\0\x20\0\0\0\x06\0\0".to_vec();
-        file.extend([0; 100]);
-        assert_eq!(tag_of(&file).1.len(), 10 + 0x20);
-    }
-
-    #[test]
-    fn a_refused_header_needs_no_more_bytes() {
-        let (found, tag) = tag_of(b"ID3\x09\0\0\0\0\0\x7F and so on, for a long time");
-        assert!(found);
-        assert_eq!(streamvault::header(&tag).unwrap_err().number(), 2);
-    }
-
-    #[test]
-    fn other_files_have_no_tag() {
-        assert!(!tag_of(b"").0);
-        assert!(!tag_of(b"ID").0);
-        assert!(!tag_of(b"RIFF and so on and so on").0);
     }
 }

@@ -3,6 +3,7 @@
 mod args;
 mod files;
 mod list;
+mod parts;
 mod progress;
 mod report;
 mod show;
@@ -14,13 +15,15 @@ use progress::Progress;
 use std::ffi::OsString;
 use std::fs::File;
 use std::io::{self, BufWriter, IsTerminal, Write};
-use std::path::{Path, PathBuf};
+use std::num::NonZero;
+use std::path::Path;
 use std::process::ExitCode;
-use sum::Sum;
+use std::thread;
+use sum::{Sum, TooLarge};
 
 /// Everything was read.
 const ALL_READ: u8 = 0;
-/// Something was refused, short or not readable.
+/// Something was refused or not readable, or may be missing from the sum.
 const NOT_ALL: u8 = 1;
 /// The words given make no command.
 const BAD_USAGE: u8 = 2;
@@ -47,7 +50,10 @@ fn run(words: &[OsString], out: &mut dyn Write, err: &mut dyn Write, progress: P
     match args::parse(words) {
         Ok(Command::Help) => write!(out, "{}", args::HELP).map(|()| ALL_READ),
         Ok(Command::Version) => writeln!(out, "streamvault {}", env!("CARGO_PKG_VERSION")).map(|()| ALL_READ),
-        Ok(Command::Sum { format, paths }) => run_sum(format, paths, out, err, progress),
+        Ok(Command::Sum { format, jobs, paths }) => {
+            let sum = Sum::over(Files::below(paths), jobs.unwrap_or_else(cores), progress);
+            show_sum(format, sum, out, err)
+        }
         Ok(Command::List { file }) => run_list(&file, out, err),
         Err(message) => {
             writeln!(err, "streamvault: {message}\n\n{}", args::USAGE)?;
@@ -56,15 +62,14 @@ fn run(words: &[OsString], out: &mut dyn Write, err: &mut dyn Write, progress: P
     }
 }
 
-/// The sum over all files below the paths.
-fn run_sum(
-    format: Format,
-    paths: Vec<PathBuf>,
-    out: &mut dyn Write,
-    err: &mut dyn Write,
-    progress: Progress,
-) -> io::Result<u8> {
-    let sum = match Sum::over(Files::below(paths), progress) {
+/// How many threads the machine runs at once, as far as it says so.
+fn cores() -> usize {
+    thread::available_parallelism().map_or(1, NonZero::get)
+}
+
+/// Prints a sum.
+fn show_sum(format: Format, sum: Result<Sum, TooLarge>, out: &mut dyn Write, err: &mut dyn Write) -> io::Result<u8> {
+    let sum = match sum {
         Ok(sum) => sum,
         Err(too_large) => {
             writeln!(err, "streamvault: {too_large}")?;
@@ -86,9 +91,9 @@ fn run_sum(
 fn run_list(file: &Path, out: &mut dyn Write, err: &mut dyn Write) -> io::Result<u8> {
     let mut tag = Vec::new();
     let read = if file == Path::new("-") {
-        files::read_tag(io::stdin().lock(), &mut tag)
+        parts::read_front(io::stdin().lock(), 0, &mut tag)
     } else {
-        File::open(file).and_then(|input| files::read_tag(input, &mut tag))
+        File::open(file).and_then(|input| parts::read_front(input, 0, &mut tag))
     };
     if let Err(error) = read {
         writeln!(err, "streamvault: {}: {error}", show::path(file))?;
@@ -114,7 +119,8 @@ mod tests {
     fn help_names_both_commands_and_every_status() {
         let (status, out, err) = said(&["--help"]);
         assert_eq!((status, err.as_str()), (ALL_READ, ""));
-        for part in ["streamvault sum", "streamvault list", "--csv", "--json", "hex:", "0 ", "1 ", "2 "] {
+        let parts = ["streamvault sum", "streamvault list", "--csv", "--json", "--jobs N", "inside chapters", "hex:"];
+        for part in parts.into_iter().chain(["0 ", "1 ", "2 "]) {
             assert!(out.contains(part), "{part}");
         }
     }

@@ -1,7 +1,8 @@
 //! A sum as a table, as comma-separated values and as JSON.
 
+use crate::parts::Further;
 use crate::show;
-use crate::sum::{Refused, Short, Sum, Unreadable};
+use crate::sum::{Lack, Problem, Sum};
 use std::io::{self, Write};
 
 /// A table for people, then what was not read.
@@ -19,9 +20,6 @@ pub fn table(sum: &Sum, out: &mut dyn Write) -> io::Result<()> {
     if sum.again > 0 {
         writeln!(out, "{} further names of files that are counted once", sum.again)?;
     }
-    if sum.links > 0 {
-        writeln!(out, "{} links to folders not followed", sum.links)?;
-    }
     problems(sum, out)
 }
 
@@ -35,19 +33,33 @@ fn files(count: u64) -> String {
     format!("{count} file{plural}")
 }
 
-/// What was refused, short or not readable, a line for each.
+/// All that may be missing, a line for each.
 pub fn problems(sum: &Sum, out: &mut dyn Write) -> io::Result<()> {
-    for Refused { path, refusal, counted } in &sum.refused {
-        writeln!(out, "{}: {refusal} (popularimeters counted before it: {counted})", show::path(path))?;
+    if sum.links > 0 {
+        writeln!(out, "{} links to folders not followed", sum.links)?;
     }
-    for Short { path, frame, user, counter } in &sum.short {
-        let (path, user) = (show::path(path), show::user(user));
-        writeln!(out, "{path}: short, not counted: frame {frame}, counter {counter}, user {user}")?;
-    }
-    for Unreadable { path, error } in &sum.unreadable {
-        writeln!(out, "{}: not readable: {error}", show::path(path))?;
+    for Problem { path, lack, .. } in &sum.problems {
+        writeln!(out, "{}: {}", show::path(path), told(lack))?;
     }
     Ok(())
+}
+
+fn told(lack: &Lack) -> String {
+    match lack {
+        Lack::Refused { refusal, counted } => format!("{refusal} ({})", before(*counted)),
+        Lack::Cut { promised, there, short, counted } => {
+            let short = if *short { ", a frame is short" } else { "" };
+            format!("cut: {there} bytes of a tag of {promised} are there{short} ({})", before(*counted))
+        }
+        Lack::Compressed => "a compressed popularimeter, not counted".to_string(),
+        Lack::Further(Further::Second(at)) => format!("a second tag at byte {at}, not read"),
+        Lack::Further(Further::AtEnd(at)) => format!("a tag at the end, its footer at byte {at}, not read"),
+        Lack::Unreadable(error) => format!("not readable: {error}"),
+    }
+}
+
+fn before(counted: u64) -> String {
+    format!("popularimeters counted before it: {counted}")
 }
 
 /// A line for each user.
@@ -77,9 +89,11 @@ pub fn json(sum: &Sum, out: &mut dyn Write) -> io::Result<()> {
     writeln!(out, "  \"without_tag\": {},", sum.without)?;
     writeln!(out, "  \"further_names\": {},", sum.again)?;
     writeln!(out, "  \"links_not_followed\": {},", sum.links)?;
-    writeln!(out, "  \"refused\": {},", list(sum.refused.iter().map(refused)))?;
-    writeln!(out, "  \"short\": {},", list(sum.short.iter().map(short)))?;
-    writeln!(out, "  \"unreadable\": {}", list(sum.unreadable.iter().map(unreadable)))?;
+    let named = |name| list(sum.problems.iter().filter_map(move |problem| item(problem, name)));
+    for name in ["refused", "cut", "compressed", "further_tags"] {
+        writeln!(out, "  \"{name}\": {},", named(name))?;
+    }
+    writeln!(out, "  \"unreadable\": {}", named("unreadable"))?;
     writeln!(out, "}}")
 }
 
@@ -92,40 +106,52 @@ fn list(items: impl Iterator<Item = String>) -> String {
     format!("[\n{}\n  ]", items.join(",\n"))
 }
 
-fn refused(item: &Refused) -> String {
-    let path = show::json(&item.path.to_string_lossy());
-    let meaning = show::json(item.refusal.meaning());
-    let (number, counted) = (item.refusal.number(), item.counted);
-    format!("{{\"file\": {path}, \"number\": {number}, \"meaning\": {meaning}, \"counted_before\": {counted}}}")
+/// A problem as an object, if it belongs in the list of this name.
+fn item(problem: &Problem, name: &str) -> Option<String> {
+    let (list, fields) = listed(&problem.lack);
+    let path = show::json(&problem.path.to_string_lossy());
+    (list == name).then(|| format!("{{\"file\": {path}{fields}}}"))
 }
 
-fn short(item: &Short) -> String {
-    let path = show::json(&item.path.to_string_lossy());
-    let user = show::json(&show::user(&item.user));
-    format!("{{\"file\": {path}, \"frame\": {}, \"user\": {user}, \"counter\": \"{}\"}}", item.frame, item.counter)
-}
-
-fn unreadable(item: &Unreadable) -> String {
-    let path = show::json(&item.path.to_string_lossy());
-    format!("{{\"file\": {path}, \"why\": {}}}", show::json(&item.error.to_string()))
+/// In which list it belongs, and with which fields.
+fn listed(lack: &Lack) -> (&'static str, String) {
+    match lack {
+        Lack::Refused { refusal, counted } => {
+            let (number, meaning) = (refusal.number(), show::json(refusal.meaning()));
+            ("refused", format!(", \"number\": {number}, \"meaning\": {meaning}, \"counted_before\": {counted}"))
+        }
+        Lack::Cut { promised, there, short, counted } => (
+            "cut",
+            format!(
+                ", \"promised\": {promised}, \"there\": {there}, \"short_frame\": {short}, \"counted_before\": {counted}"
+            ),
+        ),
+        Lack::Compressed => ("compressed", String::new()),
+        Lack::Further(Further::Second(at)) => ("further_tags", format!(", \"found\": \"second tag\", \"at\": {at}")),
+        Lack::Further(Further::AtEnd(at)) => ("further_tags", format!(", \"found\": \"footer at the end\", \"at\": {at}")),
+        Lack::Unreadable(error) => ("unreadable", format!(", \"why\": {}", show::json(&error.to_string()))),
+    }
 }
 
 #[cfg(test)]
 mod tests {
     use super::*;
     use crate::sum::Total;
-    use std::path::PathBuf;
 
     /// A sum with one of everything.
     fn sample() -> Sum {
-        let mut sum = Sum { tags: 3, without: 1, ..Sum::default() };
+        let mut sum = Sum { tags: 3, without: 1, links: 2, ..Sum::default() };
         sum.users.insert(b"a,b".to_vec(), Total { popularimeters: 2, counter: 12_345_678 });
         sum.users.insert(b"\xFF".to_vec(), Total { popularimeters: 1, counter: 5 });
         sum.all = Total { popularimeters: 3, counter: 12_345_683 };
         let refusal = streamvault::header(b"").unwrap_err();
-        sum.refused.push(Refused { path: PathBuf::from("r.mp3"), refusal, counted: 1 });
-        sum.short.push(Short { path: PathBuf::from("s.mp3"), frame: 2, user: b"a".to_vec(), counter: 9 });
-        sum.unreadable.push(Unreadable { path: PathBuf::from("u.mp3"), error: io::Error::other("gone") });
+        sum.list("r.mp3", Lack::Refused { refusal, counted: 1 });
+        sum.list("r.mp3", Lack::Cut { promised: 70, there: 62, short: false, counted: 1 });
+        sum.list("s.mp3", Lack::Cut { promised: 70, there: 70, short: true, counted: 0 });
+        sum.list("s.mp3", Lack::Compressed);
+        sum.list("t.mp3", Lack::Further(Further::Second(70)));
+        sum.list("t.mp3", Lack::Further(Further::AtEnd(700)));
+        sum.list("u.mp3", Lack::Unreadable(io::Error::other("gone")));
         sum
     }
 
@@ -135,24 +161,32 @@ mod tests {
         String::from_utf8(out).unwrap()
     }
 
+    const PROBLEMS: &str = r#"2 links to folders not followed
+r.mp3: refused 1: fewer than ten bytes, or they do not begin with "ID3" (popularimeters counted before it: 1)
+r.mp3: cut: 62 bytes of a tag of 70 are there (popularimeters counted before it: 1)
+s.mp3: cut: 70 bytes of a tag of 70 are there, a frame is short (popularimeters counted before it: 0)
+s.mp3: a compressed popularimeter, not counted
+t.mp3: a second tag at byte 70, not read
+t.mp3: a tag at the end, its footer at byte 700, not read
+u.mp3: not readable: gone
+"#;
+
     #[test]
     fn the_table() {
-        let want = r#" counter  popularimeters  user
+        let want = " counter  popularimeters  user
 12345678               2  a,b
        5               1  hex:FF
 
 in all 12345683 from 3 popularimeters
 3 files with a tag, 1 without
-r.mp3: refused 1: fewer than ten bytes, or they do not begin with "ID3" (popularimeters counted before it: 1)
-s.mp3: short, not counted: frame 2, counter 9, user a
-u.mp3: not readable: gone
-"#;
-        assert_eq!(text(table), want);
+";
+        assert_eq!(text(table), format!("{want}{PROBLEMS}"));
     }
 
     #[test]
     fn the_comma_separated_values() {
         assert_eq!(text(csv), "user,popularimeters,counter\n\"a,b\",2,12345678\nhex:FF,1,5\n");
+        assert_eq!(text(problems), PROBLEMS);
     }
 
     #[test]
@@ -167,12 +201,20 @@ u.mp3: not readable: gone
   "tags": 3,
   "without_tag": 1,
   "further_names": 0,
-  "links_not_followed": 0,
+  "links_not_followed": 2,
   "refused": [
     {"file": "r.mp3", "number": 1, "meaning": "fewer than ten bytes, or they do not begin with \"ID3\"", "counted_before": 1}
   ],
-  "short": [
-    {"file": "s.mp3", "frame": 2, "user": "a", "counter": "9"}
+  "cut": [
+    {"file": "r.mp3", "promised": 70, "there": 62, "short_frame": false, "counted_before": 1},
+    {"file": "s.mp3", "promised": 70, "there": 70, "short_frame": true, "counted_before": 0}
+  ],
+  "compressed": [
+    {"file": "s.mp3"}
+  ],
+  "further_tags": [
+    {"file": "t.mp3", "found": "second tag", "at": 70},
+    {"file": "t.mp3", "found": "footer at the end", "at": 700}
   ],
   "unreadable": [
     {"file": "u.mp3", "why": "gone"}

@@ -1,14 +1,21 @@
 //! The sum of counters by user.
+//!
+//! Counters are read by the meter and by nothing else: the whole popularimeters of the top level of the tag at a file's
+//! front. Those inside chapters do not count. All that may be missing from the sum is listed.
 
-use crate::files::{read_tag, Files, Met};
+use crate::files::{Files, Met};
+use crate::parts::{Further, Parts, KEPT};
 use crate::progress::Progress;
 use crate::show;
 use std::collections::BTreeMap;
 use std::fmt;
 use std::fs::File;
 use std::io;
+use std::iter::Enumerate;
 use std::path::{Path, PathBuf};
-use streamvault::{Content, Frame, Reader, Refusal};
+use std::sync::Mutex;
+use std::thread;
+use streamvault::{Ending, Meter, Refusal};
 
 /// What one user's popularimeters sum to.
 #[derive(Clone, Copy, Debug, Default, PartialEq, Eq)]
@@ -20,6 +27,11 @@ pub struct Total {
 }
 
 impl Total {
+    /// Of one popularimeter.
+    fn of(counter: u64) -> Total {
+        Total { popularimeters: 1, counter: u128::from(counter) }
+    }
+
     /// With another total; nothing where a sum does not fit.
     fn plus(self, other: Total) -> Option<Total> {
         let popularimeters = self.popularimeters.checked_add(other.popularimeters)?;
@@ -40,37 +52,44 @@ impl fmt::Display for TooLarge {
     }
 }
 
-/// A file whose tag was refused.
-#[derive(Debug, PartialEq, Eq)]
-pub struct Refused {
-    /// The file.
-    pub path: PathBuf,
-    /// Why.
-    pub refusal: Refusal,
-    /// Its popularimeters before the refusal, which are counted.
-    pub counted: u64,
-}
-
-/// A popularimeter in a short frame, which is not counted.
-#[derive(Debug, PartialEq, Eq)]
-pub struct Short {
-    /// The file.
-    pub path: PathBuf,
-    /// The number of the frame, from 0.
-    pub frame: u64,
-    /// The user.
-    pub user: Vec<u8>,
-    /// The counter as far as it is there.
-    pub counter: u64,
-}
-
-/// What cannot be read.
+/// Why counters of a file may be missing from the sum.
 #[derive(Debug)]
-pub struct Unreadable {
-    /// The file or the folder.
+pub enum Lack {
+    /// Its tag was refused.
+    Refused {
+        /// Why.
+        refusal: Refusal,
+        /// Its popularimeters before the refusal, which are counted.
+        counted: u64,
+    },
+    /// Its tag was cut.
+    Cut {
+        /// Bytes of the tag by its header.
+        promised: usize,
+        /// Bytes of the tag that are there.
+        there: usize,
+        /// Whether a frame is short.
+        short: bool,
+        /// Its popularimeters before the cut, which are counted.
+        counted: u64,
+    },
+    /// It has a compressed popularimeter.
+    Compressed,
+    /// It has a further tag.
+    Further(Further),
+    /// It cannot be read.
+    Unreadable(io::Error),
+}
+
+/// A file or a folder whose counters may be missing.
+#[derive(Debug)]
+pub struct Problem {
+    /// Its place among all that was met.
+    order: usize,
+    /// Where it is.
     pub path: PathBuf,
-    /// Why.
-    pub error: io::Error,
+    /// What is wrong.
+    pub lack: Lack,
 }
 
 /// The sum over many files.
@@ -80,119 +99,194 @@ pub struct Sum {
     pub users: BTreeMap<Vec<u8>, Total>,
     /// Over all users.
     pub all: Total,
-    /// Files with a tag, refused ones among them.
+    /// Files with a tag at their front, refused ones among them.
     pub tags: u64,
-    /// Files without a tag.
+    /// Files without one.
     pub without: u64,
     /// Further names of files that were counted.
     pub again: u64,
     /// Links to folders, which were not followed.
     pub links: u64,
-    /// Files whose tag was refused.
-    pub refused: Vec<Refused>,
-    /// Popularimeters in short frames.
-    pub short: Vec<Short>,
-    /// What cannot be read.
-    pub unreadable: Vec<Unreadable>,
+    /// All that may be missing, in the order in which it was met.
+    pub problems: Vec<Problem>,
 }
 
 impl Sum {
-    /// The sum over files.
-    pub fn over(files: Files, mut progress: Progress) -> Result<Sum, TooLarge> {
-        let mut sum = Sum::default();
-        let (mut tag, mut work) = (Vec::new(), Vec::new());
-        for met in files {
-            match met {
-                Met::File(path) => {
-                    progress.file();
-                    sum.add_file(path, &mut tag, &mut work)?;
-                }
-                Met::Again => sum.again += 1,
-                Met::Link => sum.links += 1,
-                Met::Unreadable(path, error) => sum.unreadable.push(Unreadable { path, error }),
+    /// The sum over files, which so many threads read. It is the same whatever their number.
+    pub fn over(files: Files, jobs: usize, progress: Progress) -> Result<Sum, TooLarge> {
+        let queue = Mutex::new(Queue { files: files.enumerate(), progress });
+        let share = || Worker::default().sum(&queue);
+        thread::scope(|scope| {
+            // where no more threads are to be had, those that there are do all
+            let spawn = |_| thread::Builder::new().spawn_scoped(scope, share).ok();
+            let others: Vec<_> = (1..jobs).map_while(spawn).collect();
+            let mut sum = share()?;
+            for other in others {
+                sum.join(other.join().expect("a thread ends")?)?;
             }
-        }
-        Ok(sum)
+            sum.problems.sort_by_key(|problem| problem.order);
+            Ok(sum)
+        })
     }
 
-    /// Whether nothing was refused, short or unreadable.
+    /// Whether nothing is missing.
     pub fn all_read(&self) -> bool {
-        self.refused.is_empty() && self.short.is_empty() && self.unreadable.is_empty()
+        self.problems.is_empty()
     }
 
-    /// Adds a file. The buffers are lent, so that they need not be made for each.
-    fn add_file(&mut self, path: PathBuf, tag: &mut Vec<u8>, work: &mut Vec<u8>) -> Result<(), TooLarge> {
-        match File::open(&path).and_then(|file| read_tag(file, tag)) {
-            Ok(true) => self.add_tag(&path, tag, work)?,
-            Ok(false) => self.without += 1,
-            Err(error) => self.unreadable.push(Unreadable { path, error }),
+    /// Takes what another thread summed.
+    fn join(&mut self, other: Sum) -> Result<(), TooLarge> {
+        for (user, total) in &other.users {
+            self.add(user, *total)?;
         }
+        self.tags += other.tags;
+        self.without += other.without;
+        self.again += other.again;
+        self.links += other.links;
+        self.problems.extend(other.problems);
         Ok(())
     }
 
-    /// Adds the popularimeters of a tag, up to its end or to a refusal.
-    fn add_tag(&mut self, path: &Path, tag: &[u8], work: &mut Vec<u8>) -> Result<(), TooLarge> {
-        self.tags += 1;
-        let before = self.all.popularimeters;
-        let read = match Reader::open(tag, work) {
-            Ok(reader) => self.add_frames(path, reader)?,
-            Err(refusal) => Err(refusal),
-        };
-        if let Err(refusal) = read {
-            let counted = self.all.popularimeters - before;
-            self.refused.push(Refused { path: path.to_path_buf(), refusal, counted });
-        }
-        Ok(())
+    /// Adds to the total of a user; a sum that does not fit changes nothing.
+    fn add(&mut self, user: &[u8], more: Total) -> Result<(), TooLarge> {
+        self.added(user, more).ok_or_else(|| TooLarge { user: show::user(user) })
     }
 
-    fn add_frames(
-        &mut self,
-        path: &Path,
-        mut reader: Reader<'_, &mut Vec<u8>>,
-    ) -> Result<Result<(), Refusal>, TooLarge> {
-        let mut number = 0;
-        while let Some(next) = reader.next_frame() {
-            match next {
-                Ok(frame) => self.add_frame(path, number, &frame)?,
-                Err(refusal) => return Ok(Err(refusal)),
-            }
-            number += 1;
-        }
-        Ok(Ok(()))
-    }
-
-    /// Adds a frame, if it is a popularimeter.
-    fn add_frame(&mut self, path: &Path, number: u64, frame: &Frame<'_>) -> Result<(), TooLarge> {
-        let Content::Popularimeter { user, counter, .. } = frame.content else {
-            return Ok(());
-        };
-        if frame.short {
-            let (path, user) = (path.to_path_buf(), user.to_vec());
-            self.short.push(Short { path, frame: number, user, counter });
-            return Ok(());
-        }
-        self.count(user, counter).ok_or_else(|| TooLarge { user: show::user(user) })
-    }
-
-    /// Counts one popularimeter; nothing where a sum does not fit.
-    fn count(&mut self, user: &[u8], counter: u64) -> Option<()> {
-        let one = Total { popularimeters: 1, counter: u128::from(counter) };
-        let all = self.all.plus(one)?;
+    fn added(&mut self, user: &[u8], more: Total) -> Option<()> {
+        let all = self.all.plus(more)?;
         match self.users.get_mut(user) {
-            Some(total) => *total = total.plus(one)?,
+            Some(total) => *total = total.plus(more)?,
             None => {
-                self.users.insert(user.to_vec(), one);
+                self.users.insert(user.to_vec(), more);
             }
         }
         self.all = all;
         Some(())
+    }
+
+    /// Adds the popularimeters of a tag, up to its end or to a refusal. Gives what may be missing.
+    fn add_tag(&mut self, tag: &[u8], work: &mut Vec<u8>) -> Result<Vec<Lack>, TooLarge> {
+        self.tags += 1;
+        let mut meter = match Meter::open(tag, work) {
+            Ok(meter) => meter,
+            Err(refusal) => return Ok(vec![Lack::Refused { refusal, counted: 0 }]),
+        };
+        let mut counted = 0;
+        while let Some(Ok(found)) = meter.next_popularimeter() {
+            self.add(found.user, Total::of(found.counter))?;
+            counted += 1;
+        }
+        Ok(lacks(tag, &meter.ending(), counted))
+    }
+}
+
+/// What the ending of a tag says to be missing.
+fn lacks(tag: &[u8], ending: &Ending, counted: u64) -> Vec<Lack> {
+    let mut lacks = Vec::new();
+    if let Some(refusal) = ending.refusal {
+        lacks.push(Lack::Refused { refusal, counted });
+    }
+    if ending.missing || ending.short {
+        let promised = streamvault::header(tag).map_or(0, |header| header.tag_len());
+        lacks.push(Lack::Cut { promised, there: tag.len(), short: ending.short, counted });
+    }
+    if ending.compressed {
+        lacks.push(Lack::Compressed);
+    }
+    lacks
+}
+
+/// What is still to be summed, each with its place in the order.
+struct Queue {
+    files: Enumerate<Files>,
+    progress: Progress,
+}
+
+impl Queue {
+    fn next(&mut self) -> Option<(usize, Met)> {
+        let next = self.files.next()?;
+        if let Met::File(_) = next.1 {
+            self.progress.file();
+        }
+        Some(next)
+    }
+}
+
+/// One thread's share of a sum, and the buffers that it reads to. It holds one tag at a time.
+#[derive(Default)]
+struct Worker {
+    sum: Sum,
+    parts: Parts,
+    work: Vec<u8>,
+}
+
+impl Worker {
+    /// Sums what waits, until nothing does.
+    fn sum(mut self, queue: &Mutex<Queue>) -> Result<Sum, TooLarge> {
+        while let Some((order, met)) = next(queue) {
+            match met {
+                Met::File(path) => self.file(order, path)?,
+                Met::Again => self.sum.again += 1,
+                Met::Link => self.sum.links += 1,
+                Met::Unreadable(path, error) => self.lacking(order, path, vec![Lack::Unreadable(error)]),
+            }
+        }
+        Ok(self.sum)
+    }
+
+    fn file(&mut self, order: usize, path: PathBuf) -> Result<(), TooLarge> {
+        let lacks = match self.read(&path) {
+            Ok(()) => self.add_parts()?,
+            Err(error) => vec![Lack::Unreadable(error)],
+        };
+        self.lacking(order, path, lacks);
+        Ok(())
+    }
+
+    /// Reads the parts of a file. Its length is that of the open file, and not of what the path may lead to by now.
+    fn read(&mut self, path: &Path) -> io::Result<()> {
+        let file = File::open(path)?;
+        let len = file.metadata()?.len();
+        self.parts.read(&file, len)
+    }
+
+    /// Adds what was read of a file. Gives what may be missing.
+    fn add_parts(&mut self) -> Result<Vec<Lack>, TooLarge> {
+        let mut lacks = Vec::new();
+        if self.parts.has_tag() {
+            lacks = self.sum.add_tag(self.parts.tag(), &mut self.work)?;
+            self.work.truncate(KEPT);
+            self.work.shrink_to(KEPT);
+        } else {
+            self.sum.without += 1;
+        }
+        lacks.extend(self.parts.further().map(Lack::Further));
+        Ok(lacks)
+    }
+
+    fn lacking(&mut self, order: usize, path: PathBuf, lacks: Vec<Lack>) {
+        let problems = lacks.into_iter().map(|lack| Problem { order, path: path.clone(), lack });
+        self.sum.problems.extend(problems);
+    }
+}
+
+/// What is to be summed next. Only one thread at a time looks at folders.
+fn next(queue: &Mutex<Queue>) -> Option<(usize, Met)> {
+    queue.lock().expect("no thread failed").next()
+}
+
+#[cfg(test)]
+impl Sum {
+    /// Lists a problem, as the next in order.
+    pub fn list(&mut self, path: &str, lack: Lack) {
+        self.problems.push(Problem { order: self.problems.len(), path: PathBuf::from(path), lack });
     }
 }
 
 #[cfg(test)]
 mod tests {
     use super::*;
-    use streamvault::{Mode, Version, Writer};
+    use streamvault::{Content, Mode, Version, Writer};
 
     /// A tag with these popularimeters.
     fn tag(version: Version, users: &[(&[u8], u64)]) -> Vec<u8> {
@@ -205,59 +299,98 @@ mod tests {
         writer.finish(4).unwrap()
     }
 
-    fn sum_of(tags: &[&[u8]]) -> Sum {
+    /// The sum over tags, and what may be missing, in words.
+    fn sum_of(tags: &[&[u8]]) -> (Sum, Vec<String>) {
         let mut sum = Sum::default();
         let mut work = Vec::new();
-        for tag in tags {
-            sum.add_tag(Path::new("file"), tag, &mut work).unwrap();
-        }
-        sum
+        let lacks = tags.iter().flat_map(|tag| sum.add_tag(tag, &mut work).unwrap());
+        let lacks = lacks.map(|lack| format!("{lack:?}")).collect();
+        (sum, lacks)
     }
 
     #[test]
     fn several_popularimeters_of_one_file_count_each() {
         let one = tag(Version::Id3v24, &[(b"a", 3), (b"b", 0xFF00), (b"a", 4)]);
-        let sum = sum_of(&[&one]);
+        let (sum, lacks) = sum_of(&[&one]);
         assert_eq!(sum.users[&b"a"[..]], Total { popularimeters: 2, counter: 7 });
         assert_eq!(sum.users[&b"b"[..]], Total { popularimeters: 1, counter: 0xFF00 });
         assert_eq!(sum.all, Total { popularimeters: 3, counter: 7 + 0xFF00 });
-        assert!(sum.all_read());
+        assert!(lacks.is_empty());
     }
 
     #[test]
     fn counters_of_64_bits_sum_beyond_them() {
         let one = tag(Version::Id3v22, &[(b"a", u64::MAX)]);
         let two = tag(Version::Id3v23, &[(b"a", u64::MAX)]);
-        let sum = sum_of(&[&one, &two]);
+        let (sum, _) = sum_of(&[&one, &two]);
         assert_eq!(sum.users[&b"a"[..]].counter, 2 * u128::from(u64::MAX));
     }
 
     #[test]
-    fn a_short_popularimeter_is_listed_and_not_counted() {
+    fn a_cut_tag_is_told_and_nothing_of_a_short_frame_counts() {
         let whole = tag(Version::Id3v24, &[(b"a", 3), (b"b", 0x0102_0304)]);
         let cut = &whole[..whole.len() - 6];
-        let sum = sum_of(&[cut]);
-        assert_eq!(sum.users.len(), 1);
-        let path = PathBuf::from("file");
-        assert_eq!(sum.short, [Short { path, frame: 1, user: b"b".to_vec(), counter: 0x0102 }]);
-        assert!(!sum.all_read());
+        let (sum, lacks) = sum_of(&[cut]);
+        assert_eq!(sum.all, Total { popularimeters: 1, counter: 3 });
+        let want = format!("Cut {{ promised: {}, there: {}, short: true, counted: 1 }}", whole.len(), cut.len());
+        assert_eq!(lacks, [want]);
+    }
+
+    #[test]
+    fn a_cut_between_frames_and_one_in_the_padding_are_told() {
+        let whole = tag(Version::Id3v24, &[(b"a", 3), (b"b", 5)]);
+        for (missing, counted) in [(4 + 14, 1), (2, 2)] {
+            let (sum, lacks) = sum_of(&[&whole[..whole.len() - missing]]);
+            assert_eq!((sum.all.popularimeters, lacks.len()), (counted, 1), "{lacks:?}");
+            assert!(lacks[0].contains("short: false"), "{lacks:?}");
+        }
+    }
+
+    #[test]
+    fn a_short_frame_is_told_also_where_no_byte_is_missing() {
+        let mut long = tag(Version::Id3v24, &[(b"a", 3)]);
+        long[17] = 100;
+        let (sum, lacks) = sum_of(&[&long]);
+        assert_eq!(sum.all.popularimeters, 0);
+        assert_eq!(lacks, [format!("Cut {{ promised: {0}, there: {0}, short: true, counted: 0 }}", long.len())]);
     }
 
     #[test]
     fn what_was_whole_before_a_refusal_counts() {
         let whole = tag(Version::Id3v23, &[(b"a", 3), (b"b", 0x0102_0304)]);
-        let cut = &whole[..whole.len() - 6];
-        let sum = sum_of(&[cut]);
+        let (sum, lacks) = sum_of(&[&whole[..whole.len() - 6]]);
         assert_eq!(sum.all, Total { popularimeters: 1, counter: 3 });
-        assert_eq!(sum.refused.len(), 1);
-        assert_eq!((sum.refused[0].refusal.number(), sum.refused[0].counted), (5, 1));
-        assert!(!sum.all_read());
+        assert_eq!(lacks[0], "Refused { refusal: Refusal(5), counted: 1 }");
+        assert!(lacks[1].starts_with("Cut { "));
     }
 
     #[test]
     fn a_refused_header_counts_nothing() {
-        let sum = sum_of(&[b"ID3\x05\0\0\0\0\0\0"]);
-        assert_eq!((sum.tags, sum.refused[0].refusal.number(), sum.refused[0].counted), (1, 2, 0));
+        let (sum, lacks) = sum_of(&[b"ID3\x05\0\0\0\0\0\0"]);
+        assert_eq!((sum.tags, sum.all), (1, Total::default()));
+        assert_eq!(lacks, ["Refused { refusal: Refusal(2), counted: 0 }"]);
+    }
+
+    #[test]
+    fn a_compressed_popularimeter_is_told() {
+        let mut packed = tag(Version::Id3v24, &[(b"a", 3), (b"b", 5)]);
+        packed[19] = 8;
+        let (sum, lacks) = sum_of(&[&packed]);
+        assert_eq!(sum.all, Total { popularimeters: 1, counter: 5 });
+        assert_eq!(lacks, ["Compressed"]);
+    }
+
+    #[test]
+    fn popularimeters_inside_chapters_do_not_count() {
+        let run = &tag(Version::Id3v23, &[(b"a", 3)])[10..];
+        let run = &run[..run.len() - 4];
+        let chapter =
+            Content::Chapter { element: &b"c"[..], start_time: 0, end_time: 0, start_offset: 0, end_offset: 0, run };
+        let mut writer = Writer::new(Version::Id3v23, Mode::Off);
+        writer.add(b"CHAP", &chapter).unwrap();
+        let (sum, lacks) = sum_of(&[&writer.finish(0).unwrap()]);
+        assert_eq!((sum.tags, sum.all), (1, Total::default()));
+        assert!(lacks.is_empty());
     }
 
     #[test]
@@ -265,9 +398,21 @@ mod tests {
         let mut sum = Sum::default();
         let full = Total { popularimeters: 1, counter: u128::MAX };
         sum.users.insert(b"a".to_vec(), full);
-        assert_eq!(sum.count(b"a", 1), None);
-        assert_eq!(sum.count(b"a", 0), Some(()));
+        assert_eq!(sum.add(b"a", Total::of(1)), Err(TooLarge { user: "a".to_string() }));
+        assert_eq!(sum.add(b"a", Total::of(0)), Ok(()));
         assert_eq!(sum.users[&b"a"[..]], Total { popularimeters: 2, counter: u128::MAX });
         assert_eq!(sum.all, Total { popularimeters: 1, counter: 0 });
+    }
+
+    #[test]
+    fn what_threads_summed_is_joined() {
+        let one = tag(Version::Id3v24, &[(b"a", 3), (b"b", 5)]);
+        let (mut sum, _) = sum_of(&[&one]);
+        let (mut other, _) = sum_of(&[&one, &one]);
+        other.list("x", Lack::Compressed);
+        sum.join(other).unwrap();
+        assert_eq!(sum.users[&b"a"[..]], Total { popularimeters: 3, counter: 9 });
+        assert_eq!((sum.all, sum.tags), (Total { popularimeters: 6, counter: 24 }, 3));
+        assert!(!sum.all_read());
     }
 }

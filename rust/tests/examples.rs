@@ -1,6 +1,9 @@
-//! Compiles the C examples against the header and the archive, and runs them.
+//! Compiles the C examples against the header and the archive, and runs them; runs the Rust one beside the C one.
 
 mod common;
+#[allow(dead_code)]
+#[path = "../examples/minutes.rs"]
+mod minutes;
 
 use common::{command, folder, root, said};
 use std::io::Write;
@@ -35,6 +38,13 @@ fn fed(program: &Path, input: &[u8]) -> (String, i32) {
     said(&child.wait_with_output().unwrap())
 }
 
+/// What the Rust example prints, and its status.
+fn in_rust(input: &[u8]) -> (String, i32) {
+    let mut out = Vec::new();
+    let whole = minutes::minutes(input, &mut out).unwrap();
+    (String::from_utf8(out).unwrap(), i32::from(!whole))
+}
+
 #[test]
 fn minutes_prints_the_given_tag_and_the_one_it_wrote() {
     let folder = folder("minutes");
@@ -42,6 +52,7 @@ fn minutes_prints_the_given_tag_and_the_one_it_wrote() {
     let tag = b"ID3\x04\0\0\0\0\0\x12POPM\0\0\0\x08\0\0a\0\x05\x01\0\0\0\0";
     let want = ("given:\na 4294967296\nwritten:\nroom 7 65280\n".to_string(), 0);
     assert_eq!(fed(&program, tag), want);
+    assert_eq!(in_rust(tag), want);
 
     let file = folder.join("tag");
     std::fs::write(&file, tag).unwrap();
@@ -49,13 +60,22 @@ fn minutes_prints_the_given_tag_and_the_one_it_wrote() {
 }
 
 #[test]
-fn minutes_says_what_is_refused_and_what_is_short() {
-    let program = compiled("minutes", &folder("minutes-refused"));
-    let want = "given:\nrefused 1\nwritten:\nroom 7 65280\n";
-    assert_eq!(fed(&program, b"no tag at all"), (want.to_string(), 1));
-    let cut = b"ID3\x04\0\0\0\0\0\x12POPM\0\0\0\x08\0\0a\0\x05\x01";
-    let want = "given:\na 1 (short)\nwritten:\nroom 7 65280\n";
-    assert_eq!(fed(&program, cut), (want.to_string(), 0));
+fn minutes_says_what_may_be_missing() {
+    let program = compiled("minutes", &folder("minutes-missing"));
+    let sample = |name: &str| std::fs::read(root().join("samples").join(name)).unwrap();
+    for (input, given, status) in [
+        (b"no tag at all".to_vec(), "refused 1\n", 1),
+        (sample("damaged/refused-encrypted.mp3"), "room 1 7\nrefused 8\n", 1),
+        (sample("damaged/cut-in-picture-2.3.mp3"), "room 1 7\nrefused 5\ncut\n", 1),
+        (sample("damaged/cut-in-picture-2.2.mp3"), "room 1 7\ncut\n", 1),
+        (sample("damaged/cut-between-frames-2.4.mp3"), "room 1 7\ncut\n", 1),
+        (sample("damaged/compressed-2.4.mp3"), "room 2 300\ncompressed\n", 1),
+        (sample("march/second.mp3"), "room 2 65280\n", 0),
+    ] {
+        let want = (format!("given:\n{given}written:\nroom 7 65280\n"), status);
+        assert_eq!(fed(&program, &input), want);
+        assert_eq!(in_rust(&input), want);
+    }
 }
 
 #[test]

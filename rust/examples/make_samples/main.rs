@@ -4,12 +4,17 @@
 //!
 //! `tests/samples.rs` holds the files there against what this makes.
 
+mod damaged;
+
 use std::path::{Path, PathBuf};
 use std::{fs, io};
 use streamvault::{Content, Encoding, Id, Mode, Refusal, Version, Writer};
 
 /// What stands for the sound behind a tag: the head of an MPEG frame, and silence.
 const SOUND: [u8; 16] = [0xFF, 0xFB, 0x90, 0x64, 0, 0, 0, 0, 0, 0, 0, 0, 0, 0, 0, 0];
+
+/// Zeros behind the frames of a tag.
+const PADDING: usize = 8;
 
 fn main() -> Result<(), Box<dyn std::error::Error>> {
     let Some(folder) = std::env::args_os().nth(1) else {
@@ -30,43 +35,53 @@ fn write(path: &Path, bytes: &[u8]) -> io::Result<()> {
 
 /// Every file with its bytes.
 pub fn samples() -> Result<Vec<(PathBuf, Vec<u8>)>, Refusal> {
+    let damaged = damaged::files()?.into_iter();
+    let damaged = damaged.map(|(name, bytes)| (format!("damaged/{name}.mp3").into(), bytes));
+    Ok(march()?.into_iter().chain(damaged).collect())
+}
+
+/// A month's folder.
+fn march() -> Result<Vec<(PathBuf, Vec<u8>)>, Refusal> {
     let old = tag(Version::Id3v22, Mode::Off, "Old song", &[(b"room 1", 17)])?;
     let one = tag(Version::Id3v24, Mode::Off, "First song", &[(b"room 1", 125)])?;
     let two = tag(Version::Id3v23, Mode::Standard, "Second song", &[(b"room 2", 65_280)])?;
     let shared = [(&b"room 1"[..], 1 << 32), (b"room 2", 3), (b"caf\xE9", 0)];
     let three = tag(Version::Id3v24, Mode::Standard, "Third song", &shared)?;
-    let last_cut = |tag: &[u8]| tag[..tag.len() - PADDING - 1].to_vec();
     Ok(vec![
         ("march/archive/old.mp3".into(), file(&old)),
         ("march/first.mp3".into(), file(&one)),
         ("march/second.mp3".into(), file(&two)),
         ("march/third.mp3".into(), file(&three)),
         ("march/no-tag.mp3".into(), SOUND.to_vec()),
-        (
-            "damaged/short.mp3".into(),
-            last_cut(&tag(Version::Id3v24, Mode::Off, "Cut", &[(b"room 1", 7), (b"room 2", 300)])?),
-        ),
-        (
-            "damaged/refused.mp3".into(),
-            last_cut(&tag(Version::Id3v23, Mode::Off, "Cut", &[(b"room 1", 7), (b"room 2", 300)])?),
-        ),
     ])
 }
 
-/// Zeros behind the frames of a tag.
-const PADDING: usize = 8;
+/// The id that an edition has for a frame.
+fn id(version: Version, three: &[u8; 3], four: &[u8; 4]) -> Id {
+    if version == Version::Id3v22 {
+        three.into()
+    } else {
+        four.into()
+    }
+}
 
 /// A tag with a title and popularimeters.
 fn tag(version: Version, mode: Mode, title: &str, users: &[(&[u8], u64)]) -> Result<Vec<u8>, Refusal> {
-    let three = version == Version::Id3v22;
-    let (title_id, user_id) =
-        if three { (Id::from(b"TT2"), Id::from(b"POP")) } else { (Id::from(b"TIT2"), Id::from(b"POPM")) };
     let mut writer = Writer::new(version, mode);
-    writer.add(title_id, &Content::Text { encoding: Encoding::Latin1, text: title.as_bytes() })?;
+    add_title(&mut writer, title)?;
     for &(user, counter) in users {
-        writer.add(user_id, &Content::Popularimeter { user, rating: 0, counter })?;
+        add_popularimeter(&mut writer, user, counter)?;
     }
     writer.finish(PADDING)
+}
+
+fn add_title(writer: &mut Writer, title: &str) -> Result<usize, Refusal> {
+    let content = Content::Text { encoding: Encoding::Latin1, text: title.as_bytes() };
+    writer.add(id(writer.version(), b"TT2", b"TIT2"), &content)
+}
+
+fn add_popularimeter(writer: &mut Writer, user: &[u8], counter: u64) -> Result<usize, Refusal> {
+    writer.add(id(writer.version(), b"POP", b"POPM"), &Content::Popularimeter { user, rating: 0, counter })
 }
 
 /// A tag with sound behind it.

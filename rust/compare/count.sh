@@ -1,0 +1,36 @@
+#!/usr/bin/env bash
+# Counts the instructions that the library takes for the tag that a box leaves, from opening to the end: by the meter and by a reader's steps, the caller's
+# few included. On any machine with qemu-x86_64 and a C compiler for x86-64; the count is the same in each run. It is no time: what a load or a branch
+# costs is not in it.
+#
+#   rust/compare/count.sh
+#
+#   STREAMVAULT_LIB_DIR  the folder with libcapi.a; target/staticlib if not given
+set -euo pipefail
+
+here=$(cd "$(dirname "$0")" && pwd)
+repository=$(cd "$here/../.." && pwd)
+library=${STREAMVAULT_LIB_DIR:-$repository/target/staticlib}/libcapi.a
+out=$(mktemp -d)
+trap 'rm -rf "$out"' EXIT
+
+compiler=cc
+if [ "$(uname -m)" != x86_64 ]; then compiler=x86_64-linux-gnu-gcc; fi
+# the names that the plugin calls are the emulator's, which are there once it is loaded
+cc -O2 -Wall -Wextra -shared -fPIC -Wl,-z,lazy "$here/count/plugin.c" -o "$out/plugin.so"
+"$compiler" -std=c99 -O2 -Wall -Wextra -static -I"$repository/include" "$here/count/turns.c" "$library" -o "$out/turns"
+
+# the instructions of a whole run. $@: the words of turns
+run() {
+    qemu-x86_64 -plugin "$out/plugin.so" "$out/turns" "$@" 2>&1
+}
+
+for edition in 2 3 4; do
+    for mode in 0 2; do
+        for way in meter steps; do
+            few=$(run "$way" "$edition" "$mode" 100)
+            many=$(run "$way" "$edition" "$mode" 1100)
+            echo "2.$edition, mode $mode, $way: $(((many - few) / 1000)) instructions"
+        done
+    done
+done

@@ -1,0 +1,79 @@
+/*
+ * Reads the tag that a box leaves again and again, from opening to the end, by the meter or by a reader's steps: a loop whose instructions are counted.
+ *
+ *     turns meter|steps EDITION MODE TURNS
+ */
+#include "streamvault.h"
+
+#include <stdlib.h>
+#include <string.h>
+
+static uint8_t frames[1024], tag[1024], work[1024];
+
+/* Adds a frame; its id by its letters, in 2.2 three of them. */
+static void add(uint64_t *writer, uint64_t kind, const char *letters, const char *name, const uint8_t *rest, size_t rest_len, uint64_t counter)
+{
+    uint64_t record[SV_RECORD_WORDS] = {kind}, count[SV_COUNT_WORDS];
+    for (; *letters != 0; letters++)
+        record[SV_RECORD_ID] = record[SV_RECORD_ID] << 8 | (uint8_t)*letters;
+    if (kind == SV_KIND_POPULARIMETER)
+        record[SV_POPULARIMETER_COUNTER] = counter;
+    if (sv_add(record, SV_RECORD_WORDS, (const uint8_t *)name, strlen(name), NULL, 0, rest, rest_len, NULL, 0, frames, sizeof frames, writer,
+               SV_WRITER_WORDS, count, SV_COUNT_WORDS) != 0)
+        abort();
+}
+
+/* Two texts, a popularimeter, 200 private bytes, padding; answers its length. */
+static size_t box_tag(uint64_t edition, uint64_t mode)
+{
+    static const uint8_t title[] = "A song of some length", artist[] = "Somebody";
+    uint64_t writer[SV_WRITER_WORDS], count[SV_COUNT_WORDS];
+    uint8_t private[200] = "owner";
+    int old = edition == 2;
+    memset(private + 6, 7, sizeof private - 6);
+    if (sv_begin(edition, mode, 0, writer, SV_WRITER_WORDS) != 0)
+        abort();
+    add(writer, SV_KIND_TEXT, old ? "TT2" : "TIT2", "", title, sizeof title - 1, 0);
+    add(writer, SV_KIND_TEXT, old ? "TP1" : "TPE1", "", artist, sizeof artist - 1, 0);
+    add(writer, SV_KIND_POPULARIMETER, old ? "POP" : "POPM", "room 7", NULL, 0, 977000);
+    add(writer, SV_KIND_RAW, old ? "UFI" : "PRIV", "", private, sizeof private, 0);
+    if (sv_finish(64, frames, sizeof frames, tag, sizeof tag, writer, SV_WRITER_WORDS, count, SV_COUNT_WORDS) != 0)
+        abort();
+    return (size_t)count[0];
+}
+
+static uint64_t by_meter(size_t len)
+{
+    uint64_t meter[SV_METER_WORDS], metered[SV_METERED_WORDS], sum = 0;
+    uint32_t answer = sv_meter_open(tag, len, work, len, meter, SV_METER_WORDS);
+    while (answer == 0) {
+        answer = sv_meter_next(tag, len, work, len, meter, SV_METER_WORDS, metered, SV_METERED_WORDS);
+        if (answer == 0)
+            sum += metered[SV_METERED_COUNTER];
+    }
+    return sum;
+}
+
+static uint64_t by_steps(size_t len)
+{
+    uint64_t reader[SV_READER_WORDS], record[SV_RECORD_WORDS], sum = 0;
+    uint32_t answer = sv_open(tag, len, work, len, reader, SV_READER_WORDS);
+    while (answer == 0) {
+        answer = sv_step(tag, len, work, len, reader, SV_READER_WORDS, record, SV_RECORD_WORDS);
+        if (answer == 0 && record[SV_RECORD_KIND] == SV_KIND_POPULARIMETER)
+            sum += record[SV_POPULARIMETER_COUNTER];
+    }
+    return sum;
+}
+
+int main(int argc, char **argv)
+{
+    if (argc != 5)
+        return 2;
+    size_t len = box_tag(strtoull(argv[2], NULL, 10), strtoull(argv[3], NULL, 10));
+    uint64_t (*read)(size_t) = strcmp(argv[1], "meter") == 0 ? by_meter : by_steps;
+    uint64_t turns = strtoull(argv[4], NULL, 10), sum = 0;
+    for (uint64_t i = 0; i < turns; i++)
+        sum += read(len);
+    return sum == turns * 977000 ? 0 : 1;
+}
