@@ -4,3 +4,4 @@ pub mod Onwards
 pub mod Areas
 pub mod Openings
 pub mod Sources
+pub mod Passes

@@ -130,7 +130,7 @@ module _ (v : Version) (inWork : Bool) (begin at : ℕ) (s room : List ℕ) wher
     abbrev shownRecord : Record
     shownRecord = recordOf id sh c (at - begin) (t || inWork) place (length (shownBody t b)) (partsOf v kind place (shownBody t b))
 
-    frame-is : _≡_ {A = Shown × List ℕ} (shownOf (out .0) shownRecord (at + (start + len)), out .1) (frameOf v inWork begin at s room)
+    pub frame-is : _≡_ {A = Shown × List ℕ} (shownOf (out .0) shownRecord (at + (start + len)), out .1) (frameOf v inWork begin at s room)
     unfolding frameOf onShown
     frame-is = rw (← e, eb, ek, et)
 

@@ -50,7 +50,7 @@ lent-same false false to work go go′ e = e work
 -- ---- the run of a body
 
 -- a walk over nothing
-walk-none : (v : Version) (depth : ℕ) (room : List ℕ) → walked false v depth [] room ≡ (0, room)
+pub walk-none : (v : Version) (depth : ℕ) (room : List ℕ) → walked false v depth [] room ≡ (0, room)
 unfolding walked walkBytes
 walk-none v depth room = refl
 

@@ -2,14 +2,19 @@
 use Prim.Native.Nat.{ℕ}
 use mathlib.Core.Bool.{Bool, _&&_}
 use mathlib.Core.List.{List}
-use lib.Dec.{eqb}
-use Rattle.format.specs.Bytes.{pick}
+use lib.ListN.{length}
+use lib.Dec.{ltb, eqb}
+use Rattle.format.specs.Bytes.{pick, putFront}
 use Rattle.format.specs.Ids.{kindOf, kindNumber}
+use Rattle.format.specs.Walk.{frameOf}
 use Rattle.format.specs.declared.Version.{Version}
 use Rattle.format.specs.declared.Kind.{Kind}
 use Rattle.format.specs.declared.Fields.{Fields}
+use Rattle.format.specs.declared.Parts.{Parts}
 use Rattle.format.specs.declared.Record.{Record}
 use Rattle.format.specs.declared.Shown.{Shown}
+use Rattle.frame.specs.declared.body.Parsed.{Parsed}
+use Rattle.frame.specs.Bodies.{parsedOf}
 use Rattle.walk.specs.declared.passing.Met.{Met}
 use Rattle.walk.specs.Sources.{frameIn}
 
@@ -41,3 +46,19 @@ metAs v (Shown.Frame rec next) = metBy (rec .heading .fields) v rec next
 unfoldable pub passIn : Version → Bool → ℕ → ℕ → ℕ → List ℕ → List ℕ → Met × List ℕ
 passIn v inWork begin at end tag work =
     (metAs v (frameIn v inWork begin at end tag work .0), frameIn v inWork begin at end tag work .1)
+
+-- ---- in steps
+
+-- of a popularimeter's body by what reading it gives: rec makes the record of its parts
+abbrev pub readAs : Version → Parsed → (Parts → Record) → ℕ → Met
+readAs v (Parsed.Refused k) rec next = Met.Refused k
+readAs v (Parsed.Parts p) rec next = metBy (p .fields) v (rec p) next
+
+-- of a popularimeter's body u that is put at the front of the room and read there, or 14
+abbrev pub frontAs : Version → List ℕ → (Parts → Record) → ℕ → List ℕ → Met × List ℕ
+frontAs v u rec next room =
+    pick (ltb (length room) (length u)) (Met.Refused 14, room) (readAs v (parsedOf v Kind.Popularimeter 0 u) rec next, putFront u room)
+
+-- of what stands at `at` of a buffer, whose bytes from there on are s
+unfoldable pub passOf : Version → Bool → ℕ → ℕ → List ℕ → List ℕ → Met × List ℕ
+passOf v inWork begin at s room = (metAs v (frameOf v inWork begin at s room .0), frameOf v inWork begin at s room .1)

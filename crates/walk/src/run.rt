@@ -106,7 +106,7 @@ pub fn walk_in(
 }
 
 // A body s[from..to] as it is stored: one that is resynchronised lies at the front of the room then, and the rest of the room is behind it.
-fn body(
+pub(crate) fn body(
     room: &mut [u8],
     s: &[u8],
     from: usize,

@@ -1,0 +1,46 @@
+-- `walk::passing::after` meets its contract. Assumes nothing.
+use Rattle.walk.proofs.Passes.{read-refused, read-short, read-whole, read-other}
+use borrow.Author.Needs.{needs}
+use Rattle.walk.proofs.passing.after.Statement.{statement}
+use Rattle.walk.proofs.passing.after.Tie as tie
+
+enum-known-parsed : tie.Need-enum-known-parsed
+enum-known-parsed c = search needs
+
+enum-known-parsed-2 : tie.Need-enum-known-parsed-2
+enum-known-parsed-2 c = search needs
+
+returns : tie.Need-returns
+returns c =
+    let a = c .before .before .before .before .args in
+    λ v id place from len. read-short v id (a .short) place (a .in-work) from len (a .next) (c .before .before .parsed2 .given .1) (c .if1 .taken)
+
+enum-known-fields : tie.Need-enum-known-fields
+enum-known-fields c = search needs
+
+returns-2 : tie.Need-returns-2
+returns-2 c =
+    let a = c .before .before .before .args in
+    λ v id place from len. read-refused v id (a .short) place (a .in-work) from len (a .next) (c .before .parsed .given .1)
+
+returns-3 : tie.Need-returns-3
+returns-3 c =
+    let a = c .before .before .before .before .before .before .before .before .args in
+    λ v id place from len. read-whole v id (a .short) place (a .in-work) from len (a .next) (c .before .before .before .before .before .before .parsed2 .given .1) (c .before .before .before .before .if1 .left) (c .before .fields .given .1)
+
+returns-4 : tie.Need-returns-4
+returns-4 c =
+    let a = c .before .before .before .before .before .before .args in
+    λ v id place from len. read-other v id (a .short) place (a .in-work) from len (a .next) (c .before .before .before .before .parsed2 .given .1) (c .match2 .keys2)
+
+pub after-spec : {M : Type 1} → statement M
+after-spec =
+    tie.close
+    (tie.spec
+    enum-known-parsed
+    enum-known-parsed-2
+    returns
+    enum-known-fields
+    returns-2
+    returns-3
+    returns-4)

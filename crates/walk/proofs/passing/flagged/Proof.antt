@@ -1,0 +1,63 @@
+-- `walk::passing::flagged` meets its contract. Assumes nothing.
+use mathlib.Core.Path.{sym, ap, _∙_}
+use mathlib.Core.List.{List}
+use Prim.Native.Nat.{ℕ}
+use lib.Seq.{slice}
+use Rattle.format.specs.Unsynch.{resynchronised}
+use Rattle.format.specs.Walk.{recordOf}
+use mathlib.Core.Bool.{true, false}
+use Rattle.unsynch.specs.declared.Put.{Put}
+use Rattle.walk.proofs.Passes.{front-refused, front-read}
+use borrow.Author.Needs.{needs}
+use Rattle.walk.proofs.passing.flagged.Statement.{statement}
+use Rattle.walk.proofs.passing.flagged.Tie as tie
+
+resync-into-requires : tie.Need-resync-into-requires
+resync-into-requires c κs = search needs
+
+enum-known-k : tie.Need-enum-known-k
+enum-known-k c = search needs
+
+enum-known-n : tie.Need-enum-known-n
+enum-known-n c = search needs
+
+parse-requires : tie.Need-parse-requires
+parse-requires c κs = search needs
+
+after-requires : tie.Need-after-requires
+after-requires c κs = search needs
+
+same-length : tie.Need-same-length
+same-length c = search needs
+
+returns : tie.Need-returns
+returns c =
+    let a = c .before .before .before .before .before .before .before .before .before .args in
+    let R = c .before .before .before .before .before .resync-into in
+    let e = ap {B = Put × List ℕ} (λ (x : Put). (x, R .last .0)) (sym (c .before .k .given .1)) ∙ R .ensures in
+    λ v id place from len. front-refused v (recordOf id (a .short) false place true from len) (a .next) (resynchronised (slice (a .first) (a .next) (a .s .now))) (a .room .now) (R .last .0) e
+
+same-length-2 : tie.Need-same-length-2
+same-length-2 c = search needs
+
+returns-2 : tie.Need-returns-2
+returns-2 c =
+    let a = c .before .before .before .before .before .before .before .before .before .before .before .before .args in
+    let R = c .before .before .before .before .before .before .before .before .resync-into in
+    let e = ap {B = Put × List ℕ} (λ (x : Put). (x, R .last .0)) (sym (c .before .before .before .before .n .given .1)) ∙ R .ensures in
+    λ v id place from len. front-read v (recordOf id (a .short) false place true from len) (a .next) (resynchronised (slice (a .first) (a .next) (a .s .now))) (a .room .now) (R .last .0) e
+    (c .before .parse .ensures v) (c .after .ensures v id place from len)
+
+pub flagged-spec : {M : Type 1} → statement M
+flagged-spec =
+    tie.close
+    (tie.spec
+    resync-into-requires
+    enum-known-k
+    enum-known-n
+    parse-requires
+    after-requires
+    same-length
+    returns
+    same-length-2
+    returns-2)

@@ -1,0 +1,153 @@
+-- `walk::passing::pass_in` meets its contract. Assumes nothing.
+use mathlib.Core.Path.{sym, ap, _∙_}
+use Prim.Native.Nat.{_+_, _-_}
+use native.Mathlib.Omega.{arith}
+use mathlib.Core.Bool.{Bool, _&&_}
+use lib.ListN.{length}
+use lib.Seq.{slice}
+use lib.Dec.{eqb}
+use Rattle.format.specs.Unsynch.{resynchronised}
+use Rattle.format.specs.Ids.{kindNumber}
+use Rattle.format.specs.declared.Kind.{Kind}
+use Rattle.walk.proofs.Passes.{Here, here, pass-nothing, pass-refused, pass-body-refused, pass-over, pass-meter, pass-front}
+use borrow.Author.Needs.{needs}
+use Rattle.walk.proofs.passing.pass_in.Statement.{statement}
+use Rattle.walk.proofs.passing.pass_in.Tie as tie
+
+decode-requires : tie.Need-decode-requires
+decode-requires c κs = search needs
+
+enum-told : tie.Need-enum-told
+enum-told c = search needs
+
+enum-known-k : tie.Need-enum-known-k
+enum-known-k c = search needs
+
+enum-known-id : tie.Need-enum-known-id
+enum-known-id c = search needs
+
+-- the frame that was found
+found : (d : tie.After-known-told2)
+    → let a = d .before .before .before .before .before .before .args in
+    let h = d .before .id .given .0 in
+    Here (a .version) (a .at) (a .end) (a .s .now) (h .0) (h .1 .0) (h .1 .1 .0) (h .1 .1 .1 .0) (h .1 .1 .1 .1 .0) (h .1 .1 .1 .1 .1 .0)
+found d =
+    let a = d .before .before .before .before .before .before .args in
+    here (a .version) (a .at) (a .end) (a .s .now) _ _ _ _ _ _ (sym (d .before .id .given .1) ∙ d .before .before .before .decode .ensures)
+
+add-first : tie.Need-add-first
+add-first c = omega (arith, found c .within, c .before .before .before .before .before .before .fits)
+
+add-next : tie.Need-add-next
+add-next c = omega (arith, found c .within, c .before .before .before .before .before .before .fits)
+
+shown-kind-requires : tie.Need-shown-kind-requires
+shown-kind-requires c κs = search needs
+
+is-resynced-requires : tie.Need-is-resynced-requires
+is-resynced-requires c κs = search needs
+
+is-popularimeter-requires : tie.Need-is-popularimeter-requires
+is-popularimeter-requires c κs = search needs
+
+flagged-requires : tie.Need-flagged-requires
+flagged-requires c κs = search needs
+
+same-length : tie.Need-same-length
+same-length c = search needs
+
+returns : tie.Need-returns
+returns c =
+    let q = c .before .before .before .before .before .before in
+    let d = q .before .before .before in
+    let a = d .before .before .before .before .before .before .args in
+    let h = d .before .id .given .0 in
+    let b = slice (a .at + h .1 .1 .1 .1 .0) (a .at + h .1 .1 .1 .1 .0 + h .1 .1 .1 .1 .1 .0) (a .s .now) in
+    λ begin. pass-front (a .version) (a .in-work) begin (a .at) (a .end) (a .s .now) (a .room .now) (found d) _ _ (q .before .before .shown-kind .ensures) (q .before .is-resynced .ensures) (sym (q .is-popularimeter .ensures) ∙ c .before .before .before .before .before .if1 .taken) (c .before .before .before .before .if2 .taken)
+    (c .before .before .flagged .ensures (a .version) (h .0) (a .at - begin) 0 (length (resynchronised b)))
+
+parse-requires : tie.Need-parse-requires
+parse-requires c κs = search needs
+
+after-requires : tie.Need-after-requires
+after-requires c κs = search needs
+
+returns-2 : tie.Need-returns-2
+returns-2 c =
+    let q = c .before .before .before .before in
+    let d = q .before .before .before in
+    let a = d .before .before .before .before .before .before .args in
+    let h = d .before .id .given .0 in
+    let b = slice (a .at + h .1 .1 .1 .1 .0) (a .at + h .1 .1 .1 .1 .0 + h .1 .1 .1 .1 .1 .0) (a .s .now) in
+    λ begin. pass-meter (a .version) (a .in-work) begin (a .at) (a .end) (a .s .now) (a .room .now) (found d) _ _ (q .before .before .shown-kind .ensures) (q .before .is-resynced .ensures) (sym (q .is-popularimeter .ensures) ∙ c .before .before .before .if1 .taken) (c .before .before .if2 .left)
+    (c .before .parse .ensures (a .version)) (c .after .ensures (a .version) (h .0) (a .at - begin) (a .at + h .1 .1 .1 .1 .0) (length b))
+
+body-requires : tie.Need-body-requires
+body-requires c κs = (omega arith, found (c .before .before .before .before .before) .within, omega arith)
+
+same-length-2 : tie.Need-same-length-2
+same-length-2 c = search needs
+
+returns-3 : tie.Need-returns-3
+returns-3 c =
+    let q = c .before .before .before .before .before .before in
+    let d = q .before .before .before in
+    let a = d .before .before .before .before .before .before .args in
+    λ begin. pass-body-refused (a .version) (a .in-work) begin (a .at) (a .end) (a .s .now) (a .room .now) (found d) _ _ (q .before .before .shown-kind .ensures) (q .before .is-resynced .ensures) (c .before .before .before .body .ensures) (c .if3 .taken)
+
+kind-of-requires : tie.Need-kind-of-requires
+kind-of-requires c κs = search needs
+
+is-popularimeter-requires-2 : tie.Need-is-popularimeter-requires-2
+is-popularimeter-requires-2 c κs = search needs
+
+returns-4 : tie.Need-returns-4
+returns-4 c =
+    let a = c .before .before .before .before .before .args in
+    λ begin. pass-nothing (a .version) (a .in-work) begin (a .at) (slice (a .at) (a .end) (a .s .now)) (a .room .now) (sym (c .enum-told .given .1) ∙ c .before .before .decode .ensures)
+
+returns-5 : tie.Need-returns-5
+returns-5 c =
+    let a = c .before .before .before .before .before .before .args in
+    λ begin. pass-refused (a .version) (a .in-work) begin (a .at) (slice (a .at) (a .end) (a .s .now)) (a .room .now) (sym (c .before .k .given .1) ∙ c .before .before .before .decode .ensures)
+
+same-length-3 : tie.Need-same-length-3
+same-length-3 c = search needs
+
+returns-6 : tie.Need-returns-6
+returns-6 c =
+    let q = c .before .before .before .before .before .before .before .before in
+    let d = q .before .before .before in
+    let a = d .before .before .before .before .before .before .args in
+    let h = d .before .id .given .0 in
+    let packed = ap (λ (x : Bool). h .1 .0 && x) (c .is-popularimeter2 .ensures ∙ ap (λ (k : Kind). eqb (kindNumber k) 1) (c .before .kind-of .ensures)) in
+    λ begin. pass-over (a .version) (a .in-work) begin (a .at) (a .end) (a .s .now) (a .room .now) (found d) _ _ (q .before .before .shown-kind .ensures) (q .before .is-resynced .ensures) (c .before .before .before .before .before .body .ensures) (c .before .before .if3 .left) (sym (q .is-popularimeter .ensures) ∙ c .before .before .before .before .before .before .before .if1 .left) _ packed
+
+pub pass-in-spec : {M : Type 1} → statement M
+pass-in-spec =
+    tie.close
+    (tie.spec
+    decode-requires
+    enum-told
+    enum-known-k
+    enum-known-id
+    add-first
+    add-next
+    shown-kind-requires
+    is-resynced-requires
+    is-popularimeter-requires
+    flagged-requires
+    same-length
+    returns
+    parse-requires
+    after-requires
+    returns-2
+    body-requires
+    same-length-2
+    returns-3
+    kind-of-requires
+    is-popularimeter-requires-2
+    returns-4
+    returns-5
+    same-length-3
+    returns-6)
