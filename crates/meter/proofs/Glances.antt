@@ -12,7 +12,7 @@ use lib.Dec.{ltb, eqb·suc-zero}
 use borrow.Author.Tests.{le-ltb, lt-ltb, lt-leb, ne-eqb}
 use Rattle.lists.proofs.Parts.{each-drop, each-take}
 use Rattle.lists.proofs.Cuts.{length-cut, take-drop, cut-of-take}
-use Rattle.lists.proofs.Slices.{slice-drop}
+use Rattle.lists.proofs.Slices.{slice-none, slice-drop}
 use Rattle.format.specs.Bytes.{first, pick}
 use Rattle.format.specs.Numbers.{digits, onto, number, bytesOf, fromSynchsafe}
 use Rattle.format.specs.Unsynch.{resync, resynchronised}
@@ -26,9 +26,9 @@ use Rattle.format.specs.declared.Head.{Head}
 use Rattle.format.proofs.Numbers.{Digits}
 use Rattle.loads.proofs.Words.{three, four, number-three, number-four, first-three, synchsafe-four}
 use Rattle.frame.specs.Headers.{Begun}
-use Rattle.frame.proofs.Headers.{ends-padded, found}
+use Rattle.frame.proofs.Headers.{ends-short, ends-padded, found}
 use Rattle.meter.specs.declared.glance.Glance.{Glance}
-use Rattle.meter.specs.Glances.{tenOf, sizeBy, Passes, Sorted, withFlag, Whole, bodyIn, Says}
+use Rattle.meter.specs.Glances.{is22, is24, tenOf, sizeBy, Passes, Sorted, withFlag, Whole, bodyIn, Says}
 
 -- ---- sizes
 
@@ -360,3 +360,30 @@ module _ (at left : ℕ) (s : List ℕ) (bytes : Digits 256 s) (fits : at + 6 + 
 
     pub six-says : Says Id3v22 six-bytes g
     six-says = says Id3v22 n six-bytes six-whole g (sorted-in Id3v22 at left s fits false n h six-whole kind id g id-three is-kind p)
+
+-- ---- any edition
+
+pub is-22 : (v : Version) → is22 v ≡ true → v ≡ Id3v22
+is-22 Id3v22 e = refl
+is-22 Id3v23 e = absurd (let z : _≡_ {A = ℕ} 0 1 = cc in omega arith)
+is-22 Id3v24 e = absurd (let z : _≡_ {A = ℕ} 0 1 = cc in omega arith)
+
+pub is-ten : (v : Version) → is22 v ≡ false → tenOf (is24 v) ≡ v
+is-ten Id3v22 e = absurd (let z : _≡_ {A = ℕ} 0 1 = cc in omega arith)
+is-ten Id3v23 e = refl
+is-ten Id3v24 e = refl
+
+some-head : (v : Version) → 0 < headLen v
+some-head Id3v22 = omega arith
+some-head Id3v23 = omega arith
+some-head Id3v24 = omega arith
+
+-- no bytes are the end
+pub says-none : (v : Version) (at last : ℕ) (s : List ℕ) → last ≤ at → headOf v 1 (slice at last s) ≡ Head.Nothing
+says-none v at last s h =
+    let none : length (slice at last s) ≡ 0 = length-cut at last s ∙ omega arith in
+    sym (ends-short v 1 (slice at last s) (omega (arith, some-head v)))
+
+-- the same bytes, with the bytes behind a header counted from its place
+pub says-from : (v : Version) (at n left last : ℕ) (s : List ℕ) (g : Glance) → at + n + left ≡ last → Says v (slice at (at + n + left) s) g → Says v (slice at last s) g
+says-from v at n left last s g e p = rw e at p

@@ -10,10 +10,20 @@ use Rattle.format.specs.Ids.{idLen, kindOf}
 use Rattle.format.specs.Frame.{headLen, headOf}
 use Rattle.format.specs.Text.{textRefusal}
 use Rattle.format.specs.declared.Version.{Version}
-use Rattle.format.specs.declared.Version.the-variants.{Id3v23, Id3v24}
+use Rattle.format.specs.declared.Version.the-variants.{Id3v22, Id3v23, Id3v24}
 use Rattle.format.specs.declared.Kind.{Kind}
 use Rattle.format.specs.declared.Head.{Head}
 use Rattle.meter.specs.declared.glance.Glance.{Glance}
+
+abbrev pub is22 : Version → Bool
+is22 Id3v22 = true
+is22 Id3v23 = false
+is22 Id3v24 = false
+
+abbrev pub is24 : Version → Bool
+is24 Id3v22 = false
+is24 Id3v23 = false
+is24 Id3v24 = true
 
 -- the editions whose headers have ten bytes
 abbrev pub tenOf : Bool → Version

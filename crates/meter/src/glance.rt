@@ -9,7 +9,7 @@ ghost use mathlib.Core.Path.{_≡_};
 ghost use Prim.Native.Nat.{_+_, _≤_};
 ghost use lib.ListN.{length};
 ghost use lib.Seq.{slice};
-ghost use Rattle.meter.specs.Glances.{tenOf, sizeBy, Sorted, withFlag, Says};
+ghost use Rattle.meter.specs.Glances.{is22, is24, tenOf, sizeBy, Sorted, withFlag, Says};
 
 // What a glance tells: nothing, the end, or a whole frame with so many bytes of body, which is passed, is passed once it
 // is resynchronised, or is a popularimeter.
@@ -116,4 +116,45 @@ fn glance6(s: &[u8], at: usize, left: usize) -> Glance
         return Glance::Unclear;
     }
     by_kind(s, kind_of(Version::Id3v22, id), at + 6, size)
+}
+
+// Whether an edition is 2.2.
+fn is_22(version: Version) -> bool
+    ensures { λ r. ⌜ r ≡ is22 version ⌝ }
+{
+    match version {
+        Version::Id3v22 => true,
+        Version::Id3v23 => false,
+        Version::Id3v24 => false,
+    }
+}
+
+// Whether an edition is 2.4.
+fn is_24(version: Version) -> bool
+    ensures { λ r. ⌜ r ≡ is24 version ⌝ }
+{
+    match version {
+        Version::Id3v22 => false,
+        Version::Id3v23 => false,
+        Version::Id3v24 => true,
+    }
+}
+
+// What stands at the front of s[at..last], where a frame of the top level may begin. So near the end that a header of
+// ten bytes has no room, nothing is told.
+pub(crate) fn glance_at(version: Version, s: &[u8], at: usize, last: usize) -> Glance
+    requires { ⌜ last ≤ length (now s) ⌝ }
+    ensures { λ r. ⌜ Says version (slice at last (now (s .entry))) r ⌝ }
+{
+    if last < at {
+        return Glance::End;
+    }
+    let left = last - at;
+    if left < 10 {
+        return Glance::Unclear;
+    }
+    if is_22(version) {
+        return glance6(s, at, left - 6);
+    }
+    glance10(s, at, left - 10, is_24(version))
 }
