@@ -53,8 +53,8 @@ fn is_popularimeter(kind: Kind) -> bool
     }
 }
 
-// The popularimeter whose body was read so.
-fn after(parsed: Parsed, next: usize, short: bool, in_work: bool) -> Met
+// The popularimeter whose body was read so, or why it is none. It is passed over where it is short.
+pub fn read_as(parsed: Parsed, next: usize, short: bool, in_work: bool) -> Met
     ensures { λ r. ⌜ ((v : Version) (id place from len : ℕ) → r ≡ readAs v parsed (recordOf id short false place «in_work» from len) next) ⌝ }
 {
     match parsed {
@@ -93,7 +93,7 @@ fn flagged(room: &mut [u8], s: &[u8], first: usize, next: usize, short: bool) ->
 {
     match resync_into(room, s, first, next) {
         Put::Refused(k) => Met::Refused(k),
-        Put::Bytes(n) => after(popularimeter::parse(&room[..], 0, n), next, short, true),
+        Put::Bytes(n) => read_as(popularimeter::parse(&room[..], 0, n), next, short, true),
     }
 }
 
@@ -120,7 +120,7 @@ fn pass_in(room: &mut [u8], s: &[u8], version: Version, in_work: bool, at: usize
                 if resynced {
                     return flagged(room, s, first, next, short);
                 }
-                return after(popularimeter::parse(s, first, next), next, short, in_work);
+                return read_as(popularimeter::parse(s, first, next), next, short, in_work);
             }
             let r = body(room, s, first, next, kind, resynced, version, false, 1);
             if r != 0 {

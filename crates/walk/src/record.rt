@@ -41,7 +41,7 @@ pub enum Lies {
 }
 
 // The bytes that frames lie in: the work buffer or the tag.
-fn source<'a>(in_work: bool, work: &'a [u8], tag: &'a [u8]) -> &'a [u8]
+pub fn source<'a>(in_work: bool, work: &'a [u8], tag: &'a [u8]) -> &'a [u8]
     ensures { λ r. ⌜ now r ≡ sourceOf «in_work» (now (work .entry)) (now (tag .entry)) ⌝ }
 {
     if in_work { &work[..] } else { &tag[..] }

@@ -24,8 +24,8 @@ enum-known-n c = search needs
 parse-requires : tie.Need-parse-requires
 parse-requires c κs = search needs
 
-after-requires : tie.Need-after-requires
-after-requires c κs = search needs
+read-as-requires : tie.Need-read-as-requires
+read-as-requires c κs = search needs
 
 same-length : tie.Need-same-length
 same-length c = search needs
@@ -46,7 +46,7 @@ returns-2 c =
     let R = c .before .before .before .before .before .before .before .before .resync-into in
     let e = ap {B = Put × List ℕ} (λ (x : Put). (x, R .last .0)) (sym (c .before .before .before .before .n .given .1)) ∙ R .ensures in
     λ v id place from len. front-read v (recordOf id (a .short) false place true from len) (a .next) (resynchronised (slice (a .first) (a .next) (a .s .now))) (a .room .now) (R .last .0) e
-    (c .before .parse .ensures v) (c .after .ensures v id place from len)
+    (c .before .parse .ensures v) (c .read-as .ensures v id place from len)
 
 pub flagged-spec : {M : Type 1} → statement M
 flagged-spec =
@@ -56,7 +56,7 @@ flagged-spec =
     enum-known-k
     enum-known-n
     parse-requires
-    after-requires
+    read-as-requires
     same-length
     returns
     same-length-2

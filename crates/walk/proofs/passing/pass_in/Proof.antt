@@ -69,8 +69,8 @@ returns c =
 parse-requires : tie.Need-parse-requires
 parse-requires c κs = search needs
 
-after-requires : tie.Need-after-requires
-after-requires c κs = search needs
+read-as-requires : tie.Need-read-as-requires
+read-as-requires c κs = search needs
 
 returns-2 : tie.Need-returns-2
 returns-2 c =
@@ -80,7 +80,7 @@ returns-2 c =
     let h = d .before .id .given .0 in
     let b = slice (a .at + h .1 .1 .1 .1 .0) (a .at + h .1 .1 .1 .1 .0 + h .1 .1 .1 .1 .1 .0) (a .s .now) in
     λ begin. pass-meter (a .version) (a .in-work) begin (a .at) (a .end) (a .s .now) (a .room .now) (found d) _ _ (q .before .before .shown-kind .ensures) (q .before .is-resynced .ensures) (sym (q .is-popularimeter .ensures) ∙ c .before .before .before .if1 .taken) (c .before .before .if2 .left)
-    (c .before .parse .ensures (a .version)) (c .after .ensures (a .version) (h .0) (a .at - begin) (a .at + h .1 .1 .1 .1 .0) (length b))
+    (c .before .parse .ensures (a .version)) (c .read-as .ensures (a .version) (h .0) (a .at - begin) (a .at + h .1 .1 .1 .1 .0) (length b))
 
 body-requires : tie.Need-body-requires
 body-requires c κs = (omega arith, found (c .before .before .before .before .before) .within, omega arith)
@@ -140,7 +140,7 @@ pass-in-spec =
     same-length
     returns
     parse-requires
-    after-requires
+    read-as-requires
     returns-2
     body-requires
     same-length-2

@@ -1,8 +1,8 @@
--- `walk::passing::after` meets its contract. Assumes nothing.
+-- `walk::passing::read_as` meets its contract. Assumes nothing.
 use Rattle.walk.proofs.Passes.{read-refused, read-short, read-whole, read-other}
 use borrow.Author.Needs.{needs}
-use Rattle.walk.proofs.passing.after.Statement.{statement}
-use Rattle.walk.proofs.passing.after.Tie as tie
+use Rattle.walk.proofs.passing.read_as.Statement.{statement}
+use Rattle.walk.proofs.passing.read_as.Tie as tie
 
 enum-known-parsed : tie.Need-enum-known-parsed
 enum-known-parsed c = search needs
@@ -33,8 +33,8 @@ returns-4 c =
     let a = c .before .before .before .before .before .before .args in
     λ v id place from len. read-other v id (a .short) place (a .in-work) from len (a .next) (c .before .before .before .before .parsed2 .given .1) (c .match2 .keys2)
 
-pub after-spec : {M : Type 1} → statement M
-after-spec =
+pub read-as-spec : {M : Type 1} → statement M
+read-as-spec =
     tie.close
     (tie.spec
     enum-known-parsed
