@@ -90,8 +90,18 @@ module _ (v : Version) (rec : Record) (next : ℕ) where
   met-kind Kind.Contents h at b = refl
   met-kind Kind.Raw h at b = refl
 
--- ---- a popularimeter's body that was read
+-- ---- a popularimeter's body
 
+-- it has no run
+meter-inside : (v : Version) (b room : List ℕ) → insideOf (walked false v 2) Kind.Popularimeter b room ≡ (bodyRefusal Kind.Popularimeter b, room)
+unfolding insideOf runOf
+meter-inside v b room = by (bodyRefusal Kind.Popularimeter b) (eqb (bodyRefusal Kind.Popularimeter b) 0) refl
+  where
+    by : (k : ℕ) (t : Bool) → eqb k 0 ≡ t → pick {A = Out} t (walked false v 2 [] room) (k, room) ≡ (k, room)
+    by k true e = walk-none v 2 room ∙ ap {B = Out} (λ (j : ℕ). (j, room)) (sym (eqb-true k 0 e))
+    by k false e = refl
+
+-- one that was read
 module _ (v : Version) (id : ℕ) (short : Bool) (place : ℕ) (w : Bool) (from len next : ℕ) where
   abbrev made : Parts → Record
   made = recordOf id short false place w from len
@@ -109,6 +119,24 @@ module _ (v : Version) (id : ℕ) (short : Bool) (place : ℕ) (w : Bool) (from 
 
     pub read-other : OneOf (0 ∷ 2 ∷ 3 ∷ 4 ∷ 5 ∷ []) (tagOf the-type (p .fields)) → Met.Passed next short false ≡ readAs v parsed made next
     read-other k = rw e (met-other v (made p) next (p .fields) k)
+
+  abbrev metOf : ℕ → List ℕ → Met
+  metOf k b = metAs v (shownOf k (made (partsOf v Kind.Popularimeter from b)) next)
+
+  -- it is shown as it was read
+  met-read : (b : List ℕ) → readAs v (parsedOf v Kind.Popularimeter from b) made next ≡ metOf (bodyRefusal Kind.Popularimeter b) b
+  unfolding parsedOf
+  met-read b = by (eqb (bodyRefusal Kind.Popularimeter b) 0)
+    where
+      by : (t : Bool)
+          → readAs v (pick t (Parsed.Parts (partsOf v Kind.Popularimeter from b)) (Parsed.Refused (bodyRefusal Kind.Popularimeter b))) made next
+          ≡ metAs v (pick t (Shown.Frame (made (partsOf v Kind.Popularimeter from b)) next) (Shown.Refused (bodyRefusal Kind.Popularimeter b)))
+      by true = refl
+      by false = refl
+
+  met-stored : (b room : List ℕ) → let o = insideOf (walked false v 2) Kind.Popularimeter b room in
+      _≡_ {A = Met × List ℕ} (readAs v (parsedOf v Kind.Popularimeter from b) made next, room) (metOf (o .0) b, o .1)
+  met-stored b room = rw (meter-inside v b room, met-read b)
 
 -- ---- one that is put at the front of the room
 
@@ -134,6 +162,18 @@ module _ (v : Version) (rec : Parts → Record) (next : ℕ) (u room room′ : L
       let same : slice 0 n room′ ≡ u = ap (slice 0 n) left ∙ fitted-front f in
       let put : room′ ≡ putFront u room = left ∙ f .put in
       rw (le-ltb (length room) (length u) (f .fits), er, ep, same, put)
+
+-- it is shown as it was read
+met-front : (v : Version) (id : ℕ) (sh : Bool) (place len next : ℕ) (u room : List ℕ) → let o = resyncedOf (walked false v 2) Kind.Popularimeter u room in
+    _≡_ {A = Met × List ℕ} (frontAs v u (made v id sh place true 0 len next) next room) (metOf v id sh place true 0 len next (o .0) u, o .1)
+unfolding resyncedOf
+met-front v id sh place len next u room = by (ltb (length room) (length u))
+  where
+    by : (t : Bool) → let o = pick {A = Out} t (14, room) (behind u (insideOf (walked false v 2) Kind.Popularimeter u (drop (length u) room))) in
+        _≡_ {A = Met × List ℕ} (pick t (Met.Refused 14, room) (readAs v (parsedOf v Kind.Popularimeter 0 u) (made v id sh place true 0 len next) next, putFront u room))
+        (metOf v id sh place true 0 len next (o .0) u, o .1)
+    by true = refl
+    by false = rw (meter-inside v u (drop (length u) room), met-read v id sh place true 0 len next u)
 
 -- ---- a frame
 
@@ -167,51 +207,6 @@ here v at end s id c f sh start len e =
       within = omega (arith, p .within);
       body = ap (λ (x : List ℕ). take len (drop start x)) (sym cut) ∙ p .body;
     }
-
--- ---- a popularimeter's frame
-
--- its body has no run
-meter-inside : (v : Version) (b room : List ℕ) → insideOf (walked false v 2) Kind.Popularimeter b room ≡ (bodyRefusal Kind.Popularimeter b, room)
-unfolding insideOf runOf
-meter-inside v b room = by (bodyRefusal Kind.Popularimeter b) (eqb (bodyRefusal Kind.Popularimeter b) 0) refl
-  where
-    by : (k : ℕ) (t : Bool) → eqb k 0 ≡ t → pick {A = Out} t (walked false v 2 [] room) (k, room) ≡ (k, room)
-    by k true e = walk-none v 2 room ∙ ap {B = Out} (λ (j : ℕ). (j, room)) (sym (eqb-true k 0 e))
-    by k false e = refl
-
-module _ (v : Version) (id : ℕ) (sh : Bool) (place : ℕ) (w : Bool) (at len next : ℕ) where
-  abbrev recorded : Parts → Record
-  recorded = recordOf id sh false place w at len
-
-  abbrev metOf : ℕ → List ℕ → Met
-  metOf k b = metAs v (shownOf k (recorded (partsOf v Kind.Popularimeter at b)) next)
-
-  -- what is shown of it, by what was read
-  met-read : (b : List ℕ) → readAs v (parsedOf v Kind.Popularimeter at b) recorded next ≡ metOf (bodyRefusal Kind.Popularimeter b) b
-  unfolding parsedOf
-  met-read b = by (eqb (bodyRefusal Kind.Popularimeter b) 0)
-    where
-      by : (t : Bool)
-          → readAs v (pick t (Parsed.Parts (partsOf v Kind.Popularimeter at b)) (Parsed.Refused (bodyRefusal Kind.Popularimeter b))) recorded next
-          ≡ metAs v (pick t (Shown.Frame (recorded (partsOf v Kind.Popularimeter at b)) next) (Shown.Refused (bodyRefusal Kind.Popularimeter b)))
-      by true = refl
-      by false = refl
-
-  met-stored : (b room : List ℕ) → let o = insideOf (walked false v 2) Kind.Popularimeter b room in
-      _≡_ {A = Met × List ℕ} (readAs v (parsedOf v Kind.Popularimeter at b) recorded next, room) (metOf (o .0) b, o .1)
-  met-stored b room = rw (meter-inside v b room, met-read b)
-
--- the same of one that is resynchronised
-met-front : (v : Version) (id : ℕ) (sh : Bool) (place len next : ℕ) (u room : List ℕ) → let o = resyncedOf (walked false v 2) Kind.Popularimeter u room in
-    _≡_ {A = Met × List ℕ} (frontAs v u (recorded v id sh place true 0 len next) next room) (metOf v id sh place true 0 len next (o .0) u, o .1)
-unfolding resyncedOf
-met-front v id sh place len next u room = by (ltb (length room) (length u))
-  where
-    by : (t : Bool) → let o = pick {A = Out} t (14, room) (behind u (insideOf (walked false v 2) Kind.Popularimeter u (drop (length u) room))) in
-        _≡_ {A = Met × List ℕ} (pick t (Met.Refused 14, room) (readAs v (parsedOf v Kind.Popularimeter 0 u) (recorded v id sh place true 0 len next) next, putFront u room))
-        (metOf v id sh place true 0 len next (o .0) u, o .1)
-    by true = refl
-    by false = rw (meter-inside v u (drop (length u) room), met-read v id sh place true 0 len next u)
 
 -- ---- a frame that was found
 

@@ -1,5 +1,5 @@
-// The walk through frames and through the subframes of chapters, with a work buffer, and one frame as a record. What
-// the answers mean stands in specs/.
+// The walk through frames and through the subframes of chapters, with a work buffer, and one frame as a record or by
+// what a meter needs of it. What the answers mean stands in specs/.
 mod choices;
 mod inside;
 pub mod passing;
