@@ -1,3 +1,4 @@
 -- Laws of the meter.
 pub mod Nexts
 mod Glances
+mod Meets

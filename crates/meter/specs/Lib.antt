@@ -2,3 +2,4 @@
 pub mod Meter
 pub mod Answers
 pub mod Glances
+pub mod Meets
