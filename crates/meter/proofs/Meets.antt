@@ -47,6 +47,12 @@ use Rattle.meter.proofs.Nexts.{next-eq}
 abbrev pub Answer : Type 0
 Answer = Met × List ℕ
 
+-- ---- a glance at the frames' bytes, up to their end or to where the frames do
+
+pub told : (v : Version) (w : Bool) (at end last : ℕ) (s tag work : List ℕ) (g : Glance) → s ≡ sourceOf w work tag → last ≡ min end (length s)
+    → Says v (slice at last s) g → Says v (slice at end (sourceOf w work tag)) g
+told v w at end last s tag work g es el p = rw es at (rw (slice-cut at end last s el) at p)
+
 -- ---- a body that passes
 
 passes-other : (kind : Kind) (b : List ℕ) → Passes kind b → eqb (kindNumber kind) 1 ≡ false
@@ -104,6 +110,28 @@ module _ (v : Version) (w : Bool) (begin at end : ℕ) (tag work : List ℕ) whe
       let h = found-here n false (says .0) in
       in-place w refl met
       (λ room. pass-meter v w begin at end bytes room h (kindOf v (says .0 .id)) false refl refl (rw (says .1)) refl ep (er _ _ _ _))
+
+-- ---- a body put at the front of the room
+
+module _ (u : List ℕ) (next : ℕ) (room room′ : List ℕ) where
+  pub flagged-refused : {k : ℕ} → _≡_ {A = Put × List ℕ} (Put.Refused k, room′) (intoOf u room) → _≡_ {A = Answer} (Met.Refused k, room′) (flaggedOf u next room)
+  flagged-refused {k} e = by (ltb (length room) (length u)) e
+    where
+      by : (t : Bool) → _≡_ {A = Put × List ℕ} (Put.Refused k, room′) (pick t (Put.Refused 14, room) (Put.Bytes (length u), putFront u room))
+          → _≡_ {A = Answer} (Met.Refused k, room′) (pick t (Met.Refused 14, room) (Met.Passed next false false, putFront u room))
+      by true h =
+          let f : Put.Refused k ≡ Put.Refused 14 = ap (λ (o : Put × List ℕ). o .0) h in
+          let z : k ≡ 14 = cc in
+          rw (z, ap (λ (o : Put × List ℕ). o .1) h)
+      by false h = absurd (let f : Put.Refused k ≡ Put.Bytes (length u) = ap (λ (o : Put × List ℕ). o .0) h in let z : _≡_ {A = ℕ} 0 1 = cc in omega arith)
+
+  pub flagged-put : {n : ℕ} → _≡_ {A = Put × List ℕ} (Put.Bytes n, room′) (intoOf u room) → _≡_ {A = Answer} (Met.Passed next false false, room′) (flaggedOf u next room)
+  flagged-put {n} e = by (ltb (length room) (length u)) e
+    where
+      by : (t : Bool) → _≡_ {A = Put × List ℕ} (Put.Bytes n, room′) (pick t (Put.Refused 14, room) (Put.Bytes (length u), putFront u room))
+          → _≡_ {A = Answer} (Met.Passed next false false, room′) (pick t (Met.Refused 14, room) (Met.Passed next false false, putFront u room))
+      by true h = absurd (let f : Put.Bytes n ≡ Put.Refused 14 = ap (λ (o : Put × List ℕ). o .0) h in let z : _≡_ {A = ℕ} 0 1 = cc in omega arith)
+      by false h = rw (ap (λ (o : Put × List ℕ). o .1) h)
 
 -- a body that is resynchronised and then passes
 flagged-here : (v : Version) (begin at end : ℕ) (tag work : List ℕ) (n : ℕ) → Says v (slice at end tag) (Glance.Flagged n)

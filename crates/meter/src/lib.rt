@@ -1,5 +1,6 @@
 // The meter: what reads a tag's counters and nothing else. What its answers mean stands in specs/.
 mod glance;
+mod going;
 
 use format::Span;
 use reader::Reader;

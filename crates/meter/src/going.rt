@@ -1,0 +1,96 @@
+// Going on to the next popularimeter.
+use crate::Meter;
+use crate::Metered;
+use crate::Next;
+use crate::glance::Glance;
+use crate::glance::glance_at;
+use format::Version;
+use frame::popularimeter::parse;
+use reader::Reader;
+use reader::Stop;
+use std::num::wrapping_add_u64;
+use unsynch::Put;
+use unsynch::resync_into;
+use walk::passing::Met;
+use walk::passing::pass_at;
+use walk::passing::read_as;
+use walk::record::source;
+ghost use mathlib.Core.Path.{_≡_};
+ghost use mathlib.Core.Bool.{false};
+ghost use Prim.Native.Nat.{ℕ, _≤_, min};
+ghost use lib.Seq.{slice};
+ghost use Rattle.format.specs.Unsynch.{resynchronised};
+ghost use Rattle.format.specs.Frame.{headLen};
+ghost use Rattle.walk.specs.Passing.{passIn};
+ghost use Rattle.meter.specs.Meter.{oneMore, nextOf};
+ghost use Rattle.meter.specs.Meets.{flaggedOf, movedAs};
+
+// The smaller of two numbers.
+fn least(a: usize, b: usize) -> usize
+    ensures { λ r. ⌜ r ≡ min a b ⌝ }
+{
+    if a < b { a } else { b }
+}
+
+// One more, or 0 behind the largest.
+fn one_more(n: u64) -> u64
+    ensures { λ r. ⌜ r ≡ oneMore n ⌝ }
+{
+    wrapping_add_u64(n, 1)
+}
+
+// How many bytes a frame's header has.
+fn head_len(version: Version) -> usize
+    ensures { λ r. ⌜ (r ≡ headLen version) × (r ≤ 10) ⌝ }
+{
+    match version {
+        Version::Id3v22 => 6,
+        Version::Id3v23 => 10,
+        Version::Id3v24 => 10,
+    }
+}
+
+// A frame that is passed over, with nothing to mark.
+fn passed(next: usize) -> Met
+    ensures { λ r. ⌜ r ≡ Met.Passed next false false ⌝ }
+{
+    Met::Passed {
+        next,
+        short: false,
+        packed: false,
+    }
+}
+
+// A frame whose body tag[first..next] is resynchronised to the front of the work buffer and then passed over.
+fn flagged(work: &mut [u8], tag: &[u8], first: usize, next: usize) -> Met
+    ensures { λ r. ⌜ (r, now (work .exit)) ≡ flaggedOf (resynchronised (slice first next (now (tag .entry)))) next (now (work .entry)) ⌝ }
+{
+    match resync_into(work, tag, first, next) {
+        Put::Refused(k) => Met::Refused(k),
+        Put::Bytes(_) => passed(next),
+    }
+}
+
+// What stands at a place of the tag's frames or, where in_work says so, of those in the work buffer. They end at `end`.
+fn meet(work: &mut [u8], tag: &[u8], version: Version, in_work: bool, at: usize, end: usize) -> Met
+    ensures { λ r. ⌜ ((begin : ℕ) → (r, now (work .exit)) ≡ passIn version «in_work» begin at end (now (tag .entry)) (now (work .entry))) ⌝ }
+{
+    let s = source(in_work, &work[..], tag);
+    match glance_at(version, s, at, least(end, s.len())) {
+        Glance::Unclear => pass_at(work, tag, version, in_work, at, end),
+        Glance::End => Met::Nothing,
+        Glance::Plain(size) => passed(at + head_len(version) + size),
+        Glance::Flagged(size) => {
+            if in_work {
+                return pass_at(work, tag, version, in_work, at, end);
+            }
+            let first = at + head_len(version);
+            flagged(work, tag, first, first + size)
+        }
+        Glance::Meter(size) => {
+            let first = at + head_len(version);
+            let next = first + size;
+            read_as(parse(s, first, next), next, false, in_work)
+        }
+    }
+}
