@@ -7,6 +7,7 @@ use mathlib.Core.List.{List, [], _∷_}
 use lib.ListN.{length, take, drop}
 use lib.Seq.{slice}
 use lib.Dec.{ltb, eqb}
+use Rattle.lists.proofs.Cuts.{length-cut}
 use Rattle.lists.proofs.Slices.{slice-cut}
 use Rattle.format.specs.Bytes.{pick, putFront}
 use Rattle.format.specs.Unsynch.{resynchronised}
@@ -21,6 +22,7 @@ use Rattle.format.specs.declared.Head.{Head}
 use Rattle.format.specs.declared.Record.{Record}
 use Rattle.format.specs.declared.Shown.{Shown}
 use Rattle.format.proofs.Checks.{of-picked}
+use Rattle.format.proofs.Moves.{Moves, moves}
 use Rattle.frame.specs.declared.body.Parsed.{Parsed}
 use Rattle.frame.specs.Bodies.{parsedOf}
 use Rattle.unsynch.specs.declared.Put.{Put}
@@ -34,7 +36,7 @@ use Rattle.reader.specs.Reader.{answerOf, movedTo, Stepped, runStep, stepOf}
 use Rattle.reader.specs.declared.Stop.{Stop}
 use Rattle.reader.specs.declared.Reader.{Reader}
 use Rattle.reader.specs.declared.Step.{Step}
-use Rattle.reader.proofs.Steps.{gone, running}
+use Rattle.reader.proofs.Steps.{gone, running, ended, failed}
 use Rattle.meter.specs.declared.Meter.{Meter}
 use Rattle.meter.specs.declared.Metered.{Metered}
 use Rattle.meter.specs.declared.Next.{Next}
@@ -235,3 +237,57 @@ next-met m tag work is =
     next-eq m tag work
     ∙ ap (λ (x : Stepped). onStep (λ m′ w. nextOf m′ tag w) m (x .0) (x .1)) (sym step)
     ∙ shown-next (λ m′ w. nextOf m′ tag w) m (o .1) (o .0) (frame-honest (r .version) (r .in_work) (r .begin) (r .at) (r .end) tag work)
+
+-- of a meter that has stopped
+
+module _ (m : Meter) (tag work : List ℕ) where
+  by-step : {o : Stepped} → o ≡ stepOf (m .reader) tag work → onStep (λ m′ w. nextOf m′ tag w) m (o .0) (o .1) ≡ nextOf m tag work
+  by-step e = ap (λ (o : Stepped). onStep (λ m′ w. nextOf m′ tag w) m (o .0) (o .1)) e ∙ sym (next-eq m tag work)
+
+  pub next-ended : m .reader .stop ≡ Stop.Ended → _≡_ {A = Nexted} (Next.End m, work) (nextOf m tag work)
+  next-ended is = by-step (ended (m .reader) tag work is)
+
+  pub next-failed : {k : ℕ} → m .reader .stop ≡ Stop.Failed k → _≡_ {A = Nexted} (Next.Refused k m, work) (nextOf m tag work)
+  next-failed is = by-step (failed (m .reader) tag work is)
+
+-- ---- the loop
+
+-- the meter as the loop has it: what it answers from there on is what the whole answers
+abbrev pub Same : Meter → List ℕ → List ℕ → ℕ → ℕ → Bool → Bool → List ℕ → Type 0
+Same self tag work₀ at frames short compressed work = nextOf (movedAs at frames short compressed Stop.Running self) tag work ≡ nextOf self tag work₀
+
+pub begins : (self : Meter) (tag work : List ℕ) → self .reader .stop ≡ Stop.Running
+    → Same self tag work (self .reader .at) (self .frames) (self .short) (self .compressed) work
+begins self tag work is =
+    ap (λ (x : Stop). nextOf (movedAs (self .reader .at) (self .frames) (self .short) (self .compressed) x self) tag work) (sym is)
+
+module _ (self : Meter) (tag work₀ work left : List ℕ) (at frames : ℕ) (short compressed : Bool) (same : Same self tag work₀ at frames short compressed work) (met : Met)
+    (e : (begin : ℕ) → _≡_ {A = Answer} (met, left) (passIn (self .reader .version) (self .reader .in_work) begin at (self .reader .end) tag work)) where
+  pub goes-on : metNext (λ m w. nextOf m tag w) (movedAs at frames short compressed Stop.Running self) met left ≡ nextOf self tag work₀
+  goes-on =
+      let m : Meter = movedAs at frames short compressed Stop.Running self in
+      ap (λ (o : Answer). metNext (λ m w. nextOf m tag w) m (o .0) (o .1)) (e (self .reader .begin)) ∙ sym (next-met m tag work refl) ∙ same
+
+-- a frame that is passed over leaves fewer bytes
+
+met-next : (v : Version) (rec : Record) (n next : ℕ) (s p : Bool) (fields : Fields) (short : Bool) → rec .heading .short ≡ short → metBy fields v rec n ≡ Met.Passed next s p → n ≡ next
+met-next v rec n next s p (Fields.Text e) short es h = cc
+met-next v rec n next s p (Fields.Popularimeter r c) true es h = let h′ = rw es at h in cc
+met-next v rec n next s p (Fields.Popularimeter r c) false es h = let h′ = rw es at h in absurd (let z : _≡_ {A = ℕ} 0 1 = cc in omega arith)
+met-next v rec n next s p (Fields.Table a b c d e) short es h = cc
+met-next v rec n next s p (Fields.Chapter a b c d) short es h = cc
+met-next v rec n next s p (Fields.Contents a b) short es h = cc
+met-next v rec n next s p Fields.Raw short es h = cc
+
+shown-passed : (v : Version) (shown : Shown) (next : ℕ) (s p : Bool) → metAs v shown ≡ Met.Passed next s p → (rec : Record) × (shown ≡ Shown.Frame rec next)
+shown-passed v Shown.Nothing next s p e = absurd (let z : _≡_ {A = ℕ} 0 1 = cc in omega arith)
+shown-passed v (Shown.Refused k) next s p e = absurd (let z : _≡_ {A = ℕ} 0 1 = cc in omega arith)
+shown-passed v (Shown.Frame rec n) next s p e = (rec, ap (Shown.Frame rec) (met-next v rec n next s p (rec .heading .fields) (rec .heading .short) refl e))
+
+pub passed-less : (v : Version) (w : Bool) (begin at end : ℕ) (tag work : List ℕ) (next : ℕ) (s p : Bool) {left : List ℕ}
+    → _≡_ {A = Answer} (Met.Passed next s p, left) (passIn v w begin at end tag work) → end - next < end - at
+unfolding passIn frameIn
+passed-less v w begin at end tag work next s p e =
+    let f = shown-passed v _ next s p (sym (ap (λ (o : Answer). o .0) e)) in
+    let m = moves v w begin at (slice at end (sourceOf w work tag)) _ (f .1) in
+    omega (arith, m .six, m .within, length-cut at end (sourceOf w work tag))

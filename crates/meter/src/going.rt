@@ -94,3 +94,101 @@ fn meet(work: &mut [u8], tag: &[u8], version: Version, in_work: bool, at: usize,
         }
     }
 }
+
+impl Meter {
+    // The same meter at a place, with its marks.
+    fn moved(self, at: usize, frames: u64, short: bool, compressed: bool, stop: Stop) -> Meter
+        ensures { λ r. ⌜ r ≡ movedAs at frames short compressed stop self ⌝ }
+    {
+        let r = self.reader;
+        let version = r.version;
+        let reader = Reader {
+            version,
+            in_work: r.in_work,
+            begin: r.begin,
+            at,
+            end: r.end,
+            stop,
+        };
+        Meter {
+            reader,
+            frames,
+            short,
+            compressed,
+            missing: self.missing,
+        }
+    }
+
+    // Goes on from the place of a meter that runs.
+    fn run(self, work: &mut [u8], tag: &[u8]) -> Next
+        requires { ⌜ self .reader .stop ≡ Stop.Running ⌝ }
+        ensures { λ r. ⌜ (r, now (work .exit)) ≡ nextOf self (now (tag .entry)) (now (work .entry)) ⌝ }
+    {
+        let r = self.reader;
+        let version = r.version;
+        let mut at = r.at;
+        let mut frames = self.frames;
+        let mut short = self.short;
+        let mut compressed = self.compressed;
+        loop {
+            match meet(work, tag, version, r.in_work, at, r.end) {
+                Met::Nothing => return Next::End(self.moved(
+                    at,
+                    frames,
+                    short,
+                    compressed,
+                    Stop::Ended,
+                )),
+                Met::Refused(k) => {
+                    return Next::Refused(
+                        k,
+                        self.moved(at, frames, short, compressed, Stop::Failed(k)),
+                    );
+                }
+                Met::Passed {
+                    next,
+                    short: cut,
+                    packed,
+                } => {
+                    at = next;
+                    frames = one_more(frames);
+                    short = short | cut;
+                    compressed = compressed | packed;
+                }
+                Met::Popularimeter {
+                    next,
+                    in_work,
+                    user,
+                    rating,
+                    counter,
+                } => {
+                    let found = Metered {
+                        in_work,
+                        user,
+                        rating,
+                        counter,
+                        frame: frames,
+                    };
+                    return Next::Found(
+                        found,
+                        self.moved(next, one_more(frames), short, compressed, Stop::Running),
+                    );
+                }
+            }
+        }
+    }
+
+    // Goes on to the next whole popularimeter of the top level: it, the end or a refusal, with the moved meter. What
+    // stops a reader stops the meter, and it stays stopped.
+    pub fn next(self, work: &mut [u8], tag: &[u8]) -> Next
+        ensures { λ r. ⌜ (r, now (work .exit)) ≡ nextOf self (now (tag .entry)) (now (work .entry)) ⌝ }
+    {
+        let r = self.reader;
+        let stop = r.stop;
+        match stop {
+            Stop::Running => self.run(work, tag),
+            Stop::Ended => Next::End(self),
+            Stop::Failed(k) => Next::Refused(k, self),
+        }
+    }
+}
