@@ -2,3 +2,4 @@
 pub mod Nexts
 mod Glances
 mod Meets
+mod Openings

@@ -3,3 +3,4 @@ pub mod Meter
 pub mod Answers
 pub mod Glances
 pub mod Meets
+pub mod Openings

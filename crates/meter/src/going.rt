@@ -26,7 +26,7 @@ ghost use Rattle.meter.specs.Meter.{oneMore, nextOf};
 ghost use Rattle.meter.specs.Meets.{flaggedOf, movedAs};
 
 // The smaller of two numbers.
-fn least(a: usize, b: usize) -> usize
+pub(crate) fn least(a: usize, b: usize) -> usize
     ensures { λ r. ⌜ r ≡ min a b ⌝ }
 {
     if a < b { a } else { b }

@@ -1,6 +1,7 @@
 // The meter: what reads a tag's counters and nothing else. What its answers mean stands in specs/.
 mod glance;
 mod going;
+pub mod opening;
 
 use format::Span;
 use reader::Reader;
