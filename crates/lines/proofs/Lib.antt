@@ -1,5 +1,5 @@
--- What the proofs of several functions use.
+-- What the proofs of several functions use; how long lines are, for the crates above.
 mod Puts
 mod Numbers
-mod Parts
+pub mod Parts
 mod Lines

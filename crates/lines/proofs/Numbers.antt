@@ -36,17 +36,31 @@ more-digits n h f =
     ap (λ (l : List ℕ). l ++ ((48 + n % 10) ∷ [])) (sym (enough 18 (n / 10) (omega arith)))
     ∙ sym (ap (λ (b : Bool). pick b [] (decimalIn 19 (n / 10)) ++ ((48 + n % 10) ∷ [])) (le-ltb n 10 h))
 
+one-more : (b : Bool) (l : List ℕ) (x k : ℕ) → length l ≤ k → length (pick b [] l ++ (x ∷ [])) ≤ suc k
+one-more true l x k h = omega arith
+one-more false l x k h = omega (arith, length-append l (x ∷ []))
+
 at-most : (k n : ℕ) → length (decimalIn k n) ≤ k
 unfolding decimalIn
 at-most zero n = omega arith
-at-most (suc k) n = one-more (ltb n 10) (at-most k (n / 10))
-  where
-    one-more : (b : Bool) → length (decimalIn k (n / 10)) ≤ k → length (pick b [] (decimalIn k (n / 10)) ++ ((48 + n % 10) ∷ [])) ≤ suc k
-    one-more true h = omega arith
-    one-more false h = omega (arith, length-append (decimalIn k (n / 10)) ((48 + n % 10) ∷ []))
+at-most (suc k) n = one-more (ltb n 10) (decimalIn k (n / 10)) (48 + n % 10) k (at-most k (n / 10))
+
+-- a number below the power of ten has no more digits
+below-power : (k j n : ℕ) → n < 10 ^ suc k → length (decimalIn j n) ≤ suc k
+unfolding decimalIn
+below-power k zero n h = omega arith
+below-power zero (suc j) n h =
+    let small : n < 10 = h in
+    rw (lt-ltb n 10 small) (omega arith)
+below-power (suc k) (suc j) n h =
+    let fewer : n / 10 < 10 ^ suc k = div-lt-iff-lt-mul (let p : 0 < 10 = omega arith in p) .1 (omega (arith, pow-suc 10 (suc k))) in
+    one-more (ltb n 10) (decimalIn j (n / 10)) (48 + n % 10) (suc k) (below-power k j (n / 10) fewer)
 
 pub twenty : (n : ℕ) → length (decimal n) ≤ 20
 twenty n = at-most 20 n
+
+pub five : (n : ℕ) → n < 100000 → length (decimal n) ≤ 5
+five n h = below-power 4 20 n h
 
 -- ---- hexadecimal
 

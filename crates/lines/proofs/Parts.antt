@@ -2,7 +2,7 @@
 use mathlib.Core.Path.{_≡_, refl}
 use mathlib.Core.Bool.{Bool, true, false}
 use mathlib.Core.List.{List, [], _∷_}
-use Prim.Native.Nat.{ℕ, _+_, _*_, _≤_}
+use Prim.Native.Nat.{ℕ, _+_, _*_, _≤_, _<_}
 use native.Mathlib.Omega.{arith}
 use lib.ListN.{length, length-append}
 use denote.Enum.Declared.{tagOf}
@@ -12,12 +12,12 @@ use Rattle.format.specs.declared.Version.the-variants.{Id3v22, Id3v23, Id3v24}
 use Rattle.format.specs.declared.Fields.{Fields}
 use Rattle.format.specs.Ids.{idLen}
 use Rattle.format.specs.Numbers.{bytesOf}
-use Rattle.format.specs.Listing.{wordKind, wordShort, detail, tagLine, frameLine}
+use Rattle.format.specs.Listing.{wordKind, wordShort, detail, tagLine, frameLine, endLine, refusedLine}
 use Rattle.format.proofs.Version as version
 use Rattle.format.proofs.Fields as fields
 use Rattle.format.proofs.Numbers.{length-digits}
 use Rattle.lines.specs.Placed.{shown, counted}
-use Rattle.lines.proofs.Numbers.{twenty, hex-length}
+use Rattle.lines.proofs.Numbers.{twenty, five, hex-length}
 
 -- ---- what is not of one kind
 
@@ -61,7 +61,7 @@ id-length Id3v22 n = omega (arith, length-digits 256 3 n)
 id-length Id3v23 n = omega (arith, length-digits 256 4 n)
 id-length Id3v24 n = omega (arith, length-digits 256 4 n)
 
-pub tag-length : (edition size flags ext : ℕ) → length (tagLine edition size flags ext) ≤ 200
+pub tag-length : (edition size flags ext : ℕ) → length (tagLine edition size flags ext) ≤ 105
 unfolding tagLine
 tag-length edition size flags ext = simp length-append (omega (arith, twenty edition, twenty size, twenty flags, twenty ext))
 
@@ -74,3 +74,37 @@ frame-length n v id at body short f u =
 
 pub counted-length : (word : List ℕ) (n : ℕ) → length (counted word n) ≤ length word + 21
 counted-length word n = simp length-append (omega (arith, twenty n))
+
+-- ---- how long the lines of a tag are for its bytes
+
+pub end-length : (n : ℕ) → length (endLine n) ≤ 29
+unfolding endLine
+end-length n = simp length-append (omega (arith, twenty n))
+
+pub refused-length : (k : ℕ) → length (refusedLine k) ≤ 29
+unfolding refusedLine
+refused-length k = simp length-append (omega (arith, twenty k))
+
+-- how many bytes a body with a user of n bytes has at least: a popularimeter has a zero and a rating behind it
+abbrev pub bodyLeast : Fields → ℕ → ℕ
+bodyLeast (Fields.Text e) n = 0
+bodyLeast (Fields.Popularimeter r c) n = n + 2
+bodyLeast (Fields.Table f b m v w) n = 0
+bodyLeast (Fields.Chapter a b c d) n = 0
+bodyLeast (Fields.Contents t o) n = 0
+bodyLeast Fields.Raw n = 0
+
+kind-room : (f : Fields) (u : List ℕ) → length (wordKind f) + length (detail f u) ≤ 53 + 16 * bodyLeast f (length u)
+kind-room (Fields.Text e) u = omega arith
+kind-room (Fields.Popularimeter r c) u = omega (arith, detail-length (Fields.Popularimeter r c) u)
+kind-room (Fields.Table f b m v w) u = omega arith
+kind-room (Fields.Chapter a b c d) u = omega arith
+kind-room (Fields.Contents t o) u = omega arith
+kind-room Fields.Raw u = omega arith
+
+-- where its numbers have at most five digits, a frame's line has at most 16 bytes for each that the frame has
+pub frame-room : (n : ℕ) (v : Version) (id at body : ℕ) (short : Bool) (f : Fields) (u : List ℕ) → n < 100000 → at < 100000 → body < 100000
+    → length (frameLine n (bytesOf (idLen v) id) at body short f u) ≤ 16 * (6 + bodyLeast f (length u))
+unfolding frameLine
+frame-room n v id at body short f u h i j =
+    simp length-append (omega (arith, five n h, id-length v id, five at i, five body j, kind-room f u, short-length short))

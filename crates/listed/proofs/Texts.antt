@@ -7,7 +7,7 @@ use mathlib.Core.List.{List, [], _∷_, _++_}
 use lib.ListN.{length, length-append}
 use lib.Seq.{sets, length-sets}
 use lib.Dec.{leb}
-use borrow.Author.Tests.{leb-true}
+use borrow.Author.Tests.{leb-true, le-leb}
 use Rattle.lists.proofs.Stores.{sets-append}
 use Rattle.format.specs.Bytes.{pick}
 use Rattle.lines.specs.Placed.{placedOf}
@@ -77,3 +77,18 @@ pub lines-within : (ls : List Line) (work out : List ℕ) {x : Placed} {w o : Li
     → x ≡ Placed.Upto q → q ≤ length o
 lines-within ls work out {w = w} {o = o} e is =
     holds ls 0 work out (sym e ∙ ap {B = Outcome} (λ (p : Placed). (p, (w, o))) is) .within (omega arith)
+
+-- ---- where the whole text has room, every line is put
+
+pub all-put : (ls : List Line) (at : ℕ) (work out : List ℕ) → at + length (textOf ls) ≤ length out
+    → putLines ls at work out .0 ≡ Placed.Upto (at + length (textOf ls))
+unfolding putLines textOf placedOf
+all-put [] at work out h =
+    let same : at ≡ at + 0 = omega arith in
+    ap Placed.Upto same
+all-put (l ∷ ls) at work out h =
+    let t : List ℕ = l .text in
+    let long : length (t ++ textOf ls) ≡ length t + length (textOf ls) = length-append t (textOf ls) in
+    let fits : leb (at + length t) (length out) ≡ true = le-leb (at + length t) (length out) (omega arith) in
+    let behind : at + length t + length (textOf ls) ≡ at + length (t ++ textOf ls) = omega arith in
+    rw (fits, ← behind) (all-put ls (at + length t) (l .work) (sets out at t) (omega (arith, length-sets out at t)))

@@ -58,7 +58,7 @@ unfoldable pub frameLines : ℕ → List ℕ → Reader → ℕ → List ℕ →
 frameLines zero tag r n work = []
 frameLines (suc f) tag r n work = onStep (frameLines f tag) n tag (stepOf r tag work .0) (stepOf r tag work .1)
 
--- as many steps as the tag has bytes are enough (`finishes` of the promises)
+-- as many steps as the tag has bytes are enough (`LastLine`, crates/room)
 abbrev pub onOpen : List ℕ → Opened → List ℕ → List Line
 onOpen tag (Opened.Ready r) work = frameLines (length tag) tag r 0 work
 onOpen tag (Opened.Refused k) work = line (refusedLine k) work ∷ []
@@ -80,3 +80,12 @@ linesOf tag work = onHeader (headerOf tag) tag work
 unfoldable pub textOf : List Line → List ℕ
 textOf [] = []
 textOf (l ∷ ls) = l .text ++ textOf ls
+
+-- ---- the program
+
+-- how many bytes of a tag the listing program takes, and how many it lends for the text, which are enough (`Room`, crates/room)
+abbrev pub inputRoom : ℕ
+inputRoom = 65536
+
+abbrev pub textRoom : ℕ
+textRoom = 1048576

@@ -9,7 +9,7 @@ use lines::refused_line;
 use listed::list;
 ghost use mathlib.Core.Path.{_≡_};
 ghost use lib.ListN.{length, replicate};
-ghost use Rattle.listed.specs.Lines.{linesOf};
+ghost use Rattle.listed.specs.Lines.{linesOf, textRoom};
 ghost use Rattle.listed.specs.Turns.{putLines};
 
 // Writes the line of a refusal.
@@ -38,9 +38,9 @@ fn is_more() -> bool {
     io::read_full(STDIN_FILENO, &mut next) == 1
 }
 
-// A megabyte of zeros: room for the text of any tag of 65,536 bytes, whose lines have at most ten bytes for each of a frame's.
+// A megabyte of zeros: room for the text of any tag of 65,536 bytes (`Room`, crates/room).
 pub fn room_for_text() -> [u8; 1_048_576]
-    ensures { λ r. ⌜ (r ≡ replicate 1048576 0) × (1048576 ≡ length r) ⌝ }
+    ensures { λ r. ⌜ (r ≡ replicate textRoom 0) × (textRoom ≡ length r) ⌝ }
 {
     [0; 1_048_576]
 }

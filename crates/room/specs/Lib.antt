@@ -1,0 +1,2 @@
+-- What is promised of listings.
+pub mod Listings
