@@ -1,6 +1,6 @@
 -- The answers of the functions that read a body, a law for each case. Assumes nothing.
 use mathlib.Core.Path.{_≡_, refl, ap}
-use Prim.Native.Nat.{ℕ, suc, _+_, _-_, _/_, _%_, _<_, _≤_}
+use Prim.Native.Nat.{ℕ, suc, _+_, _-_, _/_, _%_, _<_, _≤_, min}
 use native.Mathlib.Nat.{div-one}
 use native.Mathlib.Omega.{arith}
 use mathlib.Core.Bool.{true, false}
@@ -10,6 +10,7 @@ use lib.Seq.{slice, take-all, take-length}
 use lib.Dec.{eqb, leb}
 use borrow.Author.Tests.{eq-eqb, ne-eqb, le-leb, lt-leb, lt-ltb, le-ltb}
 use Rattle.lists.proofs.Cuts.{length-cut}
+use Rattle.lists.proofs.Slices.{slice-drop, slice-cut}
 use Rattle.format.specs.Bytes.{first, span, zeroAt, zerosIn}
 use Rattle.format.specs.Numbers.{number}
 use Rattle.format.specs.Text.{textEnd}
@@ -62,6 +63,14 @@ text-parts v at b n none e f = rw (e, f, take-length)
 
 -- ---- popularimeters
 
+-- the counter where it lies in the buffer
+pub counter-lies : (from to len : ℕ) (s b : List ℕ) → b ≡ slice from to s → len + 1 < length b
+    → slice (from + len + 2) (from + length b) s ≡ drop (len + 2) b
+counter-lies from to len s b same h =
+    let begin : from + len + 2 ≡ from + (len + 2) = omega arith in
+    let end : from + length b ≡ min to (length s) = omega (arith, ap length same, length-cut from to s) in
+    rw (begin, slice-drop from (len + 2) (from + length b) s, slice-cut from to (from + length b) s end, same)
+
 module _ (b : List ℕ) (len : ℕ) (zero : len ≡ zeroAt b) where
   pub popularimeter-cut : length b ≤ len + 1 → bodyRefusal Kind.Popularimeter b ≡ 11
   unfolding bodyRefusal
@@ -71,10 +80,10 @@ module _ (b : List ℕ) (len : ℕ) (zero : len ≡ zeroAt b) where
   unfolding bodyRefusal
   popularimeter-whole h = rw (← zero, lt-ltb (len + 1) (length b) h)
 
-  pub popularimeter-parts : (v : Version) (at counter : ℕ) (none : Span) → counter ≡ number (take 8 (slice (len + 2) (length b) b)) → none ≡ nowhere
+  pub popularimeter-parts : (v : Version) (at counter : ℕ) (none : Span) → counter ≡ number (take 8 (drop (len + 2) b)) → none ≡ nowhere
       → record { fields = Fields.Popularimeter (getD b (len + 1) 0) counter; name = span at len; names = none; rest = none } ≡ partsOf v Kind.Popularimeter at b
   unfolding partsOf
-  popularimeter-parts v at counter none e f = rw (← zero, e, f, take-length)
+  popularimeter-parts v at counter none e f = rw (← zero, e, f)
 
 -- ---- lookup tables
 

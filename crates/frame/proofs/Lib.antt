@@ -3,7 +3,6 @@ pub mod Headers
 mod Utf8
 mod Ends
 mod Children
-mod Onto
 mod Widths
 mod Packed
 mod Counts

@@ -4,7 +4,7 @@ use Prim.Native.Nat.{ℕ, zero, suc, _+_, _-_, _*_, _/_, _%_, _^_, _≤_, _<_}
 use native.Mathlib.Nat.{zero-mul, suc-mul, mod-eq-of-lt, lt-of-lt-of-le}
 use native.Mathlib.Numerals.{add-one}
 use native.Mathlib.Omega.{arith}
-use mathlib.Core.List.{List, [], _∷_, _++_}
+use mathlib.Core.List.{List, [], _∷_}
 use lib.Bits.{bitAnd, and-mask, mask-lt}
 use lib.Pow.{pow-pos, pow-mono, shl-exact}
 use lib.ListN.{length, take, drop, getD, length-take, length-drop, length-append, take-append-drop}
@@ -13,22 +13,9 @@ use Rattle.lists.proofs.Parts.{each-take, each-drop}
 use Rattle.lists.proofs.Cuts.{take-drop, cut-of-take, length-cut}
 use Rattle.format.specs.Numbers.{digits, onto, number}
 use Rattle.format.specs.Table.{spread, gathered}
-use Rattle.format.proofs.Numbers.{Digits, length-digits, onto-digits, onto-above, digits-onto}
+use Rattle.format.proofs.Numbers.{Digits, length-digits, onto-digits, onto-above}
 use Rattle.format.proofs.Table.{spread-bits}
-
--- ---- digits one after the other
-
-pub onto-append : (base a : ℕ) (s t : List ℕ) → onto base a (s ++ t) ≡ onto base (onto base a s) t
-unfolding onto
-onto-append base a [] t = refl
-onto-append base a (x ∷ s) t = onto-append base (a * base + x) s t
-
--- digits behind others, by themselves
-onto-low : (base : ℕ) → 0 < base → (a : ℕ) (s : List ℕ) → Digits base s → onto base a s % base ^ length s ≡ onto base 0 s
-onto-low base pos a s d =
-    let z : 0 * base ^ length s ≡ 0 = zero-mul (base ^ length s) in
-    let e = onto-digits base pos 0 (length s) (onto base a s) in
-    omega (arith, z, e) ∙ ap (onto base 0) (digits-onto base pos a s d)
+use Rattle.loads.proofs.Onto.{onto-append, onto-low}
 
 -- ---- bytes as bits
 

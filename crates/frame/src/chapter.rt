@@ -1,6 +1,5 @@
 // Bodies of chapters and of tables of contents.
 use crate::body::Parsed;
-use crate::numbers::read32;
 use crate::parts::nowhere;
 use crate::parts::part;
 use crate::parts::zero_at;
@@ -8,6 +7,7 @@ use format::Fields;
 use format::Parts;
 use format::Span;
 use format::refusals::MISSING_FIELD;
+use loads::read32;
 ghost use mathlib.Core.Path.{_≡_};
 ghost use lib.ListN.{take, drop};
 ghost use lib.Seq.{slice};
@@ -26,7 +26,7 @@ enum Names {
 fn time(b: &[u8], at: usize) -> u32
     ensures { λ r. ⌜ r ≡ number (take 4 (drop at (now (b .entry)))) ⌝ }
 {
-    read32(b, at, b.len())
+    read32(b, at)
 }
 
 // The first names that s holds, as many as there are to be.

@@ -1,6 +1,5 @@
 // Popularimeter bodies: user, zero, rating, counter.
 use crate::body::Parsed;
-use crate::numbers::read64;
 use crate::parts::nowhere;
 use crate::parts::part;
 use crate::parts::zero_at;
@@ -8,6 +7,7 @@ use format::Fields;
 use format::Parts;
 use format::Span;
 use format::refusals::MISSING_FIELD;
+use loads::read64;
 ghost use mathlib.Core.Path.{_≡_};
 ghost use lib.Seq.{slice};
 ghost use Rattle.format.specs.declared.Version.{Version};
@@ -24,7 +24,7 @@ pub fn parse(s: &[u8], from: usize, to: usize) -> Parsed
         return Parsed::Refused(MISSING_FIELD);
     }
     let rating = b[len + 1];
-    let counter = read64(b, len + 2, b.len());
+    let counter = read64(s, from + len + 2, from + b.len());
     let none = nowhere();
     Parsed::Parts(Parts {
         fields: Fields::Popularimeter { rating, counter },

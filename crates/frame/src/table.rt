@@ -2,7 +2,6 @@
 use crate::body::Parsed;
 use crate::numbers::read16;
 use crate::numbers::read32;
-use crate::numbers::read64;
 use crate::parts::nowhere;
 use crate::parts::part;
 use format::Fields;
@@ -12,6 +11,7 @@ use format::refusals::MISSING_FIELD;
 use format::refusals::NO_ROOM;
 use format::refusals::WIDTHS_NOT_IN_FOURS;
 use format::refusals::WRONG_WIDTH;
+use loads::read64;
 ghost use mathlib.Core.Path.{_≡_};
 ghost use mathlib.Core.Bool.{_&&_};
 ghost use Prim.Native.Nat.{_+_, _-_, _*_, _/_, _^_, _≤_, _<_, min};

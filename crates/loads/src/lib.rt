@@ -1,10 +1,11 @@
-// Numbers of several bytes, each by one load.
+// Numbers of several bytes, by one load where the bytes around them are there.
 ghost use mathlib.Core.Path.{_≡_};
-ghost use Prim.Native.Nat.{_+_, _*_, _/_, _%_, _≤_, _<_};
-ghost use lib.ListN.{length};
+ghost use mathlib.Core.Bool.{true};
+ghost use Prim.Native.Nat.{_+_, _-_, _*_, _/_, _%_, _^_, _≤_, _<_};
+ghost use lib.ListN.{length, take};
 ghost use lib.Seq.{slice};
 ghost use Rattle.format.specs.Numbers.{number};
-ghost use Rattle.loads.specs.Loads.{Little};
+ghost use Rattle.loads.specs.Loads.{Little, Near};
 
 // A byte as a wider number.
 fn wide(x: u8) -> u32
@@ -72,4 +73,81 @@ pub fn read32(s: &[u8], at: usize) -> u32
         return read_cut(s, at);
     }
     read_whole(s, at)
+}
+
+// A byte as a number of 64 bits.
+fn wide64(x: u8) -> u64
+    ensures { λ r. ⌜ (r ≡ x) × (r < 256) ⌝ }
+{
+    x as u64
+}
+
+// A number of 32 bits as one of 64.
+fn half(x: u32) -> u64
+    ensures { λ r. ⌜ (r ≡ x) × (r < 0x100000000) ⌝ }
+{
+    x as u64
+}
+
+// The number that eight bytes from `at` on make: one load.
+fn read_eight(s: &[u8], at: usize) -> u64
+    requires { ⌜ at + 8 ≤ length (now s) ⌝ }
+    ensures { λ r. ⌜ r ≡ number (slice at (at + 8) (now (s .entry))) ⌝ }
+{
+    half(read_whole(s, at)) * 0x1_0000_0000 + half(read_whole(s, at + 4))
+}
+
+// The number that the last `few` bytes before `to` make: one load of eight.
+fn read_last(s: &[u8], to: usize, few: usize) -> u64
+    requires { ⌜ (8 ≤ to) × (to ≤ length (now s)) × (0 < few) × (few ≤ 8) ⌝ }
+    ensures { λ r. ⌜ r ≡ number (slice (to - few) to (now (s .entry))) ⌝ }
+{
+    let away = 64 - few * 8;
+    (read_eight(s, to - 8) << away) >> away
+}
+
+// The number that the bytes of a part make, of more than `most` bytes the first `most`.
+pub fn read_few(s: &[u8], from: usize, to: usize, most: usize) -> u64
+    requires { ⌜ most ≤ 8 ⌝ }
+    ensures { λ r. ⌜ (r ≡ number (take most (slice from to (now (s .entry))))) × (r < 256 ^ most) ⌝ }
+{
+    let mut n: u64 = 0;
+    let mut left = most;
+    let mut i = from;
+    while i < to {
+        if i >= s.len() {
+            return n;
+        }
+        if left == 0 {
+            return n;
+        }
+        n = n * 256 + wide64(s[i]);
+        left -= 1;
+        i += 1;
+    }
+    n
+}
+
+// Whether a part of a slice of `len` bytes has one to eight bytes, and eight bytes end where it ends.
+fn is_near(len: usize, from: usize, to: usize) -> bool
+    ensures { λ r. ⌜ (r ≡ true → Near len from to) ⌝ }
+{
+    if to <= len {
+        if 8 <= to {
+            if from < to {
+                return to - from <= 8;
+            }
+        }
+    }
+    false
+}
+
+// The number that the bytes of a part make, of more than eight bytes the first eight.
+pub fn read64(s: &[u8], from: usize, to: usize) -> u64
+    ensures { λ r. ⌜ r ≡ number (take 8 (slice from to (now (s .entry)))) ⌝ }
+{
+    if is_near(s.len(), from, to) {
+        return read_last(s, to, to - from);
+    }
+    read_few(s, from, to, 8)
 }

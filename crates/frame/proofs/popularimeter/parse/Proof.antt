@@ -1,9 +1,15 @@
 -- `frame::popularimeter::parse` meets its contract. Assumes nothing.
+use mathlib.Core.Path.{ap, _∙_}
+use Prim.Native.Nat.{ℕ}
 use native.Mathlib.Omega.{arith}
+use mathlib.Core.List.{List}
 use borrow.Author.Needs.{needs}
+use lib.ListN.{take}
+use Rattle.lists.proofs.Cuts.{cut-lies}
+use Rattle.format.specs.Numbers.{number}
 use Rattle.format.specs.declared.Kind.{Kind}
 use Rattle.frame.proofs.Ends.{zero-le}
-use Rattle.frame.proofs.Bodies.{refused, accepted, popularimeter-cut, popularimeter-whole, popularimeter-parts}
+use Rattle.frame.proofs.Bodies.{refused, accepted, counter-lies, popularimeter-cut, popularimeter-whole, popularimeter-parts}
 use Rattle.frame.proofs.popularimeter.parse.Statement.{statement}
 use Rattle.frame.proofs.popularimeter.parse.Tie as tie
 
@@ -30,7 +36,22 @@ shared-slice-read-rating : tie.Need-shared-slice-read-rating
 shared-slice-read-rating c = search needs
 
 add-read64 : tie.Need-add-read64
-add-read64 c = search needs
+add-read64 c =
+    let a = c .before .before .before .before .before .args in
+    let b = c .before .before .before .part in
+    omega (arith, cut-lies (a .from) (a .to) (a .s .now) (b .result .now) (b .ensures) (omega arith))
+
+add-read64-2 : tie.Need-add-read64-2
+add-read64-2 c =
+    let a = c .before .before .before .before .before .args in
+    let b = c .before .before .before .part in
+    omega (arith, cut-lies (a .from) (a .to) (a .s .now) (b .result .now) (b .ensures) (omega arith))
+
+add-read64-3 : tie.Need-add-read64-3
+add-read64-3 c =
+    let a = c .before .before .before .before .before .args in
+    let b = c .before .before .before .part in
+    omega (arith, cut-lies (a .from) (a .to) (a .s .now) (b .result .now) (b .ensures) (omega arith))
 
 read64-requires : tie.Need-read64-requires
 read64-requires c κs = search needs
@@ -44,9 +65,11 @@ returns-2 c v =
     let b = c .before .before .before .before .before .part in
     let z = c .before .before .before .before .zero-at in
     let n = c .before .read64 in
+    let whole = c .before .before .before .if1 .left in
+    let counter = n .ensures ∙ ap (λ (l : List ℕ). number (take 8 l)) (counter-lies (a .from) (a .to) (z .result) (a .s .now) (b .result .now) (b .ensures) whole) in
     accepted v Kind.Popularimeter (a .from) (b .result .now) _ (b .ensures) _
-    (popularimeter-whole (b .result .now) (z .result) (z .ensures) (c .before .before .before .if1 .left))
-    (popularimeter-parts (b .result .now) (z .result) (z .ensures) v (a .from) (n .result) (c .nowhere .result) (n .ensures) (c .nowhere .ensures))
+    (popularimeter-whole (b .result .now) (z .result) (z .ensures) whole)
+    (popularimeter-parts (b .result .now) (z .result) (z .ensures) v (a .from) (n .result) (c .nowhere .result) counter (c .nowhere .ensures))
 
 pub parse-spec : {M : Type 1} → statement M
 parse-spec =
@@ -59,6 +82,8 @@ parse-spec =
     add-rating
     shared-slice-read-rating
     add-read64
+    add-read64-2
+    add-read64-3
     read64-requires
     nowhere-requires
     returns-2)

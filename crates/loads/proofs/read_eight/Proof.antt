@@ -1,0 +1,50 @@
+-- `loads::read_eight` meets its contract. Assumes nothing.
+use mathlib.Core.Path.{ap₂, _∙_}
+use Prim.Native.Nat.{ℕ, _+_, _*_}
+use native.Mathlib.Omega.{arith}
+use borrow.Author.Needs.{needs}
+use Rattle.loads.proofs.Onto.{number-in-two}
+use Rattle.loads.proofs.read_eight.Statement.{statement}
+use Rattle.loads.proofs.read_eight.Tie as tie
+
+read-whole-requires : tie.Need-read-whole-requires
+read-whole-requires c κs = search needs
+
+half-requires : tie.Need-half-requires
+half-requires c κs = search needs
+
+mul-result : tie.Need-mul-result
+mul-result c = search needs
+
+add-read-whole : tie.Need-add-read-whole
+add-read-whole c = search needs
+
+read-whole-requires-2 : tie.Need-read-whole-requires-2
+read-whole-requires-2 c κs = search needs
+
+half-requires-2 : tie.Need-half-requires-2
+half-requires-2 c κs = search needs
+
+add-result : tie.Need-add-result
+add-result c = search needs
+
+returns : tie.Need-returns
+returns c =
+    let start = c .before .before .before .before .before in
+    ap₂ (λ (x y : ℕ). x * 0x100000000 + y)
+    (c .before .before .half .ensures .0 ∙ c .before .before .before .read-whole .ensures)
+    (c .half2 .ensures .0 ∙ c .before .read-whole2 .ensures)
+    ∙ number-in-two (start .args .at) 4 4 (start .args .s .now) (omega arith)
+
+pub read-eight-spec : {M : Type 1} → statement M
+read-eight-spec =
+    tie.close
+    (tie.spec
+    read-whole-requires
+    half-requires
+    mul-result
+    add-read-whole
+    read-whole-requires-2
+    half-requires-2
+    add-result
+    returns)
