@@ -1,7 +1,7 @@
 // Numbers of several bytes, by one load where the bytes around them are there.
 ghost use mathlib.Core.Path.{_≡_};
 ghost use mathlib.Core.Bool.{true};
-ghost use Prim.Native.Nat.{_+_, _-_, _*_, _/_, _%_, _^_, _≤_, _<_};
+ghost use Prim.Native.Nat.{_+_, _-_, _*_, _/_, _%_, _^_, _≤_, _<_, min};
 ghost use lib.ListN.{length, take};
 ghost use lib.Seq.{slice};
 ghost use Rattle.format.specs.Numbers.{number};
@@ -107,7 +107,7 @@ fn read_last(s: &[u8], to: usize, few: usize) -> u64
 }
 
 // The number that the bytes of a part make, of more than `most` bytes the first `most`.
-pub fn read_few(s: &[u8], from: usize, to: usize, most: usize) -> u64
+fn read_some(s: &[u8], from: usize, to: usize, most: usize) -> u64
     requires { ⌜ most ≤ 8 ⌝ }
     ensures { λ r. ⌜ (r ≡ number (take most (slice from to (now (s .entry))))) × (r < 256 ^ most) ⌝ }
 {
@@ -126,6 +126,20 @@ pub fn read_few(s: &[u8], from: usize, to: usize, most: usize) -> u64
         i += 1;
     }
     n
+}
+
+// No more than eight.
+fn up_to_eight(n: usize) -> usize
+    ensures { λ r. ⌜ (r ≡ min n 8) × (r ≤ 8) ⌝ }
+{
+    if n < 8 { n } else { 8 }
+}
+
+// The same, of more than eight bytes the first eight.
+pub fn read_few(s: &[u8], from: usize, to: usize, most: usize) -> u64
+    ensures { λ r. ⌜ (r ≡ number (take (min most 8) (slice from to (now (s .entry))))) × (r < 256 ^ min most 8) ⌝ }
+{
+    read_some(s, from, to, up_to_eight(most))
 }
 
 // Whether a part of a slice of `len` bytes has one to eight bytes, and eight bytes end where it ends.
@@ -149,5 +163,5 @@ pub fn read64(s: &[u8], from: usize, to: usize) -> u64
     if is_near(s.len(), from, to) {
         return read_last(s, to, to - from);
     }
-    read_few(s, from, to, 8)
+    read_some(s, from, to, 8)
 }

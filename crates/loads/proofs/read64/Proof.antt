@@ -23,8 +23,8 @@ returns c =
     let near = c .before .before .is-near .ensures (c .before .if1 .taken) in
     c .read-last .ensures ∙ all-read 8 (a .from) (a .to) (a .s .now) (omega arith) (near .within) (near .few)
 
-read-few-requires : tie.Need-read-few-requires
-read-few-requires c κs = search needs
+read-some-requires : tie.Need-read-some-requires
+read-some-requires c κs = search needs
 
 returns-2 : tie.Need-returns-2
 returns-2 c = search needs
@@ -37,5 +37,5 @@ read64-spec =
     sub-read-last
     read-last-requires
     returns
-    read-few-requires
+    read-some-requires
     returns-2)

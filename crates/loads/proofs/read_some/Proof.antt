@@ -1,0 +1,99 @@
+-- `loads::read_some` meets its contract: what the rest gives behind n is what the whole gives. Assumes nothing.
+use mathlib.Core.Path.{_≡_, refl, sym, ap, _∙_}
+use Prim.Native.Nat.{ℕ, _+_, _-_, _*_, _^_, _≤_, _<_}
+use native.Mathlib.Nat.{one-le-pow}
+use native.Mathlib.Omega.{arith}
+use borrow.Author.Needs.{needs}
+use lib.ListN.{take}
+use lib.Seq.{slice}
+use Rattle.format.specs.Numbers.{onto, number}
+use Rattle.loads.proofs.Onto.{onto-next, onto-small, onto-grows, ended}
+use Rattle.loads.proofs.read_some.Statement.{statement}
+use Rattle.loads.proofs.read_some.Tie as tie
+
+abbrev Inv-loop : tie.InvT-loop
+Inv-loop s from to most n₀ left₀ i₀ n left i =
+    (left ≤ most) × (n < 256 ^ (most - left)) × (onto 256 n (take left (slice i to s)) ≡ number (take most (slice from to s)))
+
+abbrev μ-loop : tie.MeasureT-loop
+μ-loop s from to most n₀ left₀ i₀ n left i = to - i
+
+loop-holds : tie.Need-loop-holds Inv-loop μ-loop
+loop-holds c = (omega arith, one-le-pow _ 256 (omega arith), refl)
+
+returns : tie.Need-returns Inv-loop μ-loop
+returns c =
+    let L = c .before .before .loop in
+    let a = c .before .before .before .before .args in
+    ended (a .most) (L .left) (L .i) (a .to) (L .n) (a .s .now) _ (L .inv .1) (L .inv .2) (omega arith)
+
+returns-2 : tie.Need-returns-2 Inv-loop μ-loop
+returns-2 c =
+    let L = c .before .before .before .loop in
+    let a = c .before .before .before .before .before .args in
+    ended (a .most) (L .left) (L .i) (a .to) (L .n) (a .s .now) _ (L .inv .1) (L .inv .2) (omega arith)
+
+mul-n : tie.Need-mul-n Inv-loop μ-loop
+mul-n c =
+    let L = c .before .before .before .loop in
+    let a = c .before .before .before .before .before .args in
+    omega (arith, onto-small (a .most - L .left) (L .n) (omega arith) (L .inv .1))
+
+shared-slice-read-wide64 : tie.Need-shared-slice-read-wide64 Inv-loop μ-loop
+shared-slice-read-wide64 c = search needs
+
+wide64-requires : tie.Need-wide64-requires Inv-loop μ-loop
+wide64-requires c κs = search needs
+
+add-n : tie.Need-add-n Inv-loop μ-loop
+add-n c =
+    let L = c .before .before .before .before .before .loop in
+    let a = c .before .before .before .before .before .before .before .args in
+    omega (arith, onto-small (a .most - L .left) (L .n) (omega arith) (L .inv .1), c .wide64 .ensures .1)
+
+sub-left : tie.Need-sub-left Inv-loop μ-loop
+sub-left c = search needs
+
+add-i : tie.Need-add-i Inv-loop μ-loop
+add-i c = search needs
+
+loop-less : tie.Need-loop-less Inv-loop μ-loop
+loop-less c = search needs
+
+loop-again : tie.Need-loop-again Inv-loop μ-loop
+loop-again c =
+    let L = c .before .before .before .before .before .loop in
+    let a = c .before .before .before .before .before .before .before .args in
+    let s = a .s .now in
+    let one : a .most - (L .left - 1) ≡ a .most - L .left + 1 = omega arith in (
+      omega arith,
+      rw one (onto-grows (a .most - L .left) (L .n) (c .wide64 .result) (L .inv .1) (c .wide64 .ensures .1)),
+      ap (λ (x : ℕ). onto 256 (L .n * 256 + x) (take (L .left - 1) (slice (L .i + 1) (a .to) s))) (c .wide64 .ensures .0)
+          ∙ sym (onto-next (L .left) (L .i) (a .to) (L .n) s (omega arith) (omega arith) (omega arith))
+          ∙ L .inv .2,
+    )
+
+returns-3 : tie.Need-returns-3 Inv-loop μ-loop
+returns-3 c =
+    let L = c .before .loop in
+    let a = c .before .before .before .args in
+    ended (a .most) (L .left) (L .i) (a .to) (L .n) (a .s .now) _ (L .inv .1) (L .inv .2) (omega arith)
+
+pub read-some-spec : {M : Type 1} → statement M
+read-some-spec =
+    tie.close
+    (tie.spec
+    Inv-loop
+    μ-loop
+    loop-holds
+    returns
+    returns-2
+    mul-n
+    shared-slice-read-wide64
+    wide64-requires
+    add-n
+    sub-left
+    add-i
+    loop-less
+    loop-again
+    returns-3)
