@@ -2,6 +2,9 @@
 pub mod Written
 pub mod Reading
 pub mod Promises
+pub mod Altered
+pub mod Rooms
+pub mod Refused
 pub mod Metering
 pub mod Money
 pub mod Samples
