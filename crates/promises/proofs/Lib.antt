@@ -4,8 +4,12 @@ pub mod Adding
 pub mod Opening
 pub mod Stepping
 pub mod RoundTrip
+pub mod Headers
 pub mod NoSync
+pub mod Altered
+pub mod Rooms
 pub mod Bounds
+pub mod Refused
 pub mod Metering
 pub mod Money
 pub mod Samples

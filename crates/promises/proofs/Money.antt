@@ -9,7 +9,6 @@ use lib.Dec.{ltb, eqb}
 use borrow.Author.Tests.{le-ltb, eqb-true, eq-eqb}
 use Rattle.lists.proofs.Bools.{false-not-true, and-true}
 use Rattle.format.specs.Bytes.{pick, putFront}
-use Rattle.format.specs.Numbers.{digits}
 use Rattle.format.specs.Unsynch.{resynchronised}
 use Rattle.format.specs.Header.{editionOf, sizeOf, versionOf, isWhole, headerRefusal, regionStart, regionEnd, regionOf}
 use Rattle.format.specs.Record.{Content, text, popularimeter, table, chapter, contents, raw, Rec}
@@ -17,7 +16,6 @@ use Rattle.format.specs.Encode.{regionBytes, tagOf}
 use Rattle.format.specs.declared.Version.{Version}
 use Rattle.format.specs.declared.Mode.{Mode}
 use Rattle.format.proofs.Checks.{of-picked}
-use Rattle.format.proofs.Numbers.{synchsafe-back}
 use Rattle.format.proofs.Tags.{tag-headed}
 use Rattle.writer.specs.Writer.{modeOf}
 use Rattle.reader.specs.Reader.{readerAt, openWhole, openOf}
@@ -35,6 +33,7 @@ use Rattle.promises.specs.Money.{anyShort, anyPacked, Marked, Last, none
 use Rattle.promises.proofs.Sounds.{Sounds, nothing, also}
 use Rattle.promises.proofs.Adding.{told}
 use Rattle.promises.proofs.RoundTrip.{round-trip}
+use Rattle.promises.proofs.Headers.{size-there}
 use Rattle.promises.proofs.Bounds.{few-frames, finishes}
 use Rattle.promises.proofs.Metering.{framesFrom, from-meters, Stays, stays}
 
@@ -113,10 +112,6 @@ pub meter-stays-ended : MeterStaysEnded
 meter-stays-ended m tag work tag′ work′ n l = again tag′ work′ 0 (nextOf m tag work .0) (stays tag m work) n l
 
 -- ---- a written tag
-
-size-there : (v : Version) (m : Mode) (p : ℕ) (f : List ℕ) → length (regionBytes v m p f) < 2 ^ 28 → sizeOf (tagOf v m p f) ≡ length (regionBytes v m p f)
-unfolding tagOf digits
-size-there v m p f small = synchsafe-back (length (regionBytes v m p f)) small
 
 none-missing : (v : Version) (m : Mode) (p : ℕ) (f : List ℕ) → length (regionBytes v m p f) < 2 ^ 28 → isMissing (tagOf v m p f) ≡ false
 none-missing v m p f small =
