@@ -8,8 +8,9 @@ use lib.Dec.{eqb}
 use Rattle.format.specs.Bytes.{pick, zeros}
 use Rattle.format.specs.Header.{editionOf, versionOf, sizeOf, isWhole, isExtended, headerRefusal}
 use Rattle.format.specs.Frame.{headOf, isEnd}
-use Rattle.format.specs.Record.{Rec, runOf, viewOf}
+use Rattle.format.specs.Record.{Rec, runOf}
 use Rattle.format.specs.Walk.{isResynced, shownKind, frameOf}
+use Rattle.format.specs.Answers.{shownNumber, shownView}
 use Rattle.format.specs.declared.Version.{Version}
 use Rattle.format.specs.declared.Head.{Head}
 use Rattle.format.specs.declared.Shown.{Shown}
@@ -44,10 +45,17 @@ pub data Sight : Type 0 where
   refuses : ℕ → Sight
   shows : Rec → Sight
 
+-- by the number of an answer and its none or one record: neither a refusal nor a record is the end
+abbrev pub noneBy : ℕ → Sight
+noneBy zero = nothing
+noneBy (suc k) = refuses (suc k)
+
+abbrev pub sightBy : ℕ → List Rec → Sight
+sightBy k [] = noneBy k
+sightBy k (r ∷ l) = shows r
+
 abbrev pub sightIn : Shown → List ℕ → List ℕ → Sight
-sightIn Shown.Nothing tag work = nothing
-sightIn (Shown.Refused k) tag work = refuses k
-sightIn (Shown.Frame r next) tag work = shows (viewOf r tag work)
+sightIn o tag work = sightBy (shownNumber o) (shownView o tag work)
 
 -- The frame in front of s, as if s were all that there is, and what the room holds then.
 unfoldable pub sightOf : Version → List ℕ → List ℕ → Sight × List ℕ
