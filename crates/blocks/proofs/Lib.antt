@@ -18,3 +18,5 @@ pub mod Bodies
 pub mod Counters
 pub mod Plain
 pub mod Writes
+pub mod Anywhere
+pub mod Followed
