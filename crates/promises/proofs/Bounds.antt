@@ -32,7 +32,7 @@ use Rattle.promises.specs.Promises.{FewFrames, Finishes, Stays, StaysRef
 -- ---- how many bytes a reader has before it
 
 -- in the work buffer or in the tag
-abbrev aheadIn : Bool → Reader → List ℕ → List ℕ → ℕ
+abbrev pub aheadIn : Bool → Reader → List ℕ → List ℕ → ℕ
 aheadIn inWork r tag work = length (slice (r .at) (r .end) (pick inWork work tag))
 
 abbrev pub ahead : Reader → List ℕ → List ℕ → ℕ
@@ -142,7 +142,7 @@ region-short tag h =
     omega (arith, length-slice (regionStart tag) (regionEnd tag) tag, length-take (10 + sizeOf tag) tag)
 
 -- a reader that was opened has at least ten bytes fewer before it than the tag has
-abbrev Within : List ℕ → Opened × List ℕ → Type 0
+abbrev pub Within : List ℕ → Opened × List ℕ → Type 0
 Within tag o = (r : Reader) → o .0 ≡ Opened.Ready r → ahead r tag (o .1) + 10 ≤ length tag
 
 refused-within : (tag work : List ℕ) (k : ℕ) → Within tag (Opened.Refused k, work)
@@ -158,7 +158,7 @@ whole-within v u tag work h =
     (λ t. refused-within tag work 14)
     (λ t. ready-within tag (putFront u work) (readerAt v true 0 (length u)) (omega (arith, length-slice 0 (length u) (putFront u work))))
 
-open-within : (tag work : List ℕ) → Within tag (openOf tag work)
+pub open-within : (tag work : List ℕ) → Within tag (openOf tag work)
 unfolding openOf
 open-within tag work =
     of-picked (Within tag) (not (eqb (headerRefusal tag) 0))
