@@ -1,6 +1,7 @@
 -- The proofs of the promises.
 pub mod Sounds
 pub mod Adding
+pub mod Calls
 pub mod Opening
 pub mod Stepping
 pub mod RoundTrip
@@ -14,3 +15,4 @@ pub mod Metering
 pub mod Money
 pub mod Samples
 pub mod MoneySamples
+pub mod CallSamples

@@ -1,5 +1,6 @@
 -- The promises, and the sample that shows that they speak of something.
 pub mod Written
+pub mod Calls
 pub mod Reading
 pub mod Promises
 pub mod Altered
