@@ -3,20 +3,21 @@ use mathlib.Core.Path.{_≡_, refl, sym, ap, _∙_, subst}
 use Prim.Native.Nat.{ℕ, zero, suc, _+_}
 use native.Mathlib.Omega.{arith}
 use mathlib.Core.Bool.{Bool, true, false}
-use mathlib.Core.List.{List, []}
+use mathlib.Core.List.{List, [], _++_}
 use lib.ListN.{length, drop}
 use lib.Seq.{slice}
 use Rattle.lists.proofs.Slices.{slice-drop}
 use Rattle.format.specs.Header.{isWhole}
 use Rattle.format.specs.Frame.{headOf}
+use Rattle.format.specs.Answers.{headNumber}
 use Rattle.format.specs.declared.Version.{Version}
 use Rattle.format.specs.declared.Head.{Head}
-use Rattle.promises.specs.Reading.{Reading, ended, readFrom, readAll}
+use Rattle.promises.specs.Reading.{Reading, ended, refused, readFrom, readAll}
 use Rattle.promises.proofs.Opening.{source}
 use Rattle.promises.proofs.Stepping.{reader}
 use Rattle.blocks.specs.Blocks.{sightOf, joined, Blocks, blocksIn, readBlocks}
-use Rattle.blocks.specs.Promises.{versionIn, TagReads, AnyReads}
-use Rattle.blocks.proofs.Reading.{roomOf, workThen, goOn, first-read, end-read, refused-read, on-sight}
+use Rattle.blocks.specs.Promises.{versionIn, TagReads, AnyReads, StopsAt}
+use Rattle.blocks.proofs.Reading.{roomOf, workThen, goOn, first-read, end-read, refused-read, on-sight, behind-front, blocks-read}
 use Rattle.blocks.proofs.Regions.{source-then, steps-all, tag-read}
 use Rattle.blocks.proofs.Opens.{opened}
 use Rattle.blocks.proofs.CutUp.{any-read, any-tail}
@@ -96,3 +97,28 @@ any-reads tag work o =
           ∙ read
           ∙ ap (readBlocks v bs after) (p .kept)),
     )
+
+head-refused : (x : Head) (k : ℕ) → headNumber x ≡ suc k → x ≡ Head.Refused (suc k)
+head-refused Head.Nothing k e = absurd (omega arith)
+head-refused (Head.Refused j) k e = ap Head.Refused e
+head-refused (Head.Found id c f short start len) k e = absurd (omega arith)
+
+pub stops-at : StopsAt
+stops-at tag work bs rest k o whole is number =
+    let v = versionIn tag in
+    let w = isWhole tag in
+    let p = opened v tag work (o .taken) refl w refl (o .room) in
+    let at = p .begin + length (joined bs) in
+    let lies : slice (p .begin) (p .end) (source w tag (p .left)) ≡ joined bs ++ rest = p .lies ∙ is in
+    let behind : slice at (p .end) (source w tag (p .left)) ≡ rest = behind-front (p .begin) (p .end) (joined bs) rest (source w tag (p .left)) lies in
+    let stops : goOn (suc (length tag)) tag (reader v w (p .begin) at (p .end)) (p .left) ≡ (λ (left : List ℕ). ([], refused (suc k))) =
+    (λ i left.
+    refused-read v (length tag) (p .begin) at (p .end) tag (workThen w (p .left) left) w
+    (ap (λ (s : List ℕ). headOf v 1 (slice at (p .end) s)) (source-then w tag (p .left) left) ∙ ap (headOf v 1) behind ∙ head-refused (headOf v 1 rest) k number)
+    i) in
+    let steps : length tag + (length bs + 1) ≡ length bs + suc (length tag) = omega arith in
+    steps-all v w (p .begin) (p .end) tag work (p .left) (p .opens) (length bs + 1)
+    ∙ ap (λ (n : ℕ). readFrom n tag (reader v w (p .begin) (p .begin) (p .end)) (p .left)) steps
+    ∙ blocks-read v (p .begin) (p .end) tag w (suc (length tag)) (p .begin) rest (p .left) whole lies
+    ∙ ap (λ (g : List ℕ → Reading). readBlocks v bs g (roomOf w (p .left))) stops
+    ∙ ap (readBlocks v bs (λ (left : List ℕ). ([], refused (suc k)))) (p .kept)

@@ -1,17 +1,19 @@
 -- What is promised of any tag by its blocks: where they stand and what follows the tag do not matter (document 01, "Header and walk"). Assumes nothing.
 use mathlib.Core.Path.{_≡_}
-use Prim.Native.Nat.{ℕ, _+_, _≤_}
+use Prim.Native.Nat.{ℕ, suc, _+_, _≤_}
 use mathlib.Core.Bool.{Bool, true}
 use mathlib.Core.List.{List, [], _++_}
 use lib.ListN.{length}
 use Rattle.format.specs.Bytes.{pick}
 use Rattle.format.specs.Header.{editionOf, versionOf, sizeOf, isWhole, headerRefusal, regionOf}
+use Rattle.format.specs.Frame.{headOf}
 use Rattle.format.specs.Record.{Rec}
 use Rattle.format.specs.Walk.{shownBody}
+use Rattle.format.specs.Answers.{headNumber}
 use Rattle.format.specs.declared.Version.{Version}
-use Rattle.promises.specs.Reading.{Reading, ended, readAll}
+use Rattle.promises.specs.Reading.{Reading, ended, refused, readAll}
 use Rattle.promises.specs.Written.{WrittenAs}
-use Rattle.blocks.specs.Blocks.{Blocks, blocksIn, readBlocks, AtMostShort}
+use Rattle.blocks.specs.Blocks.{joined, AllBlocks, Blocks, blocksIn, readBlocks, AtMostShort}
 
 -- ---- any tag whose header is taken
 
@@ -41,6 +43,12 @@ abbrev pub AnyReads : Type 0
 AnyReads = (tag work : List ℕ) → CanOpen tag work
     → (after : List ℕ → Reading) × ((left : List ℕ) → AtMostShort (after left))
     × (readAll tag work ≡ readBlocks (versionIn tag) (blocksIn (versionIn tag) (framesIn tag)) after (roomIn tag work))
+
+-- Blocks, and then a frame that is refused by its header: the blocks' readings, then the refusal with the header's number.
+abbrev pub StopsAt : Type 0
+StopsAt = (tag work : List ℕ) (bs : List (List ℕ)) (rest : List ℕ) (k : ℕ) → CanOpen tag work → AllBlocks (versionIn tag) bs
+    → framesIn tag ≡ joined bs ++ rest → headNumber (headOf (versionIn tag) 1 rest) ≡ suc k
+    → readAll tag work ≡ readBlocks (versionIn tag) bs (λ (left : List ℕ). ([], refused (suc k))) (roomIn tag work)
 
 -- ---- other bytes behind the tag
 
