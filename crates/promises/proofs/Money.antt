@@ -25,14 +25,16 @@ use Rattle.meter.specs.Meter.{isMissing, meterAt, openedAs, meterOpenOf, oneMor
 use Rattle.meter.specs.Answers.{openedMeter, nextNumber, nextMetered, nextMeter}
 use Rattle.meter.specs.declared.Meter.{Meter}
 use Rattle.meter.specs.declared.Next.{Next}
+use Rattle.promises.specs.Written.{keptOf}
 use Rattle.promises.specs.Reading.{Ending, ended, unfinished, Reading, onOpen, readFor, readAll}
 use Rattle.promises.specs.Promises.{NoneShort, none as none-left, also as also-whole, framesOf}
 use Rattle.promises.specs.Metering.{Counted, countedAs, countersFrom, countersOf, Metering, meterAll}
 use Rattle.promises.specs.Metering as metering
-use Rattle.promises.specs.Money.{anyShort, anyPacked, Marked, Last, none, one, MeterReads, MeterFinishes, MeterStays, MeterStaysRefused, MeterStaysEnded, MeterWritten, sameBytes, total, owedAs, owed, SameBytes, OwedRead, OwedWritten}
+use Rattle.promises.specs.Money.{anyShort, anyPacked, Marked, Last, none, one, MeterReads, MeterFinishes, MeterStays, MeterStaysRefused, MeterStaysEnded, MeterWritten, MeterKept, sameBytes, total, owedAs, owed, SameBytes, OwedRead, OwedWritten, OwedKept}
 use Rattle.promises.proofs.Sounds.{Sounds, nothing, also}
-use Rattle.promises.proofs.Adding.{told}
+use Rattle.promises.proofs.Adding.{told-as, all-kept}
 use Rattle.promises.proofs.RoundTrip.{round-trip}
+use Rattle.promises.proofs.Altered.{kept-back}
 use Rattle.promises.proofs.Headers.{size-there}
 use Rattle.promises.proofs.Bounds.{few-frames, finishes}
 use Rattle.promises.proofs.Metering.{framesFrom, from-meters, Stays, stays}
@@ -136,23 +138,24 @@ last-marked : (n : ℕ) (tag work : List ℕ) (x : Opened) (rs : List Rec) (l : 
 last-marked n tag work (Opened.Ready r) rs l e (one {m} marked) = (m, refl, marked)
 last-marked n tag work (Opened.Refused k) rs l e none = absurd (let z : _≡_ {A = ℕ} 0 1 = cc in omega arith)
 
-pub meter-written : MeterWritten
+pub meter-kept : MeterKept
 unfolding readFor meterOpenOf
-meter-written version mode padding records tag work w room =
-    let t = told version mode padding records tag w in
+meter-kept version mode padding altered records tag work w room =
+    let t = told-as version mode altered padding records tag w in
     let v = versionOf version in
     let m = modeOf mode in
-    let f = framesOf v m records in
-    let back = round-trip version mode padding records tag work w room in
+    let kept = keptOf v altered records in
+    let f = framesOf v m kept in
+    let back = kept-back version mode padding altered records tag work w room in
     let reads = meter-reads tag work in
-    let rs : readAll tag work .0 ≡ records = ap (λ (o : Reading). o .0) (back .0) in
+    let rs : readAll tag work .0 ≡ kept = ap (λ (o : Reading). o .0) (back .0) in
     let end : readAll tag work .1 ≡ ended = ap (λ (o : Reading). o .1) (back .0) in
-    let last = last-marked (length tag) tag (openOf tag work .1) (openOf tag work .0) records (meterAll tag work .last) end (rw rs at (reads .2)) in
+    let last = last-marked (length tag) tag (openOf tag work .1) (openOf tag work .0) kept (meterAll tag work .last) end (rw rs at (reads .2)) in
     let marked = last .2 in
     let long : length tag ≡ 10 + length (regionBytes v m padding f) = rw (t .is-tag) (tag-headed v m padding f (t .small) .long) in
-    let few : length records ≤ length tag = omega (arith, few-frames (length tag) tag work, ap length rs) in (
+    let few : length kept ≤ length tag = omega (arith, few-frames (length tag) tag work, ap length rs) in (
       last .0,
-      metering-is (meterAll tag work) (countersOf records) ended (last .0 ∷ []) (reads .0 ∙ ap countersOf rs) (reads .1 ∙ end) (last .1),
+      metering-is (meterAll tag work) (countersOf kept) ended (last .0 ∷ []) (reads .0 ∙ ap countersOf rs) (reads .1 ∙ end) (last .1),
       record {
         short = marked .short ∙ none-short (back .1);
         compressed = marked .compressed ∙ none-packed (versionOf (editionOf tag)) v m (t .sounds);
@@ -160,6 +163,9 @@ meter-written version mode padding records tag work w room =
         frames = omega (arith, marked .frames, t .small);
       },
     )
+
+pub meter-written : MeterWritten
+meter-written version mode padding records tag work w room = rw all-kept at (meter-kept version mode padding false records tag work w room)
 
 -- ---- one user's counters
 
@@ -198,4 +204,9 @@ owed-read user tag work = rw (meter-reads tag work .0) (total-owed user 0 (readA
 pub owed-written : OwedWritten
 owed-written version mode padding records user tag work w room =
     let back = round-trip version mode padding records tag work w room in
+    owed-read user tag work ∙ ap (λ (o : Reading). owed user (o .0)) (back .0)
+
+pub owed-kept : OwedKept
+owed-kept version mode padding altered records user tag work w room =
+    let back = kept-back version mode padding altered records tag work w room in
     owed-read user tag work ∙ ap (λ (o : Reading). owed user (o .0)) (back .0)

@@ -13,7 +13,7 @@ use Rattle.format.specs.declared.Version.{Version}
 use Rattle.meter.specs.Meter.{isMissing, meterOpenOf, isMeterId, Nexted, nextOf}
 use Rattle.meter.specs.Answers.{openedMeter, nextNumber, nextMetered, nextMeter}
 use Rattle.meter.specs.declared.Meter.{Meter}
-use Rattle.promises.specs.Written.{Written}
+use Rattle.promises.specs.Written.{WrittenAs, Written, keptOf}
 use Rattle.promises.specs.Reading.{ended, unfinished, readAll}
 use Rattle.promises.specs.Metering.{Counted, countersOf, meterAll}
 
@@ -84,6 +84,13 @@ MeterWritten = (version mode padding : ℕ) (records : List Rec) (tag work : Lis
     → Written version mode padding records tag → length tag ≤ length work
     → (m : Meter) × (meterAll tag work ≡ record { counted = countersOf records; ending = ended; last = m ∷ [] }) × Clear records m
 
+-- With the altered mark on or off: those of the records that are kept.
+abbrev pub MeterKept : Type 0
+MeterKept = (version mode padding : ℕ) (altered : Bool) (records : List Rec) (tag work : List ℕ)
+    → WrittenAs version mode altered padding records tag → length tag ≤ length work →
+    let kept = keptOf (versionOf version) altered records in
+    (m : Meter) × (meterAll tag work ≡ record { counted = countersOf kept; ending = ended; last = m ∷ [] }) × Clear kept m
+
 -- ---- one user's counters
 
 -- whether two lists are the same bytes
@@ -126,3 +133,8 @@ OwedRead = (user tag work : List ℕ) → total user (meterAll tag work .counted
 abbrev pub OwedWritten : Type 0
 OwedWritten = (version mode padding : ℕ) (records : List Rec) (user tag work : List ℕ)
     → Written version mode padding records tag → length tag ≤ length work → total user (meterAll tag work .counted) ≡ owed user records
+
+abbrev pub OwedKept : Type 0
+OwedKept = (version mode padding : ℕ) (altered : Bool) (records : List Rec) (user tag work : List ℕ)
+    → WrittenAs version mode altered padding records tag → length tag ≤ length work
+    → total user (meterAll tag work .counted) ≡ owed user (keptOf (versionOf version) altered records)
