@@ -16,7 +16,7 @@ use Rattle.format.specs.Encode.{encode, isLost, refusalOf, regionBytes, tagOf}
 use Rattle.format.specs.declared.Version.{Version}
 use Rattle.format.specs.declared.Mode.{Mode}
 use Rattle.format.proofs.Checks.{of-picked}
-use Rattle.format.proofs.Accepted.{Sound, accepted as sound}
+use Rattle.format.proofs.Accepted.{accepted as sound}
 use Rattle.writer.specs.Writer.{modeOf, isKnown, beginOf, grown, Adding, addOf, Finishing, finishOf}
 use Rattle.writer.specs.Answers.{begunWriter, addedNumber, addedWriter, finishedNumber, finishedCount, finishedWriter}
 use Rattle.writer.specs.declared.Writer.{Writer}
@@ -25,7 +25,7 @@ use Rattle.writer.specs.declared.Added.{Added}
 use Rattle.writer.specs.declared.Finished.{Finished}
 use Rattle.promises.specs.Written.{Adds, none, accepted, declined, finished, WrittenAs, Written, keptOf}
 use Rattle.promises.specs.Promises.{framesOf}
-use Rattle.promises.specs.Altered.{AllKept, AddKeeps, FinishKeeps}
+use Rattle.promises.specs.Altered.{AllKept, FinishKeeps}
 use Rattle.promises.proofs.Sounds.{Sounds, nothing, also}
 
 -- ---- one call of add

@@ -1,15 +1,13 @@
 -- Writers with their altered mark on or off: what they keep is read back, and what was begun stays. Assumes nothing.
-use mathlib.Core.Path.{_≡_, refl, sym, ap, _∙_, subst}
-use Prim.Native.Nat.{ℕ, _+_, _≤_}
+use mathlib.Core.Path.{refl, sym, ap, _∙_, subst}
+use Prim.Native.Nat.{_+_, _≤_}
 use native.Mathlib.Omega.{arith}
-use mathlib.Core.Bool.{Bool, not}
-use mathlib.Core.List.{List}
+use mathlib.Core.Bool.{not}
 use lib.ListN.{length, length-replicate}
 use lib.Dec.{ltb, eqb}
 use Rattle.format.specs.Bytes.{zeros}
 use Rattle.format.specs.Unsynch.{NoSync}
 use Rattle.format.specs.Header.{versionOf}
-use Rattle.format.specs.Record.{Rec}
 use Rattle.format.specs.Encode.{encode, isLost, refusalOf}
 use Rattle.format.proofs.Checks.{of-picked}
 use Rattle.writer.specs.Writer.{modeOf, Adding, addOf}

@@ -1,10 +1,10 @@
 -- The wider promises speak of something: a tag of 2.4 in crate mode, its altered mark on, with a finishing and a refused call between the calls of add. Assumes nothing.
 use mathlib.Core.Path.{_≡_, refl}
-use Prim.Native.Nat.{ℕ, _≤_}
+use Prim.Native.Nat.{ℕ}
 use native.Mathlib.Omega.{arith}
 use mathlib.Core.Bool.{true}
 use mathlib.Core.List.{List, [], _∷_, _++_}
-use lib.ListN.{length, take, replicate}
+use lib.ListN.{replicate}
 use Rattle.format.specs.Bytes.{first, named, ascii, among, zeroAt, zerosIn}
 use Rattle.format.specs.Numbers.{digits, onto}
 use Rattle.format.specs.Unsynch.{resync, unsync}
@@ -24,7 +24,7 @@ use Rattle.format.specs.declared.Mode.the-variants.{Crate}
 use Rattle.writer.specs.Writer.{beginOf, addOf, finishOf}
 use Rattle.writer.specs.declared.Writer.{Writer}
 use Rattle.reader.specs.Reader.{openWhole, openOf, stepOf}
-use Rattle.promises.specs.Written.{WrittenAs, keptOf}
+use Rattle.promises.specs.Written.{WrittenAs}
 use Rattle.promises.specs.Reading.{Reading, ended, refused, readFrom, readFor, readAll}
 use Rattle.promises.specs.Calls.{Call, add, finish, Ran, ran}
 use Rattle.promises.specs.Samples.{plain}

@@ -1,11 +1,11 @@
 -- The header of a finished tag, as it is read. Assumes nothing.
-use mathlib.Core.Path.{_≡_, refl, sym, ap, _∙_}
-use Prim.Native.Nat.{ℕ, _+_, _-_, _^_, _<_}
+use mathlib.Core.Path.{_≡_, refl, ap}
+use Prim.Native.Nat.{ℕ, _-_, _^_, _<_}
 use native.Mathlib.Omega.{arith}
-use mathlib.Core.List.{List, [], _∷_}
+use mathlib.Core.List.{List}
 use lib.ListN.{length}
 use Rattle.format.specs.Numbers.{digits}
-use Rattle.format.specs.Header.{editionOf, flagsOf, sizeOf, versionOf, extOf}
+use Rattle.format.specs.Header.{flagsOf, sizeOf, versionOf, extOf}
 use Rattle.format.specs.Encode.{flagsByte, regionBytes, tagOf}
 use Rattle.format.specs.declared.Version.{Version}
 use Rattle.format.specs.declared.Mode.{Mode}
@@ -14,8 +14,6 @@ use Rattle.format.proofs.Numbers.{synchsafe-back}
 use Rattle.format.proofs.Tags.{tag-headed}
 use Rattle.writer.specs.Writer.{modeOf}
 use Rattle.reader.specs.Reader.{headerOf, fieldsOf}
-use Rattle.reader.specs.Answers.{headedNumber, headedFields}
-use Rattle.reader.specs.declared.Header.{Header}
 use Rattle.reader.specs.declared.Headed.{Headed}
 use Rattle.promises.specs.Promises.{framesOf, WrittenHeader}
 use Rattle.promises.proofs.Adding.{told}

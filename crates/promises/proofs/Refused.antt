@@ -1,14 +1,13 @@
 -- What each call returns with a refusal. Assumes nothing.
-use mathlib.Core.Path.{_≡_, refl, sym, _∙_}
+use mathlib.Core.Path.{_≡_, refl, sym}
 use Prim.Native.Nat.{ℕ, suc, _+_, _^_}
 use native.Mathlib.Omega.{arith}
-use mathlib.Core.Bool.{Bool, true, false, not, _||_}
+use mathlib.Core.Bool.{not, _||_}
 use mathlib.Core.List.{List, []}
 use lib.ListN.{length, take}
 use lib.Dec.{leb, ltb, eqb}
 use Rattle.format.specs.Unsynch.{resynchronised}
 use Rattle.format.specs.Header.{isWhole, headerRefusal, regionOf}
-use Rattle.format.specs.Record.{Rec}
 use Rattle.format.specs.Encode.{encode, isLost, refusalOf, regionBytes, tagOf}
 use Rattle.format.proofs.Checks.{of-picked}
 use Rattle.writer.specs.Writer.{isKnown, beginOf, Adding, addOf, Finishing, finishOf}

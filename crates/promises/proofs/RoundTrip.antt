@@ -1,5 +1,5 @@
 -- Demand 3: what was written is read back, so no two lists share a tag. Assumes nothing.
-use mathlib.Core.Path.{_≡_, refl, sym, ap, _∙_}
+use mathlib.Core.Path.{_≡_, sym, ap, _∙_}
 use Prim.Native.Nat.{ℕ, zero, suc, _+_, _^_, _≤_, _<_}
 use native.Mathlib.Omega.{arith}
 use mathlib.Core.Bool.{false}
@@ -19,17 +19,14 @@ use Rattle.format.proofs.Unsynch.{unsync-longer}
 use Rattle.format.proofs.Encoded.{encode-length}
 use Rattle.format.proofs.Tags.{wholeBy, tag-headed}
 use Rattle.writer.specs.Writer.{modeOf}
-use Rattle.reader.specs.Reader.{openOf, stepOf, Stepped}
+use Rattle.reader.specs.Reader.{Stepped}
 use Rattle.reader.specs.declared.Opened.{Opened}
-use Rattle.reader.specs.declared.Reader.{Reader}
-use Rattle.reader.specs.declared.Step.{Step}
-use Rattle.promises.specs.Written.{Written}
-use Rattle.promises.specs.Reading.{ended, Reading, andRecord, onStep, readFrom, onOpen, readFor, readAll}
+use Rattle.promises.specs.Reading.{ended, Reading, onStep, readFrom, onOpen, readFor, readAll}
 use Rattle.promises.specs.Promises.{NoneShort, none, also as short-also, RoundTrip, OneList, framesOf, WrittenTag}
 use Rattle.promises.proofs.Sounds.{Sounds, nothing, also}
-use Rattle.promises.proofs.Adding.{Told, told}
-use Rattle.promises.proofs.Opening.{source, Opening, opened}
-use Rattle.promises.proofs.Stepping.{reader, pads, Back, step-back}
+use Rattle.promises.proofs.Adding.{told}
+use Rattle.promises.proofs.Opening.{source, opened}
+use Rattle.promises.proofs.Stepping.{reader, pads, step-back}
 
 -- ---- the steps
 

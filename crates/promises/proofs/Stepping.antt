@@ -1,17 +1,17 @@
 -- A step over the frame of an accepted record shows that record, and leaves what follows before the reader. Assumes nothing.
-use mathlib.Core.Path.{_≡_, refl, sym, ap, _∙_}
+use mathlib.Core.Path.{_≡_, refl, ap, _∙_}
 use mathlib.Core.Logic.{_⊎_, inl, inr}
 use Prim.Native.Nat.{ℕ, zero, suc, _+_, _-_, _≤_}
 use native.Mathlib.Omega.{arith}
-use mathlib.Core.Bool.{Bool, true, false, _||_, or-true}
-use mathlib.Core.List.{List, [], _∷_, _++_}
+use mathlib.Core.Bool.{Bool, true, false, or-true}
+use mathlib.Core.List.{List, [], _++_}
 use lib.ListN.{length, take, drop, length-append, length-take, length-drop}
 use lib.Seq.{slice, take-append-seam}
 use lib.Dec.{ltb}
 use borrow.Author.Tests.{ltb-false}
 use Rattle.lists.proofs.Bools.{false-not-true}
 use Rattle.lists.proofs.Slices.{slice-drop, in-slice, front-length}
-use Rattle.format.specs.Bytes.{pick, zeros, putFront}
+use Rattle.format.specs.Bytes.{zeros, putFront}
 use Rattle.format.specs.Unsynch.{guards}
 use Rattle.format.specs.Frame.{headLen, headOf}
 use Rattle.format.specs.Record.{Rec, viewOf}
@@ -22,13 +22,12 @@ use Rattle.format.specs.declared.Version.the-variants.{Id3v22, Id3v23, Id3v24}
 use Rattle.format.specs.declared.Mode.{Mode}
 use Rattle.format.specs.declared.Head.{Head}
 use Rattle.format.specs.declared.Record.{Record}
-use Rattle.format.specs.declared.Shown.{Shown}
 use Rattle.format.proofs.Unsynch.{unsync-longer}
 use Rattle.format.proofs.Encoded.{flaggedBy, head-back, body-there, rest-there, encode-length}
 use Rattle.format.proofs.Accepted.{Sound}
 use Rattle.format.proofs.Frames.{plain-stored, flagged-stored, recordAt, seen-back, frame-plain, frame-flagged}
 use Rattle.format.proofs.Tags.{wholeBy}
-use Rattle.reader.specs.Reader.{stoppedAs, movedTo, answerOf, stepOf}
+use Rattle.reader.specs.Reader.{stoppedAs, stepOf}
 use Rattle.reader.specs.declared.Stop.{Stop}
 use Rattle.reader.specs.declared.Reader.{Reader}
 use Rattle.reader.specs.declared.Step.{Step}
