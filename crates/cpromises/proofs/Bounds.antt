@@ -33,10 +33,11 @@ record Bounded (n spare : ℕ) (o : SvReading) (bytes : ℕ) : Type 0 where
 stops-bounded : (n spare bytes k : ℕ) → Bounded n spare ([], suc k) bytes
 stops-bounded n spare bytes k = record { few = omega arith; long = λ z. absurd (omega arith) }
 
--- the words are a record, and what follows it; or they are none
-shown-bounded : (n bytes fewer : ℕ) (l : List Rec) (o : SvReading) → fewer + 6 ≤ bytes → Bounded n 0 o fewer → Bounded (suc n) 0 (andShown l o) bytes
-shown-bounded n bytes fewer [] o h b = stops-bounded (suc n) 0 bytes 20
-shown-bounded n bytes fewer (r ∷ l) o h b = record { few = omega (arith, b .few); long = λ z. omega (arith, b .long z) }
+-- the words are a record, and what follows it; or they are none, or its references are refused
+shown-bounded : (n bytes fewer k : ℕ) (l : List Rec) (o : SvReading) → fewer + 6 ≤ bytes → Bounded n 0 o fewer → Bounded (suc n) 0 (andShown k l o) bytes
+shown-bounded n bytes fewer zero [] o h b = stops-bounded (suc n) 0 bytes 20
+shown-bounded n bytes fewer zero (r ∷ l) o h b = record { few = omega (arith, b .few); long = λ z. omega (arith, b .long z) }
+shown-bounded n bytes fewer (suc k) l o h b = stops-bounded (suc n) 0 bytes k
 
 module _ (tag : List ℕ) where
   abbrev Bounds : ℕ → Type 0
@@ -70,7 +71,7 @@ module _ (tag : List ℕ) where
           let u = unpacked given buffer numbers count in
           let fewer = step-ahead r tag work rec r′ s in
           subst Next (sym t)
-          (shown-bounded n (ahead r tag work) (ahead r′ tag left) (shownIn given buffer u) (svReadFrom n tag left (o .2) given (u .1) (u .2)) (omega arith)
+          (shown-bounded n (ahead r tag work) (ahead r′ tag left) (u .0) (shownIn given buffer u) (svReadFrom n tag left (o .2) given (u .1) (u .2)) (omega arith)
           (go r′ left (o .2) given (u .1) (u .2) g))
       step-bounded (Step.End r′) s p = subst Next (sym (taken (Step.End r′) s)) (stops-bounded (suc n) 0 (ahead r tag work) 255)
       step-bounded (Step.Refused zero r′) s p = absurd (omega (arith, p .0 .0))
