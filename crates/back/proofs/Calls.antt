@@ -1,6 +1,7 @@
 -- From the equations of the contracts, call by call, to the definition of the whole. Assumes nothing.
 use mathlib.Core.Path.{_≡_, sym, ap, _∙_, subst}
-use Prim.Native.Nat.{ℕ, _≤_}
+use Prim.Native.Nat.{ℕ, _≤_, _<_}
+use native.Mathlib.Omega.{arith}
 use mathlib.Core.Bool.{false}
 use mathlib.Core.List.{List}
 use lib.ListN.{length, take}
@@ -11,8 +12,8 @@ use Rattle.writer.specs.declared.Added.{Added}
 use Rattle.back.specs.declared.Wrote.{Wrote}
 use Rattle.back.specs.declared.Only.{Only}
 use Rattle.back.specs.declared.Back.{Back}
-use Rattle.back.specs.Trips.{Writing, onAdded, onBegun, writeOf, FitsIn, Reading, readOf, Trip, backAs, onWrote, backOf, Kept}
-use Rattle.back.proofs.Trips.{Within, finish-told, there-and-back}
+use Rattle.back.specs.Trips.{Writing, onAdded, onBegun, writeOf, wroteCount, FitsIn, Reading, readOf, Trip, backAs, onWrote, backOf, Kept}
+use Rattle.back.proofs.Trips.{Within, finish-told, WroteNumber, wrote-number, there-and-back}
 
 -- a call's answer that is known, and what it left, in a function of both
 pub answered : {A B C : Type 0} (f : A → B → C) {a a′ : A} {b : B} {o : A × B} → a ≡ a′ → _≡_ {A = A × B} (a, b) o → f a′ b ≡ f (o .0) (o .1)
@@ -49,10 +50,13 @@ module _ (version mode padding : ℕ) (r : Rec) (buffer output work : List ℕ) 
   trip known = sym (ap (onWrote b o work) known) ∙ ap (λ (z : Writing). onWrote (z .1 .0) (z .1 .1) work (z .0)) e
 
   abbrev Ends : Back → List ℕ → Type 0
-  Ends x left = (_≡_ {A = Trip} (x, (b, (o, left))) whole) × (length output ≤ length work → Kept r x o left)
+  Ends x left = (_≡_ {A = Trip} (x, (b, (o, left))) whole) × (wroteCount (writeOf version mode padding r buffer output .0) ≤ length work → Kept r x o left)
 
   pub back-refused : {k : ℕ} → q ≡ Wrote.Refused k → Ends (Back.Refused k) work
-  back-refused known = (trip known, λ room. tt)
+  back-refused {k} known =
+      let number : 0 < k =
+      subst WroteNumber known (subst (λ (z : Writing). WroteNumber (z .0)) (sym e) (wrote-number version mode padding r buffer output)) in
+      (trip known, λ room z. absurd (omega arith))
 
   pub back-read : {n : ℕ} → FitsIn q r → q ≡ Wrote.Tag n → {y y′ : Only} {left : List ℕ} → y ≡ y′ → _≡_ {A = Reading} (y, left) (readOf (take n o) work)
       → Ends (backAs n y′) left

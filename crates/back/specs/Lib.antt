@@ -1,2 +1,3 @@
 -- A record there and back.
+pub mod Answers
 pub mod Trips

@@ -2,7 +2,7 @@
 use mathlib.Core.Path.{_≡_}
 use Prim.Native.Nat.{ℕ, _≤_}
 use mathlib.Core.Bool.{false}
-use mathlib.Core.List.{List}
+use mathlib.Core.List.{List, [], _∷_}
 use lib.ListN.{length, take}
 use Rattle.format.specs.Record.{Rec, Fits, viewOf}
 use Rattle.format.specs.declared.Record.{Record}
@@ -16,6 +16,7 @@ use Rattle.reader.specs.declared.Step.{Step}
 use Rattle.back.specs.declared.Wrote.{Wrote}
 use Rattle.back.specs.declared.Only.{Only}
 use Rattle.back.specs.declared.Back.{Back}
+use Rattle.back.specs.Answers.{backNumber, backCount, backRecord}
 
 -- ---- writing: begin with the altered mark off, add, finish
 
@@ -37,6 +38,11 @@ onBegun padding r buffer output (Begun.Refused k) = (Wrote.Refused k, (buffer, o
 
 unfoldable pub writeOf : ℕ → ℕ → ℕ → Rec → List ℕ → List ℕ → Writing
 writeOf version mode padding r buffer output = onBegun padding r buffer output (beginOf version mode false)
+
+-- how long the tag is that was written
+abbrev pub wroteCount : Wrote → ℕ
+wroteCount (Wrote.Tag n) = n
+wroteCount (Wrote.Refused k) = 0
 
 -- the numbers of a record that was written are of the types that the code has for them
 abbrev pub FitsIn : Wrote → Rec → Type 0
@@ -87,13 +93,17 @@ backOf version mode padding r buffer output work =
 
 -- ---- what is promised
 
--- what was read is the record, in the buffers as they stand; what was written is not lost
-abbrev pub Kept : Rec → Back → List ℕ → List ℕ → Type 0
-Kept r (Back.Read n rec) output work = viewOf rec (take n output) work ≡ r
-Kept r (Back.Refused k) output work = Unit {0}
-Kept r Back.Lost output work = ⊥
+-- none or one record, seen in the buffers as they stand
+abbrev pub viewsIn : List Record → List ℕ → List ℕ → List Rec
+viewsIn [] tag work = []
+viewsIn (rec ∷ l) tag work = viewOf rec tag work ∷ viewsIn l tag work
 
--- With a work buffer at least as long as the output, a record that writing does not refuse comes back as it was given, and nothing else does.
+-- where nothing is refused the record was read, from the tag that the count reports
+abbrev pub Kept : Rec → Back → List ℕ → List ℕ → Type 0
+Kept r q output work = backNumber q ≡ 0 → viewsIn (backRecord q) (take (backCount q) output) work ≡ r ∷ []
+
+-- With a work buffer at least as long as the tag, a record that writing does not refuse comes back as it was given, and nothing else does.
 abbrev pub ThereAndBack : Type 0
-ThereAndBack = (version mode padding : ℕ) (r : Rec) (buffer output work : List ℕ) → Fits (r .content) → length output ≤ length work
+ThereAndBack = (version mode padding : ℕ) (r : Rec) (buffer output work : List ℕ) → Fits (r .content)
+    → wroteCount (writeOf version mode padding r buffer output .0) ≤ length work
     → let t = backOf version mode padding r buffer output work in Kept r (t .0) (t .1 .1 .0) (t .1 .1 .1)

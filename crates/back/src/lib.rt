@@ -10,7 +10,7 @@ ghost use mathlib.Core.Path.{_≡_};
 ghost use Prim.Native.Nat.{_≤_};
 ghost use lib.ListN.{length};
 ghost use Rattle.format.specs.Record.{recOf};
-ghost use Rattle.back.specs.Trips.{backOf, Kept};
+ghost use Rattle.back.specs.Trips.{wroteCount, writeOf, backOf, Kept};
 
 // What came of a record: it was read from a tag of so many bytes, behind it the end; writing it was refused with a
 // number; or reading did not give one record and then the end.
@@ -32,7 +32,7 @@ pub enum Only {
     Other,
 }
 
-// Writes one record to a tag and reads it back. With a work buffer as long as the output, what writing accepts comes
+// Writes one record to a tag and reads it back. With a work buffer as long as the tag, what writing accepts comes
 // back as it was given.
 pub fn there_and_back(
     buffer: &mut [u8],
@@ -48,7 +48,7 @@ pub fn there_and_back(
     deviations: &[u32],
 ) -> Back
     ensures { λ q. ⌜ (q, (now (buffer .exit), (now (output .exit), now (work .exit)))) ≡ backOf version mode padding (recOf heading (now (name .entry)) (now (names .entry)) (now (rest .entry)) (now (deviations .entry))) (now (buffer .entry)) (now (output .entry)) (now (work .entry)) ⌝ }
-    ensures { λ q. ⌜ (length (now (output .entry)) ≤ length (now (work .entry)) → Kept (recOf heading (now (name .entry)) (now (names .entry)) (now (rest .entry)) (now (deviations .entry))) q (now (output .exit)) (now (work .exit))) ⌝ }
+    ensures { λ q. ⌜ (wroteCount (writeOf version mode padding (recOf heading (now (name .entry)) (now (names .entry)) (now (rest .entry)) (now (deviations .entry))) (now (buffer .entry)) (now (output .entry)) .0) ≤ length (now (work .entry)) → Kept (recOf heading (now (name .entry)) (now (names .entry)) (now (rest .entry)) (now (deviations .entry))) q (now (output .exit)) (now (work .exit))) ⌝ }
 {
     let wrote = write_one(
         buffer,

@@ -20,18 +20,19 @@ use Rattle.format.specs.declared.Shown.{Shown}
 use Rattle.format.proofs.Checks.{of-picked, none-else, first-none}
 use Rattle.format.proofs.Unsynch.{resync-shorter}
 use Rattle.format.proofs.Moves.{Moves, moves}
-use Rattle.reader.specs.Reader.{readerAt, openWhole, openOf, answerOf, movedTo, Stepped, runStep, stepAs, stepOf}
+use Rattle.reader.specs.Reader.{readerAt, openWhole, openOf, answerOf, movedTo, runStep, stepAs, stepOf}
+use Rattle.reader.specs.Answers.{stepNumber, stepRecord, stepReader}
 use Rattle.reader.specs.declared.Stop.{Stop}
 use Rattle.reader.specs.declared.Reader.{Reader}
 use Rattle.reader.specs.declared.Opened.{Opened}
 use Rattle.reader.specs.declared.Step.{Step}
-use Rattle.promises.specs.Reading.{ended, refused, unfinished, Reading, onStep, readFrom, onOpen, readFor}
-use Rattle.promises.specs.Promises.{FewFrames, Finishes, StaysRefused, StaysEnded}
+use Rattle.promises.specs.Reading.{refused, unfinished, endingOf, Reading, onStep, readFrom, onOpen, readFor}
+use Rattle.promises.specs.Promises.{FewFrames, Finishes, Stays, StaysRefused, StaysEnded}
 
 -- ---- how many bytes a reader has before it
 
 -- in the work buffer or in the tag
-abbrev aheadIn : Bool → Reader → List ℕ → List ℕ → ℕ
+abbrev pub aheadIn : Bool → Reader → List ℕ → List ℕ → ℕ
 aheadIn inWork r tag work = length (slice (r .at) (r .end) (pick inWork work tag))
 
 abbrev pub ahead : Reader → List ℕ → List ℕ → ℕ
@@ -104,11 +105,12 @@ record Bounded (n spare : ℕ) (o : Reading) (bytes : ℕ) : Type 0 where
   few : 6 * length (o .0) ≤ bytes
   long : o .1 ≡ unfinished → 6 * n + spare ≤ bytes
 
-ended-not : ended ≡ unfinished → ⊥
-ended-not e = let z : _≡_ {A = ℕ} 0 1 = cc in omega arith
-
 refused-not : (k : ℕ) → refused k ≡ unfinished → ⊥
 refused-not k e = let z : _≡_ {A = ℕ} 0 1 = cc in omega arith
+
+ending-not : (k : ℕ) → endingOf k ≡ unfinished → ⊥
+ending-not zero e = let z : _≡_ {A = ℕ} 0 1 = cc in omega arith
+ending-not (suc k) e = refused-not (suc k) e
 
 module _ (n : ℕ) (tag : List ℕ) (r : Reader) (work : List ℕ)
     (go : (r′ : Reader) (left : List ℕ) → Bounded n 0 (readFrom n tag r′ left) (ahead r′ tag left)) where
@@ -117,8 +119,8 @@ module _ (n : ℕ) (tag : List ℕ) (r : Reader) (work : List ℕ)
       let b = go r′ (stepOf r tag work .1) in
       let s = step-ahead r tag work rec r′ e in
       record { few = omega (arith, b .few); long = λ u. omega (arith, b .long u) }
-  step-bounded (Step.End r′) e = record { few = omega arith; long = λ u. absurd (ended-not u) }
-  step-bounded (Step.Refused k r′) e = record { few = omega arith; long = λ u. absurd (refused-not k u) }
+  step-bounded (Step.End r′) e = record { few = omega arith; long = λ u. absurd (ending-not 0 u) }
+  step-bounded (Step.Refused k r′) e = record { few = omega arith; long = λ u. absurd (ending-not k u) }
 
 from-bounded : (n : ℕ) (tag : List ℕ) (r : Reader) (work : List ℕ) → Bounded n 0 (readFrom n tag r work) (ahead r tag work)
 unfolding readFrom
@@ -140,7 +142,7 @@ region-short tag h =
     omega (arith, length-slice (regionStart tag) (regionEnd tag) tag, length-take (10 + sizeOf tag) tag)
 
 -- a reader that was opened has at least ten bytes fewer before it than the tag has
-abbrev Within : List ℕ → Opened × List ℕ → Type 0
+abbrev pub Within : List ℕ → Opened × List ℕ → Type 0
 Within tag o = (r : Reader) → o .0 ≡ Opened.Ready r → ahead r tag (o .1) + 10 ≤ length tag
 
 refused-within : (tag work : List ℕ) (k : ℕ) → Within tag (Opened.Refused k, work)
@@ -156,7 +158,7 @@ whole-within v u tag work h =
     (λ t. refused-within tag work 14)
     (λ t. ready-within tag (putFront u work) (readerAt v true 0 (length u)) (omega (arith, length-slice 0 (length u) (putFront u work))))
 
-open-within : (tag work : List ℕ) → Within tag (openOf tag work)
+pub open-within : (tag work : List ℕ) → Within tag (openOf tag work)
 unfolding openOf
 open-within tag work =
     of-picked (Within tag) (not (eqb (headerRefusal tag) 0))
@@ -218,12 +220,30 @@ step-end Stop.Running r tag work r′ h e =
 step-end Stop.Ended r tag work r′ h e = cc
 step-end (Stop.Failed j) r tag work r′ h e = cc
 
-pub stays-refused : StaysRefused
+-- what it answered it answers again
+pub refused-again : (r r′ : Reader) (tag work tag′ work′ : List ℕ) (k : ℕ) → stepOf r tag work .0 ≡ Step.Refused k r′
+    → stepOf r′ tag′ work′ ≡ (Step.Refused k r′, work′)
 unfolding stepOf
-stays-refused r r′ tag work left tag′ work′ k e =
-    rw (step-refused (r .stop) r tag work k r′ refl (ap (λ (o : Stepped). o .0) e))
+refused-again r r′ tag work tag′ work′ k e = rw (step-refused (r .stop) r tag work k r′ refl e)
+
+pub ended-again : (r r′ : Reader) (tag work tag′ work′ : List ℕ) → stepOf r tag work .0 ≡ Step.End r′ → stepOf r′ tag′ work′ ≡ (Step.End r′, work′)
+unfolding stepOf
+ended-again r r′ tag work tag′ work′ e = rw (step-end (r .stop) r tag work r′ refl e)
+
+module _ (r : Reader) (tag work tag′ work′ : List ℕ) where
+  -- a step without a record
+  again : (k : ℕ) (s : Step) → stepOf r tag work .0 ≡ s → stepNumber s ≡ k → stepRecord s ≡ [] → Stays k (stepReader s) work′ (stepOf (stepReader s) tag′ work′)
+  again k (Step.Frame rec r′) e n l = absurd (let z : _≡_ {A = ℕ} 0 1 = cc in omega arith)
+  again k (Step.End r′) e n l = rw (ended-again r r′ tag work tag′ work′ e) (n, refl, refl, refl)
+  again k (Step.Refused j r′) e n l = rw (refused-again r r′ tag work tag′ work′ j e) (n, refl, refl, refl)
+
+pub no-record : (k : ℕ) (s : Step) → stepNumber s ≡ suc k → stepRecord s ≡ []
+no-record k (Step.Frame rec r) n = absurd (omega arith)
+no-record k (Step.End r) n = refl
+no-record k (Step.Refused j r) n = refl
+
+pub stays-refused : StaysRefused
+stays-refused r tag work tag′ work′ k n = again r tag work tag′ work′ (suc k) (stepOf r tag work .0) refl n (no-record k (stepOf r tag work .0) n)
 
 pub stays-ended : StaysEnded
-unfolding stepOf
-stays-ended r r′ tag work left tag′ work′ e =
-    rw (step-end (r .stop) r tag work r′ refl (ap (λ (o : Stepped). o .0) e))
+stays-ended r tag work tag′ work′ n l = again r tag work tag′ work′ 0 (stepOf r tag work .0) refl n l

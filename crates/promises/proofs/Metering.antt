@@ -17,11 +17,11 @@ use Rattle.meter.specs.declared.Meter.{Meter}
 use Rattle.meter.specs.declared.Metered.{Metered}
 use Rattle.meter.specs.declared.Next.{Next}
 use Rattle.meter.proofs.Nexts.{step-left, next-eq}
-use Rattle.promises.specs.Reading.{Ending, unfinished, ended, refused, Reading, andRecord, readFrom}
+use Rattle.promises.specs.Reading.{Ending, unfinished, endingOf, Reading, andRecord, readFrom}
 use Rattle.promises.specs.Reading as reading
 use Rattle.promises.specs.Metering.{Counted, countedAs, countedIn, countersFrom, Metering, stopped, countedOf, onNext, meterFrom}
 use Rattle.promises.specs.Money.{anyShort, anyPacked}
-use Rattle.promises.proofs.Bounds.{step-version, stays-refused, stays-ended}
+use Rattle.promises.proofs.Bounds.{step-version, refused-again, ended-again}
 
 -- ---- one frame
 
@@ -120,8 +120,8 @@ module _ (v : Version) (n k : ℕ) (tag : List ℕ)
       (λ o b. turn v m rec r tag left (readFrom n tag r left) o kept′ b)
       (go k m′ left (omega arith) kept′ fin)
       (go (suc k) m′ left (omega arith) kept′ fin)
-  on-meters m work left (Step.End r) e kept fin = stops v m r ended
-  on-meters m work left (Step.Refused j r) e kept fin = stops v m r (refused j)
+  on-meters m work left (Step.End r) e kept fin = stops v m r (endingOf 0)
+  on-meters m work left (Step.Refused j r) e kept fin = stops v m r (endingOf j)
 
 -- In at least as many calls as the reader has steps, if these are enough.
 pub from-meters : (v : Version) (n k : ℕ) (tag : List ℕ) (m : Meter) (work : List ℕ) → n ≤ k → m .reader .version ≡ v
@@ -150,9 +150,9 @@ module _ (tag : List ℕ) (m : Meter) (work left : List ℕ)
   on-stays : (x : Step) → stepOf (m .reader) tag work ≡ (x, left) → Stays (onStep (λ m w. nextOf m tag w) m x left .0)
   on-stays (Step.Frame rec r) e = or-stays (meteredIn (m .frames) rec) (passedOver (rec .heading) r m) (step-left (m .reader) tag work rec r (ap (λ (o : Step × List ℕ). o .0) e))
   on-stays (Step.End r) e =
-      λ tag′ work′. next-eq (withReader r m) tag′ work′ ∙ rw (stays-ended (m .reader) r tag work left tag′ work′ e)
+      λ tag′ work′. next-eq (withReader r m) tag′ work′ ∙ rw (ended-again (m .reader) r tag work tag′ work′ (ap (λ (o : Step × List ℕ). o .0) e))
   on-stays (Step.Refused k r) e =
-      λ tag′ work′. next-eq (withReader r m) tag′ work′ ∙ rw (stays-refused (m .reader) r tag work left tag′ work′ k e)
+      λ tag′ work′. next-eq (withReader r m) tag′ work′ ∙ rw (refused-again (m .reader) r tag work tag′ work′ k (ap (λ (o : Step × List ℕ). o .0) e))
 
 stays-for : (n : ℕ) (tag : List ℕ) (m : Meter) (work : List ℕ) → leftOf (m .reader) < n → Stays (nextOf m tag work .0)
 stays-for zero tag m work h = absurd (omega arith)

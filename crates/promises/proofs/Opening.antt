@@ -1,12 +1,14 @@
 -- Opening a finished tag: the frames and some padding lie before the reader. Assumes nothing.
 use mathlib.Core.Path.{_≡_, refl, sym, ap, _∙_}
+use mathlib.Core.Logic.{_⊎_, inl, inr}
 use Prim.Native.Nat.{ℕ, _+_, _^_, _≤_, _<_}
 use native.Mathlib.Omega.{arith}
 use mathlib.Core.Bool.{Bool, true, false}
 use mathlib.Core.List.{List, _++_}
 use lib.ListN.{length, drop}
 use lib.Seq.{slice, take-append-seam}
-use borrow.Author.Tests.{le-ltb}
+use lib.Dec.{ltb}
+use borrow.Author.Tests.{ltb-false, le-ltb}
 use Rattle.lists.proofs.Bools.{false-not-true}
 use Rattle.lists.proofs.Slices.{front-length}
 use Rattle.format.specs.Bytes.{pick, zeros, putFront}
@@ -50,8 +52,7 @@ pub record Opening (v : Version) (m : Mode) (tag work frames : List ℕ) : Type 
   pub lies : slice begin end (source (wholeBy v m) tag left) ≡ frames ++ zeros padding
   pub same : length left ≡ length work
 
-module _ (v : Version) (m : Mode) (p : ℕ) (f work : List ℕ) (small : length (regionBytes v m p f) < 2 ^ 28)
-    (room : length (tagOf v m p f) ≤ length work) where
+module _ (v : Version) (m : Mode) (p : ℕ) (f work : List ℕ) (small : length (regionBytes v m p f) < 2 ^ 28) where
   abbrev tag : List ℕ
   tag = tagOf v m p f
 
@@ -61,7 +62,8 @@ module _ (v : Version) (m : Mode) (p : ℕ) (f work : List ℕ) (small : length 
   headed : Headed v m tag region
   headed = tag-headed v m p f small
 
-  opened-plain : wholeBy v m ≡ false → Opening v m tag work f
+  -- frames that are not resynchronised as a whole lie in the tag
+  pub opened-plain : wholeBy v m ≡ false → Opening v m tag work f
   unfolding openOf
   opened-plain e = record {
     begin = 10;
@@ -73,26 +75,51 @@ module _ (v : Version) (m : Mode) (p : ℕ) (f work : List ℕ) (small : length 
     same = refl;
   }
 
-  opened-whole : wholeBy v m ≡ true → Opening v m tag work f
+  -- others are put into the work buffer: the frames and what is left of the padding
+  abbrev padded : (n : ℕ) × (resync (endsFF false f) (zeros p) ≡ zeros n)
+  padded = padding-back (endsFF false f) p
+
+  abbrev shown : List ℕ
+  shown = f ++ zeros (padded .0)
+
+  shown-is : wholeBy v m ≡ true → resynchronised region ≡ shown
+  shown-is e = whole-back v m f (zeros p) e ∙ ap (λ (l : List ℕ). f ++ l) (padded .1)
+
+  opened-whole : wholeBy v m ≡ true → length shown ≤ length work → Opening v m tag work f
   unfolding openOf openWhole
-  opened-whole e =
-      let pad = padding-back (endsFF false f) p in
-      let u = f ++ zeros (pad .0) in
-      let back : resynchronised region ≡ u = whole-back v m f (zeros p) e ∙ ap (λ (l : List ℕ). f ++ l) (pad .1) in
-      let fits : length u ≤ length work = omega (arith, resync-shorter false region, ap length back, headed .long) in
-      record {
-        begin = 0;
-        end = length u;
-        padding = pad .0;
-        left = putFront u work;
-        opens = rw (headed .taken, headed .whole, e, headed .version, headed .start, headed .end, headed .lies, back, le-ltb (length work) (length u) fits);
-        lies = rw e (take-append-seam u (drop (length u) work));
-        same = front-length u work fits;
-      }
+  opened-whole e fits = record {
+    begin = 0;
+    end = length shown;
+    padding = padded .0;
+    left = putFront shown work;
+    opens = rw (headed .taken, headed .whole, e, headed .version, headed .start, headed .end, headed .lies, shown-is e, le-ltb (length work) (length shown) fits);
+    lies = rw e (take-append-seam shown (drop (length shown) work));
+    same = front-length shown work fits;
+  }
 
-  by : (b : Bool) → wholeBy v m ≡ b → Opening v m tag work f
-  by true e = opened-whole e
-  by false e = opened-plain e
+  refused-whole : wholeBy v m ≡ true → ltb (length work) (length shown) ≡ true → openOf tag work ≡ (Opened.Refused 14, work)
+  unfolding openOf openWhole
+  refused-whole e t = rw (headed .taken, headed .whole, e, headed .version, headed .start, headed .end, headed .lies, shown-is e, t)
 
-  pub opened : Opening v m tag work f
-  opened = by (wholeBy v m) refl
+  -- a work buffer as long as the tag is enough
+  enough : wholeBy v m ≡ true → length tag ≤ length work → length shown ≤ length work
+  enough e room = omega (arith, resync-shorter false region, ap length (shown-is e), headed .long)
+
+  by : (b : Bool) → wholeBy v m ≡ b → length tag ≤ length work → Opening v m tag work f
+  by true e room = opened-whole e (enough e room)
+  by false e room = opened-plain e
+
+  pub opened : length tag ≤ length work → Opening v m tag work f
+  opened room = by (wholeBy v m) refl room
+
+  -- with any work buffer, opening lays the frames before the reader or is refused with 14
+  whole-any : wholeBy v m ≡ true → (t : Bool) → ltb (length work) (length shown) ≡ t → Opening v m tag work f ⊎ (openOf tag work ≡ (Opened.Refused 14, work))
+  whole-any e true t = inr (refused-whole e t)
+  whole-any e false t = inl (opened-whole e (ltb-false (length work) (length shown) t))
+
+  any-by : (b : Bool) → wholeBy v m ≡ b → Opening v m tag work f ⊎ (openOf tag work ≡ (Opened.Refused 14, work))
+  any-by true e = whole-any e (ltb (length work) (length shown)) refl
+  any-by false e = inl (opened-plain e)
+
+  pub opened-any : Opening v m tag work f ⊎ (openOf tag work ≡ (Opened.Refused 14, work))
+  opened-any = any-by (wholeBy v m) refl

@@ -1,5 +1,5 @@
 -- Demand 3: what was written is read back, so no two lists share a tag. Assumes nothing.
-use mathlib.Core.Path.{_≡_, refl, sym, ap, _∙_}
+use mathlib.Core.Path.{_≡_, sym, ap, _∙_}
 use Prim.Native.Nat.{ℕ, zero, suc, _+_, _^_, _≤_, _<_}
 use native.Mathlib.Omega.{arith}
 use mathlib.Core.Bool.{false}
@@ -19,17 +19,14 @@ use Rattle.format.proofs.Unsynch.{unsync-longer}
 use Rattle.format.proofs.Encoded.{encode-length}
 use Rattle.format.proofs.Tags.{wholeBy, tag-headed}
 use Rattle.writer.specs.Writer.{modeOf}
-use Rattle.reader.specs.Reader.{openOf, stepOf, Stepped}
+use Rattle.reader.specs.Reader.{Stepped}
 use Rattle.reader.specs.declared.Opened.{Opened}
-use Rattle.reader.specs.declared.Reader.{Reader}
-use Rattle.reader.specs.declared.Step.{Step}
-use Rattle.promises.specs.Written.{Written}
-use Rattle.promises.specs.Reading.{ended, Reading, andRecord, onStep, readFrom, onOpen, readFor, readAll}
+use Rattle.promises.specs.Reading.{ended, Reading, onStep, readFrom, onOpen, readFor, readAll}
 use Rattle.promises.specs.Promises.{NoneShort, none, also as short-also, RoundTrip, OneList, framesOf, WrittenTag}
 use Rattle.promises.proofs.Sounds.{Sounds, nothing, also}
-use Rattle.promises.proofs.Adding.{Told, told}
-use Rattle.promises.proofs.Opening.{source, Opening, opened}
-use Rattle.promises.proofs.Stepping.{reader, pads, Back, step-back}
+use Rattle.promises.proofs.Adding.{told}
+use Rattle.promises.proofs.Opening.{source, opened}
+use Rattle.promises.proofs.Stepping.{reader, pads, step-back}
 
 -- ---- the steps
 
@@ -63,21 +60,25 @@ few v m [] = omega arith
 few v m (r ∷ rs) =
     omega (arith, length-append (encode v m r) (framesOf v m rs), few v m rs, encode-length v m r, head-some v)
 
-none-short : (v : Version) (m : Mode) {rs : List Rec} → Sounds v m rs → NoneShort rs
+pub none-short : (v : Version) (m : Mode) {rs : List Rec} → Sounds v m rs → NoneShort rs
 none-short v m nothing = none
 none-short v m (also s ss) = short-also (s .whole) (none-short v m ss)
 
-tag-back : (v : Version) (m : Mode) (p : ℕ) (rs : List Rec) (work : List ℕ) → Sounds v m rs → length (regionBytes v m p (framesOf v m rs)) < 2 ^ 28
+pub fewer : (v : Version) (m : Mode) (p : ℕ) (rs : List Rec) → length (regionBytes v m p (framesOf v m rs)) < 2 ^ 28
+    → length rs < length (tagOf v m p (framesOf v m rs))
+fewer v m p rs small =
+    let f = framesOf v m rs in
+    omega (arith, tag-headed v m p f small .long, few v m rs, whole-longer v m f, length-append (wholeOf v m f) (zeros p))
+
+pub tag-back : (v : Version) (m : Mode) (p : ℕ) (rs : List Rec) (work : List ℕ) → Sounds v m rs → length (regionBytes v m p (framesOf v m rs)) < 2 ^ 28
     → length (tagOf v m p (framesOf v m rs)) ≤ length work → readAll (tagOf v m p (framesOf v m rs)) work ≡ (rs, ended)
 unfolding readFor
 tag-back v m p rs work ss small room =
     let f = framesOf v m rs in
     let tag = tagOf v m p f in
     let o = opened v m p f work small room in
-    let long = tag-headed v m p f small .long in
-    let fewer : length rs < length tag = omega (arith, long, few v m rs, whole-longer v m f, length-append (wholeOf v m f) (zeros p)) in
     ap (λ (x : Opened × List ℕ). onOpen (length tag) tag (x .0) (x .1)) (o .opens)
-    ∙ reads v m (length tag) (o .begin) (o .begin) (o .end) (o .padding) tag (o .left) ss (omega (arith, o .same)) (o .lies) fewer
+    ∙ reads v m (length tag) (o .begin) (o .begin) (o .end) (o .padding) tag (o .left) ss (omega (arith, o .same)) (o .lies) (fewer v m p rs small)
 
 -- ---- the promises
 

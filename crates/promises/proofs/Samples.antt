@@ -1,6 +1,6 @@
 -- The promises speak of something: in each edition and each mode the sample is written, and read back, by computation. Assumes nothing.
 use mathlib.Core.Path.{_≡_, refl}
-use Prim.Native.Nat.{ℕ}
+use Prim.Native.Nat.{ℕ, zero, suc}
 use native.Mathlib.Omega.{arith}
 use mathlib.Core.Bool.{Bool, true, false}
 use mathlib.Core.List.{List, [], _∷_}
@@ -23,10 +23,8 @@ use Rattle.format.specs.Encode.{lastOr, bodyBytes, encode, refusalOf, tagOf}
 use Rattle.format.specs.declared.Version.{Version}
 use Rattle.format.specs.declared.Version.the-variants.{Id3v22, Id3v23, Id3v24}
 use Rattle.writer.specs.Writer.{beginOf, addOf, finishOf}
+use Rattle.writer.specs.Answers.{begunWriter, addedNumber, addedWriter, finishedNumber, finishedCount}
 use Rattle.writer.specs.declared.Writer.{Writer}
-use Rattle.writer.specs.declared.Begun.{Begun}
-use Rattle.writer.specs.declared.Added.{Added}
-use Rattle.writer.specs.declared.Finished.{Finished}
 use Rattle.reader.specs.Reader.{openWhole, openOf, stepOf}
 use Rattle.promises.specs.Written.{Adds, none, accepted, Written}
 use Rattle.promises.specs.Reading.{Reading, ended, readFrom, readFor, readAll}
@@ -38,32 +36,35 @@ use Rattle.promises.specs.Samples.{inner, sampleOf}
 abbrev Ran : Type 0
 Ran = Bool × Writer × List ℕ
 
-onAdded : (Writer → List ℕ → Ran) → Added → List ℕ → Ran
-onAdded go (Added.Accepted n w) buffer = go w buffer
-onAdded go (Added.Refused k w) buffer = (false, w, buffer)
+onAdded : (Writer → List ℕ → Ran) → ℕ → Writer → List ℕ → Ran
+onAdded go zero w buffer = go w buffer
+onAdded go (suc k) w buffer = (false, w, buffer)
 
 addAll : List Rec → Writer → List ℕ → Ran
 addAll [] w buffer = (true, w, buffer)
-addAll (r ∷ rs) w buffer = let o = addOf w r buffer in onAdded (addAll rs) (o .0) (o .1)
+addAll (r ∷ rs) w buffer = let o = addOf w r buffer in onAdded (addAll rs) (addedNumber (o .0)) (addedWriter (o .0)) (o .1)
 
 -- after finishing: the part of the output that it reports
 abbrev Made : Type 0
 Made = Bool × List ℕ
 
-onFinished : Finished → List ℕ → Made
-onFinished (Finished.Done n w) output = (true, take n output)
-onFinished (Finished.Refused k w) output = (false, [])
+onFinished : ℕ → ℕ → List ℕ → Made
+onFinished zero n output = (true, take n output)
+onFinished (suc k) n output = (false, [])
 
 finishAll : ℕ → List ℕ → Bool → Writer → List ℕ → Made
-finishAll padding output true w buffer = let o = finishOf w padding buffer output in onFinished (o .0) (o .1)
+finishAll padding output true w buffer =
+    let o = finishOf w padding buffer output in
+    onFinished (finishedNumber (o .0)) (finishedCount (o .0)) (o .1)
 finishAll padding output false w buffer = (false, [])
 
-onBegun : ℕ → List Rec → List ℕ → List ℕ → Begun → Made
-onBegun padding rs collecting output (Begun.Ready w) = let a = addAll rs w collecting in finishAll padding output (a .0) (a .1) (a .2)
-onBegun padding rs collecting output (Begun.Refused k) = (false, [])
+onBegun : ℕ → List Rec → List ℕ → List ℕ → List Writer → Made
+onBegun padding rs collecting output [] = (false, [])
+onBegun padding rs collecting output (w ∷ []) = let a = addAll rs w collecting in finishAll padding output (a .0) (a .1) (a .2)
+onBegun padding rs collecting output (w ∷ _ ∷ _) = (false, [])
 
 writeAll : ℕ → ℕ → ℕ → List Rec → List ℕ → List ℕ → Made
-writeAll version mode padding rs collecting output = onBegun padding rs collecting output (beginOf version mode false)
+writeAll version mode padding rs collecting output = onBegun padding rs collecting output (begunWriter (beginOf version mode false))
 
 -- ---- a run in which each call accepted
 
@@ -76,62 +77,63 @@ abbrev Accepts : List Rec → Writer → List ℕ → Type 0
 Accepts rs w buffer = addAll rs w buffer .0 ≡ true → Adds w buffer rs (addAll rs w buffer .1) (addAll rs w buffer .2)
 
 -- one call, and those behind it
-one-more : (w : Writer) (b b′ : List ℕ) (r : Rec) (rs : List Rec) (x : Added) → Fits (r .content) → addOf w r b ≡ (x, b′)
-    → ((w′ : Writer) → Accepts rs w′ b′) → onAdded (addAll rs) x b′ .0 ≡ true
-    → Adds w b (r ∷ rs) (onAdded (addAll rs) x b′ .1) (onAdded (addAll rs) x b′ .2)
+one-more : (w : Writer) (b : List ℕ) (r : Rec) (rs : List Rec) (k : ℕ) → Fits (r .content) → addedNumber (addOf w r b .0) ≡ k →
+    let o = addOf w r b in
+    let on = onAdded (addAll rs) k (addedWriter (o .0)) (o .1) in
+    Accepts rs (addedWriter (o .0)) (o .1) → on .0 ≡ true → Adds w b (r ∷ rs) (on .1) (on .2)
 unfolding onAdded
-one-more w b b′ r rs (Added.Accepted n w′) f e go h = accepted f e (go w′ h)
-one-more w b b′ r rs (Added.Refused k w′) f e go h = absurd (false-not-true h)
+one-more w b r rs zero f e go h = accepted f e (go h)
+one-more w b r rs (suc k) f e go h = absurd (false-not-true h)
 
 accepts : (rs : List Rec) (w : Writer) (buffer : List ℕ) → AllFit rs → Accepts rs w buffer
 unfolding addAll
 accepts [] w buffer f h = none
 accepts (r ∷ rs) w buffer f h =
     let o = addOf w r buffer in
-    one-more w buffer (o .1) r rs (o .0) (f .0) refl (λ w′. accepts rs w′ (o .1) (f .1)) h
+    one-more w buffer r rs (addedNumber (o .0)) (f .0) refl (accepts rs (addedWriter (o .0)) (o .1) (f .1)) h
 
 module _ (version mode padding : ℕ) (rs : List Rec) (collecting output : List ℕ) (fits : AllFit rs) where
-  module _ (first last : Writer) (collected : List ℕ) (begins : beginOf version mode false ≡ Begun.Ready first) (adds : Adds first collecting rs last collected) where
-    finished : (x : Finished) (left : List ℕ) → finishOf last padding collected output ≡ (x, left) → onFinished x left .0 ≡ true
-        → Written version mode padding rs (onFinished x left .1)
+  module _ (first last : Writer) (collected : List ℕ) (begins : begunWriter (beginOf version mode false) ≡ first ∷ [])
+      (adds : Adds first collecting rs last collected) where
+    finished : (k : ℕ) → finishedNumber (finishOf last padding collected output .0) ≡ k →
+        let o = finishOf last padding collected output in
+        let on = onFinished k (finishedCount (o .0)) (o .1) in
+        on .0 ≡ true → Written version mode padding rs (on .1)
     unfolding onFinished
-    finished (Finished.Done n w) left e h = record {
+    finished zero e h = record {
       first = first;
       last = last;
-      after = w;
       collecting = collecting;
       collected = collected;
       output = output;
-      left = left;
-      count = n;
       begins = begins;
       adds = adds;
-      finishes = e;
+      done = e;
       reported = refl;
     }
-    finished (Finished.Refused k w) left e h = absurd (false-not-true h)
+    finished (suc k) e h = absurd (false-not-true h)
 
-  added : (first : Writer) (all : Bool) → beginOf version mode false ≡ Begun.Ready first → addAll rs first collecting .0 ≡ all
+  added : (first : Writer) (all : Bool) → begunWriter (beginOf version mode false) ≡ first ∷ [] → addAll rs first collecting .0 ≡ all
       → finishAll padding output all (addAll rs first collecting .1) (addAll rs first collecting .2) .0 ≡ true
       → Written version mode padding rs (finishAll padding output all (addAll rs first collecting .1) (addAll rs first collecting .2) .1)
   unfolding finishAll
   added first true begins e h =
       let a = addAll rs first collecting in
-      let o = finishOf (a .1) padding (a .2) output in
-      finished first (a .1) (a .2) begins (accepts rs first collecting fits e) (o .0) (o .1) refl h
+      finished first (a .1) (a .2) begins (accepts rs first collecting fits e) (finishedNumber (finishOf (a .1) padding (a .2) output .0)) refl h
   added first false begins e h = absurd (false-not-true h)
 
-  begun : (x : Begun) → beginOf version mode false ≡ x → onBegun padding rs collecting output x .0 ≡ true
-      → Written version mode padding rs (onBegun padding rs collecting output x .1)
+  begun : (l : List Writer) → begunWriter (beginOf version mode false) ≡ l → onBegun padding rs collecting output l .0 ≡ true
+      → Written version mode padding rs (onBegun padding rs collecting output l .1)
   unfolding onBegun
-  begun (Begun.Ready w) e h = added w (addAll rs w collecting .0) e refl h
-  begun (Begun.Refused k) e h = absurd (false-not-true h)
+  begun [] e h = absurd (false-not-true h)
+  begun (w ∷ []) e h = added w (addAll rs w collecting .0) e refl h
+  begun (w ∷ _ ∷ _) e h = absurd (false-not-true h)
 
   -- the tag of a run in which each call accepted
   written : writeAll version mode padding rs collecting output .0 ≡ true
       → Written version mode padding rs (writeAll version mode padding rs collecting output .1)
   unfolding writeAll
-  written h = begun (beginOf version mode false) refl h
+  written h = begun (begunWriter (beginOf version mode false)) refl h
 
 -- ---- the sample
 

@@ -1,32 +1,33 @@
 -- A step over the frame of an accepted record shows that record, and leaves what follows before the reader. Assumes nothing.
-use mathlib.Core.Path.{_≡_, refl, sym, ap, _∙_}
+use mathlib.Core.Path.{_≡_, refl, ap, _∙_}
+use mathlib.Core.Logic.{_⊎_, inl, inr}
 use Prim.Native.Nat.{ℕ, zero, suc, _+_, _-_, _≤_}
 use native.Mathlib.Omega.{arith}
-use mathlib.Core.Bool.{Bool, true, false, _||_, or-true}
-use mathlib.Core.List.{List, [], _∷_, _++_}
+use mathlib.Core.Bool.{Bool, true, false, or-true}
+use mathlib.Core.List.{List, [], _++_}
 use lib.ListN.{length, take, drop, length-append, length-take, length-drop}
 use lib.Seq.{slice, take-append-seam}
 use lib.Dec.{ltb}
+use borrow.Author.Tests.{ltb-false}
 use Rattle.lists.proofs.Bools.{false-not-true}
 use Rattle.lists.proofs.Slices.{slice-drop, in-slice, front-length}
-use Rattle.format.specs.Bytes.{pick, zeros, putFront}
+use Rattle.format.specs.Bytes.{zeros, putFront}
 use Rattle.format.specs.Unsynch.{guards}
 use Rattle.format.specs.Frame.{headLen, headOf}
 use Rattle.format.specs.Record.{Rec, viewOf}
-use Rattle.format.specs.Walk.{onShown, frameOf}
+use Rattle.format.specs.Walk.{resyncedOf, onShown, frameOf}
 use Rattle.format.specs.Encode.{bodyBytes, storedOf, encode}
 use Rattle.format.specs.declared.Version.{Version}
 use Rattle.format.specs.declared.Version.the-variants.{Id3v22, Id3v23, Id3v24}
 use Rattle.format.specs.declared.Mode.{Mode}
 use Rattle.format.specs.declared.Head.{Head}
 use Rattle.format.specs.declared.Record.{Record}
-use Rattle.format.specs.declared.Shown.{Shown}
 use Rattle.format.proofs.Unsynch.{unsync-longer}
-use Rattle.format.proofs.Encoded.{flaggedBy, body-there, rest-there, encode-length}
+use Rattle.format.proofs.Encoded.{flaggedBy, head-back, body-there, rest-there, encode-length}
 use Rattle.format.proofs.Accepted.{Sound}
-use Rattle.format.proofs.Frames.{plain-stored, recordAt, seen-back, frame-plain, frame-flagged}
+use Rattle.format.proofs.Frames.{plain-stored, flagged-stored, recordAt, seen-back, frame-plain, frame-flagged}
 use Rattle.format.proofs.Tags.{wholeBy}
-use Rattle.reader.specs.Reader.{stoppedAs, movedTo, answerOf, stepOf}
+use Rattle.reader.specs.Reader.{stoppedAs, stepOf}
 use Rattle.reader.specs.declared.Stop.{Stop}
 use Rattle.reader.specs.declared.Reader.{Reader}
 use Rattle.reader.specs.declared.Step.{Step}
@@ -143,3 +144,35 @@ module _ (v : Version) (m : Mode) (begin at end : ℕ) (tag work : List ℕ) (r 
   pub step-back : length tag ≤ length work → slice at end (source (wholeBy v m) tag work) ≡ encode v m r ++ rest
       → Back v (wholeBy v m) begin at end tag work r rest
   step-back room e = by (wholeBy v m) (flaggedBy v m) refl refl room e
+
+  -- ---- with any work buffer
+
+  -- a step that is refused with 14
+  abbrev pub NoRoom : Bool → Type 0
+  NoRoom w = stepOf (reader v w begin at end) tag work ≡ (Step.Refused 14 (stoppedAs (Stop.Failed 14) (reader v w begin at end)), work)
+
+  -- a flagged body that is longer than the work buffer
+  flagged-refused : flaggedBy v m ≡ true → ltb (length work) (length body) ≡ true → slice at end tag ≡ encode v m r ++ rest → NoRoom false
+  unfolding stepOf frameOf onShown resyncedOf
+  flagged-refused f t e =
+      rw (e, head-back v m 1 r rest (omega arith) (sound .is-id) (sound .sizes), f, body-there v m r rest, flagged-stored v m body f, t)
+
+  flagged-any : flaggedBy v m ≡ true → (t : Bool) → ltb (length work) (length body) ≡ t → slice at end tag ≡ encode v m r ++ rest
+      → Back v false begin at end tag work r rest ⊎ NoRoom false
+  flagged-any f true t e = inr (flagged-refused f t e)
+  flagged-any f false t e = inl (flagged-back f (ltb-false (length work) (length body) t) e)
+
+  any-by : (w f : Bool) → wholeBy v m ≡ w → flaggedBy v m ≡ f → slice at end (source w tag work) ≡ encode v m r ++ rest
+      → Back v w begin at end tag work r rest ⊎ NoRoom w
+  any-by w false ew ef e = inl (plain-back w ef e)
+  any-by false true ew ef e = flagged-any ef (ltb (length work) (length body)) refl e
+  any-by true true ew ef e = absurd (never-both v m ew ef)
+
+  -- shows the record, or is refused with 14
+  pub step-any : slice at end (source (wholeBy v m) tag work) ≡ encode v m r ++ rest → Back v (wholeBy v m) begin at end tag work r rest ⊎ NoRoom (wholeBy v m)
+  step-any e = any-by (wholeBy v m) (flaggedBy v m) refl refl e
+
+  -- where nothing is flagged
+  pub step-plain : flaggedBy v m ≡ false → slice at end (source (wholeBy v m) tag work) ≡ encode v m r ++ rest
+      → Back v (wholeBy v m) begin at end tag work r rest
+  step-plain f e = plain-back (wholeBy v m) f e

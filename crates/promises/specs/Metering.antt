@@ -7,9 +7,10 @@ use Rattle.format.specs.Record.{Content, text, popularimeter, table, chapter, c
 use Rattle.meter.specs.Meter.{meterOpenOf, oneMore, nextOf}
 use Rattle.meter.specs.declared.Meter.{Meter}
 use Rattle.meter.specs.declared.Metered.{Metered}
+use Rattle.meter.specs.Answers.{openedNumber, openedMeter, nextNumber, nextMetered, nextMeter}
 use Rattle.meter.specs.declared.MeterOpened.{MeterOpened}
 use Rattle.meter.specs.declared.Next.{Next}
-use Rattle.promises.specs.Reading.{Ending, ended, refused, unfinished}
+use Rattle.promises.specs.Reading.{Ending, refused, unfinished, endingOf}
 
 -- ---- the whole popularimeters of a list of records
 
@@ -59,20 +60,27 @@ abbrev pub countedOf : Metered → List ℕ → List ℕ → Counted
 countedOf p tag work =
     record { user = part (p .user) (pick (p .in_work) work tag); rating = p .rating; counter = p .counter; frame = p .frame }
 
+-- by a call's number and its none or one popularimeter
+abbrev pub onNumber : (Meter → List ℕ → Metering) → List ℕ → ℕ → List Metered → Meter → List ℕ → Metering
+onNumber go tag k [] m work = stopped (endingOf k) (m ∷ [])
+onNumber go tag k (p ∷ l) m work = andCounted (countedOf p tag work) (go m work)
+
 abbrev pub onNext : (Meter → List ℕ → Metering) → List ℕ → Next → List ℕ → Metering
-onNext go tag (Next.Found p m) work = andCounted (countedOf p tag work) (go m work)
-onNext go tag (Next.End m) work = stopped ended (m ∷ [])
-onNext go tag (Next.Refused k m) work = stopped (refused k) (m ∷ [])
+onNext go tag x work = onNumber go tag (nextNumber x) (nextMetered x) (nextMeter x) work
 
 -- in at most so many calls
 unfoldable pub meterFrom : ℕ → List ℕ → Meter → List ℕ → Metering
 meterFrom zero tag m work = stopped unfinished (m ∷ [])
 meterFrom (suc n) tag m work = onNext (meterFrom n tag) tag (nextOf m tag work .0) (nextOf m tag work .1)
 
-abbrev pub onMeter : ℕ → List ℕ → MeterOpened → List ℕ → Metering
-onMeter n tag (MeterOpened.Ready m) work = meterFrom n tag m work
-onMeter n tag (MeterOpened.Refused k) work = stopped (refused k) []
+-- by opening's number and its none or one meter
+abbrev pub onMeter : ℕ → List ℕ → ℕ → List Meter → List ℕ → Metering
+onMeter n tag k [] work = stopped (refused k) []
+onMeter n tag k (m ∷ l) work = meterFrom n tag m work
+
+abbrev pub onOpen : ℕ → List ℕ → MeterOpened → List ℕ → Metering
+onOpen n tag x work = onMeter n tag (openedNumber x) (openedMeter x) work
 
 -- as many calls as the tag has bytes are enough
 unfoldable pub meterAll : List ℕ → List ℕ → Metering
-meterAll tag work = onMeter (length tag) tag (meterOpenOf tag work .0) (meterOpenOf tag work .1)
+meterAll tag work = onOpen (length tag) tag (meterOpenOf tag work .0) (meterOpenOf tag work .1)

@@ -1,6 +1,6 @@
 -- What is promised of the meter, on the definitions alone: what is counted is what was read, and what was written; and the marks are true. Assumes nothing.
 use mathlib.Core.Path.{_≡_}
-use Prim.Native.Nat.{ℕ, _+_, _%_, _^_, _≤_}
+use Prim.Native.Nat.{ℕ, suc, _+_, _%_, _^_, _≤_}
 use mathlib.Core.Bool.{Bool, true, false, _&&_, _||_}
 use mathlib.Core.Logic.{_↔_}
 use mathlib.Core.List.{List, [], _∷_}
@@ -11,11 +11,10 @@ use Rattle.format.specs.Header.{editionOf, versionOf}
 use Rattle.format.specs.Record.{Content, text, popularimeter, table, chapter, contents, raw, Rec}
 use Rattle.format.specs.declared.Version.{Version}
 use Rattle.walk.specs.Passing.{isMeterId}
-use Rattle.meter.specs.Meter.{isMissing, meterOpenOf, nextOf}
+use Rattle.meter.specs.Meter.{isMissing, meterOpenOf, Nexted, nextOf}
+use Rattle.meter.specs.Answers.{openedMeter, nextNumber, nextMetered, nextMeter}
 use Rattle.meter.specs.declared.Meter.{Meter}
-use Rattle.meter.specs.declared.MeterOpened.{MeterOpened}
-use Rattle.meter.specs.declared.Next.{Next}
-use Rattle.promises.specs.Written.{Written}
+use Rattle.promises.specs.Written.{WrittenAs, Written, keptOf}
 use Rattle.promises.specs.Reading.{ended, unfinished, readAll}
 use Rattle.promises.specs.Metering.{Counted, countersOf, meterAll}
 
@@ -38,10 +37,10 @@ pub record Marked (tag : List ℕ) (records : List Rec) (m : Meter) : Type 0 whe
   pub missing : m .missing ≡ isMissing tag
   pub frames : m .frames ≡ length records % 2 ^ 64
 
--- no meter where opening was refused, else one that says what is true
-pub data Last (tag : List ℕ) (records : List Rec) : MeterOpened → List Meter → Type 0 where
-  none : {k : ℕ} → Last tag records (MeterOpened.Refused k) []
-  one : {first m : Meter} → Marked tag records m → Last tag records (MeterOpened.Ready first) (m ∷ [])
+-- no meter where opening gave none, else one that says what is true
+pub data Last (tag : List ℕ) (records : List Rec) : List Meter → List Meter → Type 0 where
+  none : Last tag records [] []
+  one : {first m : Meter} → Marked tag records m → Last tag records (first ∷ []) (m ∷ [])
 
 -- ---- any bytes
 
@@ -50,20 +49,26 @@ abbrev pub MeterReads : Type 0
 MeterReads = (tag work : List ℕ)
     → (meterAll tag work .counted ≡ countersOf (readAll tag work .0))
     × (meterAll tag work .ending ≡ readAll tag work .1)
-    × Last tag (readAll tag work .0) (meterOpenOf tag work .0) (meterAll tag work .last)
+    × Last tag (readAll tag work .0) (openedMeter (meterOpenOf tag work .0)) (meterAll tag work .last)
 
 -- Every metering of a whole tag ends or is refused.
 abbrev pub MeterFinishes : Type 0
 MeterFinishes = (tag work : List ℕ) → meterAll tag work .ending ≡ unfinished → ⊥
 
+-- what a call answers that finds nothing: its number, no popularimeter, the meter and the work buffer as they came
+abbrev pub MeterStays : ℕ → Meter → List ℕ → Nexted → Type 0
+MeterStays k m work o = (nextNumber (o .0) ≡ k) × (nextMetered (o .0) ≡ []) × (nextMeter (o .0) ≡ m) × (o .1 ≡ work)
+
 -- A refused meter stays refused with its number, an ended one ended, whatever buffers come with it.
 abbrev pub MeterStaysRefused : Type 0
-MeterStaysRefused = (m m′ : Meter) (tag work left tag′ work′ : List ℕ) (k : ℕ)
-    → nextOf m tag work ≡ (Next.Refused k m′, left) → nextOf m′ tag′ work′ ≡ (Next.Refused k m′, work′)
+MeterStaysRefused = (m : Meter) (tag work tag′ work′ : List ℕ) (k : ℕ) →
+    let x = nextOf m tag work .0 in
+    nextNumber x ≡ suc k → MeterStays (suc k) (nextMeter x) work′ (nextOf (nextMeter x) tag′ work′)
 
 abbrev pub MeterStaysEnded : Type 0
-MeterStaysEnded = (m m′ : Meter) (tag work left tag′ work′ : List ℕ)
-    → nextOf m tag work ≡ (Next.End m′, left) → nextOf m′ tag′ work′ ≡ (Next.End m′, work′)
+MeterStaysEnded = (m : Meter) (tag work tag′ work′ : List ℕ) →
+    let x = nextOf m tag work .0 in
+    nextNumber x ≡ 0 → nextMetered x ≡ [] → MeterStays 0 (nextMeter x) work′ (nextOf (nextMeter x) tag′ work′)
 
 -- ---- a written tag
 
@@ -79,6 +84,13 @@ abbrev pub MeterWritten : Type 0
 MeterWritten = (version mode padding : ℕ) (records : List Rec) (tag work : List ℕ)
     → Written version mode padding records tag → length tag ≤ length work
     → (m : Meter) × (meterAll tag work ≡ record { counted = countersOf records; ending = ended; last = m ∷ [] }) × Clear records m
+
+-- With the altered mark on or off: those of the records that are kept.
+abbrev pub MeterKept : Type 0
+MeterKept = (version mode padding : ℕ) (altered : Bool) (records : List Rec) (tag work : List ℕ)
+    → WrittenAs version mode altered padding records tag → length tag ≤ length work →
+    let kept = keptOf (versionOf version) altered records in
+    (m : Meter) × (meterAll tag work ≡ record { counted = countersOf kept; ending = ended; last = m ∷ [] }) × Clear kept m
 
 -- ---- one user's counters
 
@@ -122,3 +134,8 @@ OwedRead = (user tag work : List ℕ) → total user (meterAll tag work .counted
 abbrev pub OwedWritten : Type 0
 OwedWritten = (version mode padding : ℕ) (records : List Rec) (user tag work : List ℕ)
     → Written version mode padding records tag → length tag ≤ length work → total user (meterAll tag work .counted) ≡ owed user records
+
+abbrev pub OwedKept : Type 0
+OwedKept = (version mode padding : ℕ) (altered : Bool) (records : List Rec) (user tag work : List ℕ)
+    → WrittenAs version mode altered padding records tag → length tag ≤ length work
+    → total user (meterAll tag work .counted) ≡ owed user (keptOf (versionOf version) altered records)

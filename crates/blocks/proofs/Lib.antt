@@ -1,0 +1,22 @@
+-- What holds of blocks.
+pub mod Fronts
+pub mod Seen
+pub mod Sights
+pub mod NoRoom
+pub mod Unresynced
+pub mod Reading
+pub mod Regions
+pub mod Apart
+pub mod Edits
+pub mod Encoded
+pub mod Tails
+pub mod CutUp
+pub mod Headers
+pub mod Opens
+pub mod Places
+pub mod Bodies
+pub mod Counters
+pub mod Plain
+pub mod Writes
+pub mod Anywhere
+pub mod Followed
