@@ -212,7 +212,9 @@ uint32_t sv_meter_open(const uint8_t *tag, size_t tag_len, uint8_t *work, size_t
  * end and on a refusal the words of the popularimeter stay as they were. An ended meter answers SV_END again, a refused one
  * its number.
  *
- * Where it answers SV_END and none of the meter's three marks is set, every popularimeter of the top level was shown.
+ * Where it answers SV_END and none of the meter's three marks is set, every popularimeter of the top level was shown. The
+ * bytes from SV_METER_AT to SV_METER_END, of the work buffer where SV_METER_IN_WORK is 1 and else of the tag, are then what
+ * stands behind the end of the frames: padding as a rule, and nothing that is read.
  */
 uint32_t sv_meter_next(const uint8_t *tag, size_t tag_len, uint8_t *work, size_t work_len, uint64_t *meter, size_t meter_len,
                        uint64_t *metered, size_t metered_len);

@@ -33,7 +33,8 @@ pub struct Ending {
 }
 
 impl Ending {
-    /// Whether every popularimeter of the top level was shown, if the meter has no more.
+    /// Whether every popularimeter of the top level was shown, if the meter has no more. What stands behind the end of
+    /// the frames is none; [`Meter::rest`] lends it.
     pub fn is_whole(&self) -> bool {
         self.refusal.is_none() && !self.short && !self.compressed && !self.missing
     }
@@ -107,6 +108,33 @@ impl<'t, W: Work> Meter<'t, W> {
             compressed: words[SV_METER_COMPRESSED] != 0,
             missing: words[SV_METER_MISSING] != 0,
         }
+    }
+
+    /// The bytes of the tag behind the end of its frames, once the meter has no more: padding as a rule. Before that, and
+    /// after a refusal, it is empty.
+    ///
+    /// Frames end before a zero byte, or where fewer bytes are left than a frame header has. What stands behind that is no
+    /// frame, and neither a reader nor a meter looks at it. A tag that something else wrote wrongly can still have a
+    /// popularimeter there.
+    ///
+    /// ```
+    /// use streamvault::Meter;
+    ///
+    /// let tag = b"ID3\x04\0\0\0\0\0\x12\0\0POPM\0\0\0\x06\0\0a\0\x05\x01\0\0";
+    /// let mut meter = Meter::open(tag, Vec::new())?;
+    /// assert!(meter.rest().is_empty());
+    /// assert!(meter.next_popularimeter().is_none());
+    /// assert!(meter.ending().is_whole());
+    /// assert_eq!(meter.rest(), &tag[10..]);
+    /// # Ok::<(), streamvault::Refusal>(())
+    /// ```
+    pub fn rest(&self) -> &[u8] {
+        let words = self.state.words();
+        if words[SV_METER_STOP] != SV_STOP_ENDED {
+            return &[];
+        }
+        let (at, end) = (words[SV_METER_AT] as usize, words[SV_METER_END] as usize);
+        &self.state.buffer(words[SV_METER_IN_WORK])[at..end]
     }
 }
 

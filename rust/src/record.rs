@@ -3,12 +3,16 @@
 use crate::calls::{self, Given};
 use crate::sys::*;
 use crate::{Encoding, Id, Kind, Refusal};
+use std::hash::{Hash, Hasher};
 
 /// What a frame holds, by its kind.
 ///
 /// `B` is how its bytes are held: `&[u8]` in a [`Frame`], which borrows them, and `Vec<u8>` in a [`Record`], which owns
 /// them. A [`Writer`](crate::Writer) takes either.
-#[derive(Clone, Copy, Debug, PartialEq, Eq, Hash)]
+///
+/// Contents are equal where their fields are. The references of tables are equal where their deviations are: bits that
+/// are left over behind the last whole reference say nothing, and are not written either.
+#[derive(Clone, Copy, Debug)]
 pub enum Content<B> {
     /// A text, undecoded, without its closing zeros.
     Text {
@@ -153,6 +157,32 @@ impl<B: AsRef<[u8]>> Content<B> {
             Content::Raw { body } => Content::Raw { body: body.as_ref() },
         }
     }
+
+    /// What is compared: all that is handed to the C interface, and of a table the bits of its references.
+    fn compared(&self) -> impl Eq + Hash + '_ {
+        let content = self.borrowed();
+        let mut handed = Handed::empty(Id::from_number(0), content.kind());
+        handed.put(content);
+        let bits = match content {
+            Content::Table { table, packed } => table.bits(packed),
+            _ => Bits::default(),
+        };
+        (handed.words, handed.name, handed.names, handed.rest, bits)
+    }
+}
+
+impl<B: AsRef<[u8]>> PartialEq for Content<B> {
+    fn eq(&self, other: &Content<B>) -> bool {
+        self.compared() == other.compared()
+    }
+}
+
+impl<B: AsRef<[u8]>> Eq for Content<B> {}
+
+impl<B: AsRef<[u8]>> Hash for Content<B> {
+    fn hash<H: Hasher>(&self, state: &mut H) {
+        self.compared().hash(state);
+    }
 }
 
 /// A frame of the top level as it was read. Its bytes are parts of the tag, or of the reader's work buffer, which the
@@ -190,7 +220,8 @@ impl Frame<'_> {
     }
 }
 
-/// A frame with bytes of its own and without its place. What was written and what is read are equal as records.
+/// A frame with bytes of its own and without its place. What was written and what is read are equal as records:
+/// [`Content`] says when contents are equal.
 #[derive(Clone, Debug, PartialEq, Eq, Hash)]
 pub struct Record {
     /// The id.
@@ -239,7 +270,7 @@ pub(crate) fn deviations(table: &Table, packed: &[u8]) -> Result<Vec<u32>, Refus
     let mut words = [0; SV_RECORD_WORDS];
     words[SV_RECORD_KIND] = Kind::Table.word();
     table.put(&mut words);
-    let mut numbers = vec![0; table.most_deviations(packed.len())];
+    let mut numbers = vec![0; 2 * table.references_in(packed.len())];
     let mut count = [0];
     Refusal::of(calls::references(&words, packed, &mut numbers, &mut count))?;
     numbers.truncate(count[0] as usize);
@@ -247,10 +278,30 @@ pub(crate) fn deviations(table: &Table, packed: &[u8]) -> Result<Vec<u32>, Refus
 }
 
 impl Table {
-    /// How many deviations `len` packed bytes hold at most.
-    fn most_deviations(&self, len: usize) -> usize {
-        let bits = usize::from(self.bits_for_bytes) + usize::from(self.bits_for_millis);
-        len.saturating_mul(8).checked_div(bits).map_or(0, |references| references * 2)
+    /// How many bits a reference has.
+    fn width(&self) -> usize {
+        usize::from(self.bits_for_bytes) + usize::from(self.bits_for_millis)
+    }
+
+    /// How many references `len` packed bytes hold whole.
+    fn references_in(&self, len: usize) -> usize {
+        len.saturating_mul(8).checked_div(self.width()).unwrap_or(0)
+    }
+
+    /// Whether its references can be unpacked: each width is 1 to 32.
+    fn unpacks(&self) -> bool {
+        [self.bits_for_bytes, self.bits_for_millis].iter().all(|width| (1..=32).contains(width))
+    }
+
+    /// The bits of the references that packed bytes hold whole; all bits where they cannot be unpacked.
+    fn bits<'a>(&self, packed: &'a [u8]) -> Bits<'a> {
+        if !self.unpacks() {
+            return Bits { count: packed.len().saturating_mul(8), bytes: packed, last: 0 };
+        }
+        let count = self.references_in(packed.len()) * self.width();
+        let (bytes, behind) = packed.split_at(count / 8);
+        let others = 0xFF_u8 >> (count % 8);
+        Bits { count, bytes, last: behind.first().map_or(0, |last| last & !others) }
     }
 
     /// Puts the steps and the widths into the words of a record.
@@ -261,6 +312,17 @@ impl Table {
         words[SV_TABLE_BITS_FOR_BYTES] = u64::from(self.bits_for_bytes);
         words[SV_TABLE_BITS_FOR_MILLIS] = u64::from(self.bits_for_millis);
     }
+}
+
+/// Packed bits.
+#[derive(Default, PartialEq, Eq, Hash)]
+struct Bits<'a> {
+    /// How many there are.
+    count: usize,
+    /// The bytes that they fill.
+    bytes: &'a [u8],
+    /// The byte behind those, with zeros in place of other bits.
+    last: u8,
 }
 
 // ---- from words
@@ -363,21 +425,20 @@ pub(crate) struct Handed<'a> {
 }
 
 impl<'a> Handed<'a> {
-    /// A record with these marks. The references of a table that is given packed are unpacked.
-    pub(crate) fn new(
-        id: Id,
-        short: bool,
-        compressed: bool,
-        content: Content<&'a [u8]>,
-    ) -> Result<Handed<'a>, Refusal> {
+    /// A record with these marks. The references of a table that is given packed are unpacked. Where its widths do not
+    /// let them none are handed on: the library refuses such a table, and says which of its faults comes first.
+    pub(crate) fn new(id: Id, short: bool, compressed: bool, content: Content<&'a [u8]>) -> Handed<'a> {
         let mut handed = Handed::empty(id, content.kind());
         handed.words[SV_RECORD_SHORT] = u64::from(short);
         handed.words[SV_RECORD_COMPRESSED] = u64::from(compressed);
-        if let Content::Table { table, packed } = content {
-            handed.deviations = deviations(&table, packed)?;
+        match content {
+            Content::Table { table, packed } if table.unpacks() => {
+                handed.deviations = deviations(&table, packed).expect("widths from 1 to 32 are unpacked");
+            }
+            _ => {}
         }
         handed.put(content);
-        Ok(handed)
+        handed
     }
 
     /// A lookup table with these references.

@@ -48,7 +48,7 @@ impl<'t, W: Work, const N: usize> State<'t, W, N> {
     }
 
     /// The buffer that a found part lies in, by its word `in_work`.
-    pub fn buffer(&mut self, in_work: u64) -> &[u8] {
+    pub fn buffer(&self, in_work: u64) -> &[u8] {
         if in_work != 0 {
             self.work.bytes()
         } else {
@@ -62,7 +62,7 @@ impl<'t, W: Work, const N: usize> State<'t, W, N> {
         let before = self.words;
         let most = self.tag.len().saturating_mul(MOST_DEPTH);
         loop {
-            let answer = call(self.tag, self.work.bytes(), &mut self.words);
+            let answer = call(self.tag, self.work.bytes_mut(), &mut self.words);
             if answer != SV_WORK_TOO_SMALL || !self.work.grow(most) {
                 return answer;
             }

@@ -10,14 +10,21 @@ pub(crate) const MOST_DEPTH: usize = 8;
 /// suffices for every tag; it may be empty at first.
 pub trait Work {
     /// The buffer as it is now.
-    fn bytes(&mut self) -> &mut [u8];
+    fn bytes(&self) -> &[u8];
+
+    /// The same, to be written to.
+    fn bytes_mut(&mut self) -> &mut [u8];
 
     /// Makes the buffer longer, up to `most` bytes; false where it stays as it was.
     fn grow(&mut self, most: usize) -> bool;
 }
 
 impl Work for &mut [u8] {
-    fn bytes(&mut self) -> &mut [u8] {
+    fn bytes(&self) -> &[u8] {
+        self
+    }
+
+    fn bytes_mut(&mut self) -> &mut [u8] {
         self
     }
 
@@ -27,7 +34,11 @@ impl Work for &mut [u8] {
 }
 
 impl<const N: usize> Work for &mut [u8; N] {
-    fn bytes(&mut self) -> &mut [u8] {
+    fn bytes(&self) -> &[u8] {
+        &self[..]
+    }
+
+    fn bytes_mut(&mut self) -> &mut [u8] {
         &mut self[..]
     }
 
@@ -37,7 +48,11 @@ impl<const N: usize> Work for &mut [u8; N] {
 }
 
 impl Work for Vec<u8> {
-    fn bytes(&mut self) -> &mut [u8] {
+    fn bytes(&self) -> &[u8] {
+        self
+    }
+
+    fn bytes_mut(&mut self) -> &mut [u8] {
         self
     }
 
@@ -52,7 +67,11 @@ impl Work for Vec<u8> {
 }
 
 impl Work for &mut Vec<u8> {
-    fn bytes(&mut self) -> &mut [u8] {
+    fn bytes(&self) -> &[u8] {
+        self
+    }
+
+    fn bytes_mut(&mut self) -> &mut [u8] {
         self
     }
 

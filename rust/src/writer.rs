@@ -61,13 +61,13 @@ impl Writer {
     /// Adds a frame, and gives the bytes that it took: 0 where the frame was left out. The references of a table are
     /// given packed, as they were read; [`add_table`](Writer::add_table) packs them.
     pub fn add<B: AsRef<[u8]>>(&mut self, id: impl Into<Id>, content: &Content<B>) -> Result<usize, Refusal> {
-        self.append(&Handed::new(id.into(), false, false, content.borrowed())?)
+        self.append(&Handed::new(id.into(), false, false, content.borrowed()))
     }
 
     /// Adds a record.
     pub fn add_record(&mut self, record: &Record) -> Result<usize, Refusal> {
         let content = record.content.borrowed();
-        self.append(&Handed::new(record.id, record.short, record.compressed, content)?)
+        self.append(&Handed::new(record.id, record.short, record.compressed, content))
     }
 
     /// Adds a frame as it was read, without a copy in between.
@@ -85,7 +85,7 @@ impl Writer {
     /// # Ok::<(), streamvault::Refusal>(())
     /// ```
     pub fn add_frame(&mut self, frame: &Frame<'_>) -> Result<usize, Refusal> {
-        self.append(&Handed::new(frame.id, frame.short, frame.compressed, frame.content)?)
+        self.append(&Handed::new(frame.id, frame.short, frame.compressed, frame.content))
     }
 
     /// Adds a lookup table with these references.

@@ -40,6 +40,14 @@ fn compressed() -> String {
     "a compressed popularimeter, not counted".to_string()
 }
 
+fn cut_header(at: u32) -> String {
+    format!("a frame header at byte {at}, cut by the end of the tag, not read")
+}
+
+fn behind_frames(id: &str, at: u32) -> String {
+    format!("the id {id} at byte {at}, behind the frames, not read")
+}
+
 fn second(at: u32) -> String {
     format!("a second tag at byte {at}, not read")
 }
@@ -85,9 +93,9 @@ samples! {
     cut_between_frames_22: "cut-between-frames-2.2", "7 from 1", [cut(72, 96, 1)];
     cut_between_frames_23: "cut-between-frames-2.3", "7 from 1", [cut(92, 120, 1)];
     cut_between_frames_24: "cut-between-frames-2.4", "7 from 1", [cut(92, 120, 1)];
-    cut_in_frame_header_22: "cut-in-frame-header-2.2", "7 from 1", [cut(76, 96, 1)];
-    cut_in_frame_header_23: "cut-in-frame-header-2.3", "7 from 1", [cut(96, 120, 1)];
-    cut_in_frame_header_24: "cut-in-frame-header-2.4", "7 from 1", [cut(96, 120, 1)];
+    cut_in_frame_header_22: "cut-in-frame-header-2.2", "7 from 1", [cut(76, 96, 1), behind_frames("POP", 72)];
+    cut_in_frame_header_23: "cut-in-frame-header-2.3", "7 from 1", [cut(96, 120, 1), behind_frames("POPM", 92)];
+    cut_in_frame_header_24: "cut-in-frame-header-2.4", "7 from 1", [cut(96, 120, 1), behind_frames("POPM", 92)];
     cut_in_picture_22: "cut-in-picture-2.2", "7 from 1", [short(66, 96, 1)];
     cut_in_picture_23: "cut-in-picture-2.3", "7 from 1", [refused(5, 1), cut(74, 120, 1)];
     cut_in_picture_24: "cut-in-picture-2.4", "7 from 1", [short(74, 120, 1)];
@@ -104,6 +112,13 @@ samples! {
     cut_unsynchronised_23: "cut-unsynchronised-2.3", "7 from 1", [refused(5, 1), cut(80, 121, 1)];
     cut_unsynchronised_24: "cut-unsynchronised-2.4", "7 from 1", [short(80, 121, 1)];
     short_frame: "short-frame", "7 from 1", [short(112, 112, 1)];
+    small_size_22: "small-size-2.2", "7 from 1", [cut_header(72)];
+    small_size_23: "small-size-2.3", "7 from 1", [cut_header(92)];
+    small_size_24: "small-size-2.4", "7 from 1", [cut_header(92)];
+    behind_padding_22: "behind-padding-2.2", "7 from 1", [behind_frames("POP", 80)];
+    behind_padding_23: "behind-padding-2.3", "7 from 1", [behind_frames("POPM", 100)];
+    behind_padding_24: "behind-padding-2.4", "7 from 1", [behind_frames("POPM", 100)];
+    behind_padding_unsynchronised: "behind-padding-unsynchronised", "7 from 1", [behind_frames("POPM", 101)];
     refused_edition: "refused-edition", "0 from 0", [refused(2, 0)];
     refused_encrypted: "refused-encrypted", "7 from 1", [refused(8, 1)];
     compressed_23: "compressed-2.3", "300 from 1", [compressed()];

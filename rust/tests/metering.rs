@@ -3,7 +3,9 @@
 mod common;
 
 use common::Numbers;
-use streamvault::{read, sys, Content, Encoding, Ending, Id, Meter, Mode, Reader, Record, Refusal, Version, Writer};
+use streamvault::{
+    read, sys, Content, Encoding, Ending, Id, Meter, Mode, Reader, Record, Refusal, Version, Work, Writer,
+};
 
 /// User, rating, counter and frame number, with bytes of its own.
 type Kept = (Vec<u8>, u8, u64, u64);
@@ -145,6 +147,54 @@ fn what_a_reader_does_not_open_a_meter_refuses() {
         let refusal = Meter::open(tag, Vec::new()).err().unwrap();
         assert_eq!(Some(refusal), Reader::open(tag, Vec::new()).err());
     }
+}
+
+// ---- what the frames leave
+
+/// Lets a meter go to its end, which it has to reach, and gives the rest.
+fn rest_of<W: Work>(tag: &[u8], work: W) -> Vec<u8> {
+    let mut meter = Meter::open(tag, work).unwrap();
+    assert!(meter.rest().is_empty());
+    while let Some(found) = meter.next_popularimeter() {
+        found.unwrap();
+        assert!(meter.rest().is_empty());
+    }
+    meter.rest().to_vec()
+}
+
+#[test]
+fn the_rest_is_lent_after_the_end_also_from_the_work_buffer() {
+    for (version, tag) in tags() {
+        assert_eq!(rest_of(&tag, Vec::new()), []);
+        for rest in [&b"\0"[..], b"\0\0POPM", b"\0\xFF", b"XYZ12", b"\0A\0B\0C\0D\0E\0F\0G\0H"] {
+            let mut long = [&tag[..], rest].concat();
+            let size = long.len() - 10;
+            (long[8], long[9]) = ((size >> 7) as u8, size as u8 & 0x7F);
+            let followed = [&long[..], b"POPM and so on"].concat();
+            let mut work = vec![0; followed.len()];
+            assert_eq!(rest_of(&long, Vec::new()), rest, "{version}");
+            assert_eq!(rest_of(&followed, &mut work[..]), rest, "{version}");
+            // of a tag that is cut it is what is there
+            assert_eq!(rest_of(&long[..long.len() - 1], &mut work), rest[..rest.len() - 1], "{version}");
+        }
+    }
+}
+
+#[test]
+fn the_rest_is_resynchronised_with_the_tag() {
+    for (edition, want) in [(3, &b"\0\xFF\x01\xFF\0"[..]), (4, b"\0\xFF\0\x01\xFF\0\0")] {
+        let tag = [b"ID3", &[edition, 0, 0x80, 0, 0, 0, 7][..], b"\0\xFF\0\x01\xFF\0\0"].concat();
+        assert_eq!(rest_of(&tag, Vec::new()), want);
+    }
+}
+
+#[test]
+fn after_a_refusal_there_is_no_rest() {
+    let tag = b"ID3\x03\0\0\0\0\0\x20PRIV\0\0\0\x7F\0\0and no more of it";
+    let mut meter = Meter::open(tag, Vec::new()).unwrap();
+    assert!(meter.next_popularimeter().unwrap().is_err());
+    assert!(meter.next_popularimeter().is_none());
+    assert!(meter.rest().is_empty());
 }
 
 // ---- work buffers

@@ -47,7 +47,7 @@ fn the_sum_as_comma_separated_values() {
 #[test]
 fn the_sum_of_all_samples_lists_the_damaged_ones() {
     let output = run(&["sum", "samples", "--csv"]);
-    let want = "user,popularimeters,counter\nhex:636166E9,1,0\nroom 1,26,4294967599\nroom 2,11,67983\n";
+    let want = "user,popularimeters,counter\nhex:636166E9,1,0\nroom 1,33,4294967648\nroom 2,11,67983\n";
     assert_eq!(said(&output), (want.to_string(), 1));
     let listed = err(&output);
     assert!(listed.lines().all(|line| line.starts_with("samples/damaged/")), "{listed}");
@@ -61,12 +61,14 @@ fn the_sum_as_json() {
     let (out, status) = said(&run(&["sum", "--json", "samples"]));
     assert_eq!(status, 1);
     for part in [
-        r#"{"user": "room 1", "popularimeters": 26, "counter": "4294967599"}"#,
-        r#""tags": 34,"#,
+        r#"{"user": "room 1", "popularimeters": 33, "counter": "4294967648"}"#,
+        r#""tags": 41,"#,
         r#""without_tag": 3,"#,
         r#"{"file": "samples/damaged/cut-in-popularimeter-2.3.mp3", "number": 5, "meaning": "#,
         r#"{"file": "samples/damaged/short-frame.mp3", "promised": 112, "there": 112, "short_frame": true, "counted_before": 1}"#,
         r#"{"file": "samples/damaged/compressed-2.4.mp3"}"#,
+        r#"{"file": "samples/damaged/small-size-2.2.mp3", "found": "cut frame header", "at": 72}"#,
+        r#"{"file": "samples/damaged/behind-padding-2.3.mp3", "found": "id POPM", "at": 100}"#,
         r#"{"file": "samples/damaged/second-tag.mp3", "found": "second tag", "at": 120}"#,
         r#"{"file": "samples/damaged/tag-at-end.mp3", "found": "footer at the end", "at": 248}"#,
         r#""unreadable": []"#,

@@ -1,6 +1,12 @@
 //! Writing through the safe interface, and reading back.
 
-use streamvault::{read, sys, Content, Encoding, Id, Mode, Reader, Record, Reference, Table, Version, Writer};
+mod common;
+
+use common::Numbers;
+use std::hash::{DefaultHasher, Hash, Hasher};
+use streamvault::{
+    read, references, sys, Content, Encoding, Frame, Id, Mode, Reader, Record, Reference, Table, Version, Writer,
+};
 
 const VERSIONS: [Version; 3] = [Version::Id3v22, Version::Id3v23, Version::Id3v24];
 const MODES: [Mode; 3] = [Mode::Off, Mode::Crate, Mode::Standard];
@@ -79,6 +85,89 @@ fn what_is_written_is_read_back_in_every_edition_and_mode() {
             assert_eq!(read(&tag).unwrap(), records, "{version} {mode:?}");
         }
     }
+}
+
+/// A lookup table of these widths as a record.
+fn table_record(version: Version, widths: (u8, u8), packed: &[u8]) -> Record {
+    let table = Table { frames: 1, bytes: 2, millis: 3, bits_for_bytes: widths.0, bits_for_millis: widths.1 };
+    Record::new(id(version, b"MLL", b"MLLT"), Content::Table { table, packed: packed.to_vec() })
+}
+
+fn hash_of(record: &Record) -> u64 {
+    let mut hasher = DefaultHasher::new();
+    record.hash(&mut hasher);
+    hasher.finish()
+}
+
+#[test]
+fn a_table_with_bits_left_over_is_read_back_equal() {
+    let packed_and_stored = [(&b"\xA5\xC3\x01\xFF"[..], &b"\xA5\xC3\x01"[..]), (b"\xA5\xCF", b"\xA5\xC0")];
+    for version in VERSIONS {
+        for (packed, stored) in packed_and_stored {
+            let given = table_record(version, (4, 8), packed);
+            let back = read(&written(version, Mode::Standard, &[given.clone()], 0)).unwrap();
+            let Content::Table { packed: bytes, .. } = &back[0].content else { panic!("a table is read") };
+            assert_eq!(bytes, stored);
+            assert_eq!(back, [given.clone()]);
+            assert_eq!(hash_of(&back[0]), hash_of(&given));
+        }
+    }
+}
+
+#[test]
+fn tables_are_equal_where_their_steps_widths_and_deviations_are() {
+    let record = |widths, packed: &[u8]| table_record(Version::Id3v24, widths, packed);
+    let one = record((4, 8), &[0xA5, 0xCF]);
+    assert_eq!(one, record((4, 8), &[0xA5, 0xC0]));
+    for other in [
+        record((4, 8), &[0xA5, 0xD0]),
+        record((4, 8), &[0xA5, 0xC3, 0x01]),
+        record((4, 8), &[0xA5]),
+        record((8, 4), &[0xA5, 0xCF]),
+        Record { short: true, ..one.clone() },
+        Record::new(b"PRIV", one.content.clone()),
+        Record::new(b"MLLT", Content::Raw { body: vec![0xA5, 0xCF] }),
+    ] {
+        assert_ne!(one, other);
+    }
+    // widths that cannot be unpacked: all bytes count
+    assert_eq!(record((0, 0), &[1]), record((0, 0), &[1]));
+    for widths in [(0, 0), (0, 12), (33, 3), (255, 255)] {
+        assert_ne!(record(widths, &[1]), record(widths, &[2]));
+        assert_ne!(record(widths, &[1]), record(widths, &[1, 0]));
+    }
+}
+
+#[test]
+fn equal_tables_are_those_with_equal_references() {
+    let mut numbers = Numbers(47);
+    let (mut equal, mut unequal) = (0, 0);
+    for _ in 0..20_000 {
+        let widths = (1 + numbers.below(32) as u8, 1 + numbers.below(32) as u8);
+        let narrow = (1 + numbers.below(4) as u8, 1 + numbers.below(4) as u8);
+        let widths = *numbers.one(&[widths, narrow]);
+        let len = numbers.below(12);
+        let one = numbers.bytes(len);
+        let mut other = one.clone();
+        match numbers.below(3) {
+            0 => other.truncate(numbers.below(len + 1)),
+            1 => other.extend(numbers.bytes(1)),
+            _ => {
+                if let Some(last) = other.last_mut() {
+                    *last ^= 1 << numbers.below(8);
+                }
+            }
+        }
+        let [one, other] = [one, other].map(|packed| table_record(Version::Id3v24, widths, &packed));
+        let [a, b] = [&one, &other].map(|record| match &record.content {
+            Content::Table { table, packed } => references(table, packed).unwrap(),
+            _ => panic!("a table was made"),
+        });
+        assert_eq!(one == other, a == b, "{one:?} {other:?}");
+        assert!(one != other || hash_of(&one) == hash_of(&other), "{one:?} {other:?}");
+        *(if a == b { &mut equal } else { &mut unequal }) += 1;
+    }
+    assert!(equal > 3_000 && unequal > 3_000, "{equal} {unequal}");
 }
 
 #[test]
@@ -224,6 +313,150 @@ fn tables_are_refused_by_the_table() {
     assert_eq!(refused(widths(4, 4), &[Reference { bytes: 16, millis: 0 }]), sys::SV_WRONG_DEVIATION);
     assert_eq!(refused(Table { bytes: 1 << 24, ..widths(4, 4) }, &[]), sys::SV_WRONG_DEVIATION);
     assert_eq!(refused(widths(2, 2), &[Reference { bytes: 3, millis: 1 }]), sys::SV_ODD_REFERENCES);
+}
+
+/// The number that a record is refused with by every way to add it, to a writer of each mode, altered or not.
+fn refused_each_way(version: Version, record: &Record) -> u32 {
+    let content = record.content.borrowed();
+    let Record { id, short, compressed, .. } = *record;
+    let frame = Frame { id, at: 0, short, compressed, body: b"", content };
+    let mut answers = Vec::new();
+    for mut writer in MODES.into_iter().flat_map(|mode| [Writer::new(version, mode), Writer::altered(version, mode)]) {
+        answers.push(writer.add_record(record));
+        answers.push(writer.add_frame(&frame));
+        if !short && !compressed {
+            answers.push(writer.add(id, &content));
+        }
+        assert_eq!(writer.used(), 0);
+    }
+    let number = answers[0].unwrap_err().number();
+    assert!(answers.iter().all(|answer| answer.unwrap_err().number() == number), "{record:?} {answers:?}");
+    number
+}
+
+/// Takes the faults of a record away one by one: it is refused with these numbers in their order.
+fn refused_in_order(version: Version, mut record: Record, faults: &[(u32, &dyn Fn(&mut Record))]) {
+    for (number, mend) in faults {
+        assert_eq!(refused_each_way(version, &record), *number, "{record:?}");
+        mend(&mut record);
+    }
+    assert!(Writer::new(version, Mode::Off).add_record(&record).is_ok(), "{record:?}");
+}
+
+/// A record with both marks set, under an id that no edition has.
+fn marked(content: Content<&[u8]>) -> Record {
+    let content = content.map(<[u8]>::to_vec);
+    Record { id: b"abcd".into(), short: true, compressed: true, content }
+}
+
+fn whole(record: &mut Record) {
+    (record.short, record.compressed) = (false, false);
+}
+
+fn set_table(record: &mut Record, set: impl Fn(&mut Table)) {
+    let Content::Table { table, .. } = &mut record.content else { panic!("the record is a table") };
+    set(table);
+}
+
+#[test]
+fn the_first_fault_of_a_table_is_the_librarys_to_say() {
+    // the two that were once answered by the unpacking
+    let table = Content::Table { table: Table::default(), packed: &[][..] };
+    assert_eq!(refused(Version::Id3v24, b"abcd", &table), sys::SV_WRONG_ID);
+    let mut record = Record::new(b"MLLT", table.map(<[u8]>::to_vec));
+    record.short = true;
+    assert_eq!(refused_each_way(Version::Id3v24, &record), sys::SV_NOT_WRITABLE);
+
+    for version in VERSIONS {
+        for packed in [&[][..], &[1, 2, 3, 4, 5]] {
+            let table = Table { frames: 0, bytes: 1 << 24, millis: 0, bits_for_bytes: 0, bits_for_millis: 3 };
+            refused_in_order(
+                version,
+                marked(Content::Table { table, packed }),
+                &[
+                    (sys::SV_WRONG_ID, &|record| record.id = id(version, b"MLL", b"MLLT")),
+                    (sys::SV_NOT_WRITABLE, &|record| record.compressed = false),
+                    (sys::SV_NOT_WRITABLE, &whole),
+                    (sys::SV_WRONG_WIDTH, &|record| set_table(record, |table| table.bits_for_bytes = 33)),
+                    (sys::SV_WRONG_WIDTH, &|record| set_table(record, |table| table.bits_for_bytes = 32)),
+                    (sys::SV_WIDTHS_NOT_IN_FOURS, &|record| set_table(record, |table| table.bits_for_millis = 4)),
+                    (sys::SV_WRONG_DEVIATION, &|record| set_table(record, |table| table.bytes -= 1)),
+                ],
+            );
+        }
+    }
+}
+
+#[test]
+fn odd_references_come_after_a_wrong_deviation() {
+    let refused = |bytes, pairs: &[Reference]| {
+        let table = Table { bytes, bits_for_bytes: 2, bits_for_millis: 2, ..Table::default() };
+        Writer::new(Version::Id3v24, Mode::Off).add_table(b"MLLT", &table, pairs).unwrap_err().number()
+    };
+    let (good, wide) = (Reference { bytes: 3, millis: 1 }, Reference { bytes: 3, millis: 4 });
+    assert_eq!(refused(1 << 24, &[good]), sys::SV_WRONG_DEVIATION);
+    assert_eq!(refused(0, &[wide]), sys::SV_WRONG_DEVIATION);
+    assert_eq!(refused(0, &[good]), sys::SV_ODD_REFERENCES);
+}
+
+#[test]
+fn the_first_fault_of_other_records_is_the_librarys_to_say() {
+    for version in VERSIONS {
+        let name = |three, four| move |record: &mut Record| record.id = id(version, three, four);
+        refused_in_order(
+            version,
+            marked(text(b"ab\0")),
+            &[
+                (sys::SV_WRONG_ID, &name(b"UFI", b"PRIV")),
+                (sys::SV_WRONG_ID, &name(b"TT2", b"TIT2")),
+                (sys::SV_NOT_WRITABLE, &whole),
+                (sys::SV_TEXT_ENDS_EARLY, &|record| record.content = text(b"a").map(<[u8]>::to_vec)),
+            ],
+        );
+        refused_in_order(
+            version,
+            marked(popularimeter(b"a\0")),
+            &[
+                (sys::SV_WRONG_ID, &name(b"POP", b"POPM")),
+                (sys::SV_NOT_WRITABLE, &whole),
+                (sys::SV_ZERO_IN_NAME, &|record| record.content = popularimeter(b"a").map(<[u8]>::to_vec)),
+            ],
+        );
+    }
+    let empty = marked(Content::Raw { body: b"" });
+    refused_in_order(
+        Version::Id3v22,
+        empty,
+        &[
+            (sys::SV_WRONG_ID, &|record| record.id = b"TT2".into()),
+            (sys::SV_NOT_WRITABLE, &whole),
+            (sys::SV_NOT_WRITABLE, &|record| record.id = b"UFI".into()),
+            (sys::SV_EMPTY_BODY, &|record| record.content = Content::Raw { body: vec![1] }),
+        ],
+    );
+}
+
+#[test]
+fn the_first_fault_of_a_chapter_is_the_librarys_to_say() {
+    let with = |element: &'static [u8], children: &'static [u8], run: &'static [u8]| {
+        let content = Content::Contents { element, top_level: false, ordered: false, children, run };
+        move |record: &mut Record| record.content = content.map(<[u8]>::to_vec)
+    };
+    for version in [Version::Id3v23, Version::Id3v24] {
+        let mut record = marked(contents(b""));
+        with(b"\0", b"c", b"\0")(&mut record);
+        refused_in_order(
+            version,
+            record,
+            &[
+                (sys::SV_WRONG_ID, &|record| record.id = b"CTOC".into()),
+                (sys::SV_NOT_WRITABLE, &whole),
+                (sys::SV_ZERO_IN_NAME, &with(b"", b"c", b"\0")),
+                (sys::SV_WRONG_CHILDREN, &with(b"", b"c\0", b"\0")),
+                (sys::SV_WRONG_RUN, &with(b"", b"c\0", b"")),
+            ],
+        );
+    }
 }
 
 #[test]

@@ -15,8 +15,11 @@ pub fn files() -> Result<Vec<(String, Vec<u8>)>, Refusal> {
         for (name, bytes) in cut(version)? {
             files.push((format!("cut-{name}-{version}"), bytes));
         }
+        for (name, bytes) in behind_frames(version)? {
+            files.push((format!("{name}-{version}"), bytes));
+        }
     }
-    let others = [cut_otherwise()?, refused()?, compressed()?, with_further_tags()?];
+    let others = [cut_otherwise()?, unsynchronised_behind_frames()?, refused()?, compressed()?, with_further_tags()?];
     files.extend(others.into_iter().flatten().map(|(name, bytes)| (name.to_string(), bytes)));
     Ok(files)
 }
@@ -79,6 +82,38 @@ fn cut_otherwise() -> Result<Named, Refusal> {
         ("cut-unsynchronised-2.4", most(song(Version::Id3v24, Mode::Standard, PADDING)?)),
         ("short-frame", file(&long)),
     ])
+}
+
+/// Frames that are no more looked at: the size in the tag's header is too small, or there is padding before a frame.
+fn behind_frames(version: Version) -> Result<Named, Refusal> {
+    let mut small = song(version, Mode::Off, 0)?;
+    let last = place(&small, LAST)?;
+    let padded = padded_before(last, small.clone());
+    set_size(&mut small, last + 2);
+    Ok(vec![("small-size", file(&small)), ("behind-padding", file(&padded))])
+}
+
+/// The same in a tag that is resynchronised as a whole.
+fn unsynchronised_behind_frames() -> Result<Named, Refusal> {
+    let whole = song(Version::Id3v23, Mode::Standard, 0)?;
+    let last = whole.windows(4).rposition(|four| four == b"POPM").expect("a song has a popularimeter");
+    let padded = padded_before(last, whole);
+    Ok(vec![("behind-padding-unsynchronised", file(&padded))])
+}
+
+/// A tag with padding before the frame at this place.
+fn padded_before(frame: usize, mut tag: Vec<u8>) -> Vec<u8> {
+    tag.splice(frame..frame, [0; PADDING]);
+    let len = tag.len();
+    set_size(&mut tag, len);
+    tag
+}
+
+/// Has a tag's header say that the tag ends at this place.
+fn set_size(tag: &mut [u8], end: usize) {
+    let size = end - 10;
+    assert!(size < 0x80, "a song is short");
+    tag[9] = size as u8;
 }
 
 /// Tags that the library refuses: of an edition that is none, and with an encrypted frame.

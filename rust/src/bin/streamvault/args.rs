@@ -28,6 +28,9 @@ streamvault sum [--csv | --json] [--jobs N] PATH...
     - A cut tag: one with fewer bytes than its header says, or with a frame that
       its end cuts short. The list says how many bytes there should be and are.
     - A tag with a compressed popularimeter.
+    - What stands behind the frames of a tag, which end at the first padding byte
+      or where no whole frame header is left: a frame header that the end of the
+      tag cuts, and the first id of a popularimeter (POPM, in 2.2 POP) up to there.
     - A further tag, which is not summed: directly behind the first one, or at the
       end of the file, where the footer of a 2.4 tag stands last or before an
       ID3v1 tag. Nothing is looked for elsewhere.

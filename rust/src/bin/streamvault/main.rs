@@ -2,6 +2,7 @@
 
 mod args;
 mod files;
+mod left;
 mod list;
 mod parts;
 mod progress;

@@ -1,5 +1,6 @@
 //! A sum as a table, as comma-separated values and as JSON.
 
+use crate::left::Left;
 use crate::parts::Further;
 use crate::show;
 use crate::sum::{Lack, Problem, Sum};
@@ -52,6 +53,8 @@ fn told(lack: &Lack) -> String {
             format!("cut: {there} bytes of a tag of {promised} are there{short} ({})", before(*counted))
         }
         Lack::Compressed => "a compressed popularimeter, not counted".to_string(),
+        Lack::Left(Left::CutHeader(at)) => format!("a frame header at byte {at}, cut by the end of the tag, not read"),
+        Lack::Left(Left::Id(id, at)) => format!("the id {id} at byte {at}, behind the frames, not read"),
         Lack::Further(Further::Second(at)) => format!("a second tag at byte {at}, not read"),
         Lack::Further(Further::AtEnd(at)) => format!("a tag at the end, its footer at byte {at}, not read"),
         Lack::Unreadable(error) => format!("not readable: {error}"),
@@ -90,7 +93,7 @@ pub fn json(sum: &Sum, out: &mut dyn Write) -> io::Result<()> {
     writeln!(out, "  \"further_names\": {},", sum.again)?;
     writeln!(out, "  \"links_not_followed\": {},", sum.links)?;
     let named = |name| list(sum.problems.iter().filter_map(move |problem| item(problem, name)));
-    for name in ["refused", "cut", "compressed", "further_tags"] {
+    for name in ["refused", "cut", "compressed", "behind_frames", "further_tags"] {
         writeln!(out, "  \"{name}\": {},", named(name))?;
     }
     writeln!(out, "  \"unreadable\": {}", named("unreadable"))?;
@@ -127,6 +130,8 @@ fn listed(lack: &Lack) -> (&'static str, String) {
             ),
         ),
         Lack::Compressed => ("compressed", String::new()),
+        Lack::Left(Left::CutHeader(at)) => ("behind_frames", format!(", \"found\": \"cut frame header\", \"at\": {at}")),
+        Lack::Left(Left::Id(id, at)) => ("behind_frames", format!(", \"found\": \"id {id}\", \"at\": {at}")),
         Lack::Further(Further::Second(at)) => ("further_tags", format!(", \"found\": \"second tag\", \"at\": {at}")),
         Lack::Further(Further::AtEnd(at)) => ("further_tags", format!(", \"found\": \"footer at the end\", \"at\": {at}")),
         Lack::Unreadable(error) => ("unreadable", format!(", \"why\": {}", show::json(&error.to_string()))),
@@ -149,6 +154,8 @@ mod tests {
         sum.list("r.mp3", Lack::Cut { promised: 70, there: 62, short: false, counted: 1 });
         sum.list("s.mp3", Lack::Cut { promised: 70, there: 70, short: true, counted: 0 });
         sum.list("s.mp3", Lack::Compressed);
+        sum.list("s.mp3", Lack::Left(Left::CutHeader(66)));
+        sum.list("s.mp3", Lack::Left(Left::Id("POPM", 67)));
         sum.list("t.mp3", Lack::Further(Further::Second(70)));
         sum.list("t.mp3", Lack::Further(Further::AtEnd(700)));
         sum.list("u.mp3", Lack::Unreadable(io::Error::other("gone")));
@@ -166,6 +173,8 @@ r.mp3: refused 1: fewer than ten bytes, or they do not begin with "ID3" (popular
 r.mp3: cut: 62 bytes of a tag of 70 are there (popularimeters counted before it: 1)
 s.mp3: cut: 70 bytes of a tag of 70 are there, a frame is short (popularimeters counted before it: 0)
 s.mp3: a compressed popularimeter, not counted
+s.mp3: a frame header at byte 66, cut by the end of the tag, not read
+s.mp3: the id POPM at byte 67, behind the frames, not read
 t.mp3: a second tag at byte 70, not read
 t.mp3: a tag at the end, its footer at byte 700, not read
 u.mp3: not readable: gone
@@ -211,6 +220,10 @@ in all 12345683 from 3 popularimeters
   ],
   "compressed": [
     {"file": "s.mp3"}
+  ],
+  "behind_frames": [
+    {"file": "s.mp3", "found": "cut frame header", "at": 66},
+    {"file": "s.mp3", "found": "id POPM", "at": 67}
   ],
   "further_tags": [
     {"file": "t.mp3", "found": "second tag", "at": 70},

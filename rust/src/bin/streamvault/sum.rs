@@ -4,6 +4,7 @@
 //! front. Those inside chapters do not count. All that may be missing from the sum is listed.
 
 use crate::files::{Files, Met};
+use crate::left::{left, Left};
 use crate::parts::{Further, Parts, KEPT};
 use crate::progress::Progress;
 use crate::show;
@@ -75,6 +76,8 @@ pub enum Lack {
     },
     /// It has a compressed popularimeter.
     Compressed,
+    /// Something stands behind the frames of its tag.
+    Left(Left),
     /// It has a further tag.
     Further(Further),
     /// It cannot be read.
@@ -176,7 +179,9 @@ impl Sum {
             self.add(found.user, Total::of(found.counter))?;
             counted += 1;
         }
-        Ok(lacks(tag, &meter.ending(), counted))
+        let mut lacks = lacks(tag, &meter.ending(), counted);
+        lacks.extend(left(tag, &meter).map(Lack::Left));
+        Ok(lacks)
     }
 }
 
@@ -378,6 +383,20 @@ mod tests {
         let (sum, lacks) = sum_of(&[&packed]);
         assert_eq!(sum.all, Total { popularimeters: 1, counter: 5 });
         assert_eq!(lacks, ["Compressed"]);
+    }
+
+    #[test]
+    fn what_stands_behind_the_frames_is_told_and_does_not_count() {
+        let whole = tag(Version::Id3v24, &[(b"a", 3), (b"b", 5)]);
+        // the size is too small: the tag ends two bytes into the second frame
+        let mut small = whole.clone();
+        small[9] = 14 + 2;
+        // the first frame's id has a zero: padding begins there
+        let mut padded = whole.clone();
+        padded[10] = 0;
+        let (sum, lacks) = sum_of(&[&small, &padded]);
+        assert_eq!(sum.all, Total { popularimeters: 1, counter: 3 });
+        assert_eq!(lacks, ["Left(CutHeader(24))", "Left(Id(\"POPM\", 24))"]);
     }
 
     #[test]
