@@ -3,3 +3,4 @@ pub mod Headers
 pub mod Utf8
 pub mod Bodies
 pub mod References
+pub mod Answers

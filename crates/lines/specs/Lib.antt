@@ -1,2 +1,3 @@
 -- What the functions that put lines answer.
 pub mod Placed
+pub mod Answers

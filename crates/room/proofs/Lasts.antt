@@ -13,6 +13,7 @@ use Rattle.reader.specs.declared.Opened.{Opened}
 use Rattle.reader.specs.declared.Step.{Step}
 use Rattle.reader.proofs.Opens.{open-refused}
 use Rattle.listed.specs.Lines.{Line, line, headerLine, recordIn, onStep, frameLines, onOpen, openedLines, onHeader, linesOf, textOf}
+use Rattle.reader.proofs.Numbered.{Stopped, OfStep, step-number, OfOpened, open-stopped}
 use Rattle.promises.specs.Reading.{Reading, ended, refused, unfinished, andRecord, readFrom, readFor, readAll}
 use Rattle.promises.specs.Reading as reading
 use Rattle.promises.proofs.Bounds.{finishes}
@@ -54,30 +55,32 @@ one-more n r l c = record {
 -- ---- the frames
 
 module _ (f : ℕ) (tag : List ℕ)
-    (go : (r : Reader) (n : ℕ) (work : List ℕ) → (readFrom f tag r work .1 ≡ unfinished → ⊥) → ClosedFrom n (frameLines f tag r n work) (readFrom f tag r work)) where
-  step-closed : (x : Step) (n : ℕ) (work : List ℕ) → (reading.onStep (readFrom f tag) tag x work .1 ≡ unfinished → ⊥)
+    (go : (r : Reader) (n : ℕ) (work : List ℕ) → Stopped (r .stop) → (readFrom f tag r work .1 ≡ unfinished → ⊥) → ClosedFrom n (frameLines f tag r n work) (readFrom f tag r work)) where
+  step-closed : (x : Step) (n : ℕ) (work : List ℕ) → OfStep x → (reading.onStep (readFrom f tag) tag x work .1 ≡ unfinished → ⊥)
       → ClosedFrom n (onStep (frameLines f tag) n tag x work) (reading.onStep (readFrom f tag) tag x work)
-  step-closed (Step.Frame rec r) n work h =
-      one-more n (viewOf rec tag work) (line (recordIn (r .version) n rec tag work) work) (go r (n + 1) work h)
-  step-closed (Step.End r) n work h = alone n ([], ended) (endLine n) work (ends-here n)
-  step-closed (Step.Refused k r) n work h = alone n ([], refused k) (refusedLine k) work (refuses n [] k)
+  step-closed (Step.Frame rec r) n work s h =
+      one-more n (viewOf rec tag work) (line (recordIn (r .version) n rec tag work) work) (go r (n + 1) work s h)
+  step-closed (Step.End r) n work s h = alone n ([], ended) (endLine n) work (ends-here n)
+  step-closed (Step.Refused zero r) n work s h = absurd (omega (arith, s .0 .0))
+  step-closed (Step.Refused (suc k) r) n work s h = alone n ([], refused (suc k)) (refusedLine (suc k)) work (refuses n [] (suc k))
 
-frames-closed : (f : ℕ) (tag : List ℕ) (r : Reader) (n : ℕ) (work : List ℕ) → (readFrom f tag r work .1 ≡ unfinished → ⊥)
+frames-closed : (f : ℕ) (tag : List ℕ) (r : Reader) (n : ℕ) (work : List ℕ) → Stopped (r .stop) → (readFrom f tag r work .1 ≡ unfinished → ⊥)
     → ClosedFrom n (frameLines f tag r n work) (readFrom f tag r work)
 unfolding frameLines readFrom
-frames-closed zero tag r n work h = absurd (h refl)
-frames-closed (suc f) tag r n work h = step-closed f tag (frames-closed f tag) (stepOf r tag work .0) n (stepOf r tag work .1) h
+frames-closed zero tag r n work s h = absurd (h refl)
+frames-closed (suc f) tag r n work s h =
+    step-closed f tag (frames-closed f tag) (stepOf r tag work .0) n (stepOf r tag work .1) (step-number r tag work s) h
 
 -- ---- a tag
 
-open-closed : (tag : List ℕ) (o : Opened) (work : List ℕ) → (reading.onOpen (length tag) tag o work .1 ≡ unfinished → ⊥)
+open-closed : (tag : List ℕ) (o : Opened) (work : List ℕ) → OfOpened (o, work) → (reading.onOpen (length tag) tag o work .1 ≡ unfinished → ⊥)
     → ClosedFrom 0 (onOpen tag o work) (reading.onOpen (length tag) tag o work)
-open-closed tag (Opened.Ready r) work h = frames-closed (length tag) tag r 0 work h
-open-closed tag (Opened.Refused k) work h = alone 0 ([], refused k) (refusedLine k) work (refuses 0 [] k)
+open-closed tag (Opened.Ready r) work s h = frames-closed (length tag) tag r 0 work s h
+open-closed tag (Opened.Refused k) work s h = alone 0 ([], refused k) (refusedLine k) work (refuses 0 [] k)
 
 opened-closed : (tag work : List ℕ) → ClosedFrom 0 (openedLines tag work) (readAll tag work)
 unfolding openedLines readFor
-opened-closed tag work = open-closed tag (openOf tag work .0) (openOf tag work .1) (finishes tag work)
+opened-closed tag work = open-closed tag (openOf tag work .0) (openOf tag work .1) (open-stopped tag work) (finishes tag work)
 
 -- a refused header is answered by opening with its number
 not-read : (tag work : List ℕ) (k : ℕ) → headerOf tag ≡ Headed.Refused k → readAll tag work ≡ ([], refused k)

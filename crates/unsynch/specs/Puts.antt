@@ -1,6 +1,6 @@
 -- What the functions answer, and what they leave in the lent buffers. Assumes nothing.
 use Prim.Native.Nat.{ℕ, _+_, _^_}
-use mathlib.Core.List.{List, _++_}
+use mathlib.Core.List.{List, [], _∷_, _++_}
 use lib.ListN.{length, take, drop}
 use lib.Seq.{slice, sets}
 use lib.Dec.{ltb}
@@ -36,7 +36,7 @@ putOf k u at out = pick (ltb (length out) (at + length u)) (Put.Refused k, out) 
 abbrev pub placedOf : List ℕ → ℕ → List ℕ → Out
 placedOf u at out = putOf 20 u at out
 
--- document 01's number for every case of the answers: 0 is no refusal
+-- document 01's number and value for every case of the answers: number 0 is no refusal, and a refusal has no value
 abbrev pub encodedNumber : Encoded → ℕ
 encodedNumber (Encoded.Word w) = 0
 encodedNumber (Encoded.Refused k) = k
@@ -44,3 +44,12 @@ encodedNumber (Encoded.Refused k) = k
 abbrev pub putNumber : Put → ℕ
 putNumber (Put.Bytes n) = 0
 putNumber (Put.Refused k) = k
+
+abbrev pub encodedWord : Encoded → List ℕ
+encodedWord (Encoded.Word w) = w ∷ []
+encodedWord (Encoded.Refused k) = []
+
+-- a refused call has count 0
+abbrev pub putCount : Put → ℕ
+putCount (Put.Bytes n) = n
+putCount (Put.Refused k) = 0
