@@ -2,6 +2,7 @@
 use mathlib.Core.Path.{_≡_, refl, ap, _∙_}
 use Prim.Native.Nat.{ℕ, suc, _+_, _^_, _≤_, _<_}
 use native.Mathlib.Omega.{arith}
+use native.Mathlib.Nat.{min-eq-left}
 use mathlib.Core.Bool.{Bool, true, false}
 use mathlib.Core.List.{List, [], _∷_, _++_}
 use lib.ListN.{length, set, getD, drop, List·getD-append}
@@ -22,7 +23,7 @@ use Rattle.capi.specs.declared.words.GivenReader.{GivenReader}
 use Rattle.capi.specs.declared.words.GivenWriter.{GivenWriter}
 use Rattle.capi.specs.declared.records.GivenFields.{GivenFields}
 use Rattle.capi.specs.declared.records.GivenHeading.{GivenHeading}
-use Rattle.capi.specs.Words.{word, flag, isFlag, isVersion, versionNumber, modeNumber, stopNumber, failure, isStop, stopOf, readerList, readerWords, readerOf, headerWords, writerList, writerWords, writerOf, numbersOf, headingList, placeList, recordWords, fieldsOf, headingOf, StopFits, FieldsFit, HeadingFits}
+use Rattle.capi.specs.Words.{word, flag, isFlag, isVersion, versionNumber, modeNumber, stopNumber, failure, isStop, stopOf, readerList, readerWords, readerOf, headerWords, writerList, writerWords, writerOf, numbersOf, headingList, placeList, recordWords, cap8, cap32, fieldsOf, isMark, headingOf, StopFits, FieldsFit, HeadingFits}
 
 -- ---- words
 
@@ -55,6 +56,10 @@ flag-back : (b : Bool) → eqb (flag b) 1 ≡ b
 flag-back true = refl
 flag-back false = refl
 
+mark-back : (b : Bool) → isMark (flag b) ≡ b
+mark-back true = refl
+mark-back false = refl
+
 mode-known : (m : Mode) → leb (modeNumber m) 2 ≡ true
 mode-known Mode.Off = refl
 mode-known Mode.Crate = refl
@@ -75,11 +80,17 @@ stop-back Stop.Running = refl
 stop-back Stop.Ended = refl
 stop-back (Stop.Failed k) = refl
 
+fits-8 : (n : ℕ) → n < 2 ^ 8 → cap8 n ≡ n
+fits-8 n h = min-eq-left (omega arith)
+
+fits-32 : (n : ℕ) → n < 2 ^ 32 → cap32 n ≡ n
+fits-32 n h = min-eq-left (omega arith)
+
 fields-back : (f : Fields) → FieldsFit f → fieldsOf (numbersOf f .kind) (numbersOf f .a) (numbersOf f .b) (numbersOf f .c) (numbersOf f .d) (numbersOf f .e) ≡ GivenFields.Good f
 unfolding fieldsOf
-fields-back (Fields.Text e) fits = rw (lt-ltb e 256 fits)
+fields-back (Fields.Text e) fits = rw (fits-8 e fits)
 fields-back (Fields.Popularimeter r c) fits = rw (lt-ltb r 256 fits)
-fields-back (Fields.Table f b m v w) fits = rw (lt-ltb f (2 ^ 16) (fits .0), lt-ltb b (2 ^ 32) (fits .1), lt-ltb m (2 ^ 32) (fits .2), lt-ltb v 256 (fits .3), lt-ltb w 256 (fits .4))
+fields-back (Fields.Table f b m v w) fits = rw (lt-ltb f (2 ^ 16) (fits .0), fits-32 b (fits .1), fits-32 m (fits .2), fits-8 v (fits .3), fits-8 w (fits .4))
 fields-back (Fields.Chapter a b c d) fits = rw (lt-ltb a (2 ^ 32) (fits .0), lt-ltb b (2 ^ 32) (fits .1), lt-ltb c (2 ^ 32) (fits .2), lt-ltb d (2 ^ 32) (fits .3))
 fields-back (Fields.Contents t o) fits = rw (flag-known t, flag-known o, flag-back t, flag-back o)
 fields-back Fields.Raw fits = refl
@@ -140,10 +151,8 @@ heading-back r words h fits =
       at 7 (omega arith),
       at 8 (omega arith),
       lt-ltb (r .heading .id) (2 ^ 32) (fits .0),
-      flag-known (r .heading .short),
-      flag-back (r .heading .short),
-      flag-known (r .heading .compressed),
-      flag-back (r .heading .compressed),
+      mark-back (r .heading .short),
+      mark-back (r .heading .compressed),
       fields-back (r .heading .fields) (fits .1),
     )
 

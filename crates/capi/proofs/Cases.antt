@@ -1,6 +1,6 @@
--- Worked calls, by computation, word for word: document 01's listing read and written again, and what is refused 2, 20 and 21. Assumes nothing.
+-- Worked calls, by computation, word for word: document 01's listing read and written again, what is refused 2, 20 and 21, and numbers beyond their types. Assumes nothing.
 use mathlib.Core.Path.{_≡_, refl}
-use Prim.Native.Nat.{ℕ}
+use Prim.Native.Nat.{ℕ, _^_}
 use mathlib.Core.List.{List, [], _∷_, _++_}
 use lib.ListN.{drop, set}
 use Rattle.format.specs.Bytes.{first, named, ascii, among, zeroAt, zerosIn, zeros}
@@ -9,7 +9,8 @@ use Rattle.format.specs.Unsynch.{resync, unsync}
 use Rattle.format.specs.Ids.{utf8From, allIdBytes, kindOf}
 use Rattle.format.specs.Header.{extOf, headerRefusal}
 use Rattle.format.specs.Frame.{headOf}
-use Rattle.format.specs.Table.{spread, gathered, unpack}
+use Rattle.format.specs.Text.{trimmed, closing}
+use Rattle.format.specs.Table.{spread, gathered, unpack, fit}
 use Rattle.format.specs.Popularimeter.{stripped, counterBytes}
 use Rattle.format.specs.Record.{bodyRefusal, runOf, partsOf}
 use Rattle.format.specs.Walk.{insideOf, onHead, stepOf as walkStep, walkBytes, walked, onShown, frameOf}
@@ -41,7 +42,7 @@ onBegin version mode altered writer = svBegin version mode altered writer
 
 onAdd : List ℕ → List ℕ → List ℕ → List ℕ → List ℕ → List ℕ → List ℕ → List ℕ → Left3
 unfolding
-    first among zeroAt digits unsync stripped counterBytes allIdBytes kindOf bodyBytes encode refusalOf addOf
+    first among zeroAt trimmed closing fit digits unsync stripped counterBytes allIdBytes kindOf bodyBytes encode refusalOf addOf
     writerOf writerWords fieldsOf headingOf svAdd
 onAdd words name names rest deviations buffer writer count = svAdd words name names rest deviations buffer writer count
 
@@ -169,3 +170,89 @@ references = refl
 no-references : onReferences found (0xA5 ∷ 0xC3 ∷ 0x01 ∷ []) (zeros 5) (9 ∷ []) ≡ (0, zeros 5, 0 ∷ [])
 unfolding onReferences found
 no-references = refl
+
+-- ---- numbers beyond their types: the number of the row that speaks of the field, in the row's place, else 21
+
+-- with the one byte 41 and no deviations, into a begun writer
+onWords : List ℕ → Left3
+unfolding onAdd
+onWords words = onAdd words [] [] (0x41 ∷ []) [] (zeros 20) (4 ∷ 0 ∷ 0 ∷ 0 ∷ []) (9 ∷ [])
+
+refused : ℕ → List ℕ → Left3
+refused k words = (k, zeros 20, 4 ∷ 0 ∷ 0 ∷ 0 ∷ [], 0 ∷ [])
+
+titled : List ℕ
+titled = 0 ∷ named "TIT2" ∷ 0 ∷ 0 ∷ 3 ∷ zeros 14
+
+title-added : onWords titled ≡ (0, ascii "TIT2" ++ (0 ∷ 0 ∷ 0 ∷ 2 ∷ 0 ∷ 0 ∷ 3 ∷ 0x41 ∷ zeros 8), 4 ∷ 0 ∷ 0 ∷ 12 ∷ [], 12 ∷ [])
+unfolding onWords titled
+title-added = refl
+
+-- an encoding of 4, of 256, and of 2^63
+beyond-12 : List (List ℕ)
+unfolding titled
+beyond-12 = set titled 4 4 ∷ set titled 4 256 ∷ set titled 4 (2 ^ 63) ∷ []
+
+gives-12 : onEach onWords beyond-12 ≡ onEach (refused 12) beyond-12
+unfolding onWords onEach refused titled beyond-12
+gives-12 = refl
+
+-- marks of 1, of 2 and of 2^63, before 12
+beyond-25 : List (List ℕ)
+unfolding titled
+beyond-25 = set titled 2 1 ∷ set titled 2 2 ∷ set titled 3 2 ∷ set titled 3 (2 ^ 63) ∷ set (set titled 2 2) 4 256 ∷ []
+
+gives-25 : onEach onWords beyond-25 ≡ onEach (refused 25) beyond-25
+unfolding onWords onEach refused titled beyond-25
+gives-25 = refl
+
+-- widths, before 33
+beyond-30 : List (List ℕ)
+unfolding table
+beyond-30 = set table 7 256 ∷ set table 8 256 ∷ set table 8 (2 ^ 63) ∷ set (set table 7 256) 5 (2 ^ 32) ∷ []
+
+gives-30 : onEach onWords beyond-30 ≡ onEach (refused 30) beyond-30
+unfolding onWords onEach refused table beyond-30
+gives-30 = refl
+
+references-30 : onReferences (set table 7 256) (0xA5 ∷ 0xC3 ∷ 0x01 ∷ []) (zeros 5) (9 ∷ []) ≡ (30, zeros 5, 0 ∷ [])
+unfolding onReferences table
+references-30 = refl
+
+-- steps of bytes and of milliseconds
+beyond-33 : List (List ℕ)
+unfolding table
+beyond-33 = set table 5 (2 ^ 24) ∷ set table 5 (2 ^ 32) ∷ set table 6 (2 ^ 32) ∷ set table 6 (2 ^ 63) ∷ []
+
+gives-33 : onEach onWords beyond-33 ≡ onEach (refused 33) beyond-33
+unfolding onWords onEach refused table beyond-33
+gives-33 = refl
+
+-- the others: kind, id, rating, frame step, time, offset, mark of the contents
+beyond-21 : List (List ℕ)
+unfolding titled found table
+beyond-21 =
+    set titled 0 6
+    ∷ set titled 1 (2 ^ 32)
+    ∷ set found 4 256
+    ∷ set table 4 (2 ^ 16)
+    ∷ (3 ∷ named "CHAP" ∷ 0 ∷ 0 ∷ 2 ^ 32 ∷ zeros 14)
+    ∷ (3 ∷ named "CHAP" ∷ 0 ∷ 0 ∷ 0 ∷ 0 ∷ 0 ∷ 2 ^ 32 ∷ zeros 11)
+    ∷ (4 ∷ named "CTOC" ∷ 0 ∷ 0 ∷ 2 ∷ zeros 14)
+    ∷ []
+
+gives-21 : onEach onWords beyond-21 ≡ onEach (refused 21) beyond-21
+unfolding onWords onEach refused titled found table beyond-21
+gives-21 = refl
+
+-- and an id that is none comes before the others
+small-id : ℕ
+small-id = named "abcd"
+
+beyond-first : List (List ℕ)
+unfolding titled table small-id
+beyond-first = set (set titled 1 small-id) 4 256 ∷ set (set titled 1 small-id) 2 2 ∷ set (set table 1 small-id) 7 256 ∷ set (set table 1 small-id) 5 (2 ^ 32) ∷ []
+
+first-21 : onEach onWords beyond-first ≡ onEach (refused 21) beyond-first
+unfolding onWords onEach refused titled table small-id beyond-first
+first-21 = refl

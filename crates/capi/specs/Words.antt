@@ -1,6 +1,6 @@
 -- Headers, readers, records and writers as words, in the places that include/streamvault.h names. Assumes nothing.
-use Prim.Native.Nat.{ℕ, _^_, _≤_, _<_}
-use mathlib.Core.Bool.{Bool, true, false, _&&_}
+use Prim.Native.Nat.{ℕ, _-_, _^_, _≤_, _<_, min}
+use mathlib.Core.Bool.{Bool, true, false, not, _&&_}
 use mathlib.Core.List.{List, [], _∷_}
 use lib.ListN.{getD}
 use lib.Seq.{sets}
@@ -163,20 +163,26 @@ placeList r =
 unfoldable pub recordWords : Record → List ℕ → List ℕ
 recordWords r words = sets (sets words 0 (headingList (r .heading))) 9 (placeList r)
 
--- the fields of each kind, where its numbers fit their types
+-- the fields of each kind: a number that a row of document 01's refusals speaks of counts as the largest of its type where it is
+-- beyond it, and is then refused by that row (laws in proofs/Rows.antt); the others have to fit their types
+abbrev pub cap8 : ℕ → ℕ
+cap8 n = min n (2 ^ 8 - 1)
+
+abbrev pub cap32 : ℕ → ℕ
+cap32 n = min n (2 ^ 32 - 1)
+
 abbrev pub fieldsIf : Bool → Fields → GivenFields
 fieldsIf fit f = pick fit (GivenFields.Good f) GivenFields.Bad
 
 abbrev pub textIf : ℕ → GivenFields
-textIf encoding = fieldsIf (ltb encoding (2 ^ 8)) (Fields.Text encoding)
+textIf encoding = GivenFields.Good (Fields.Text (cap8 encoding))
 
 abbrev pub popularimeterIf : ℕ → ℕ → GivenFields
 popularimeterIf rating counter = fieldsIf (ltb rating (2 ^ 8)) (Fields.Popularimeter rating counter)
 
 abbrev pub tableIf : ℕ → ℕ → ℕ → ℕ → ℕ → GivenFields
 tableIf frames bytes millis v w =
-    fieldsIf (ltb frames (2 ^ 16) && (ltb bytes (2 ^ 32) && (ltb millis (2 ^ 32) && (ltb v (2 ^ 8) && ltb w (2 ^ 8)))))
-    (Fields.Table frames bytes millis v w)
+    fieldsIf (ltb frames (2 ^ 16)) (Fields.Table frames (cap32 bytes) (cap32 millis) (cap8 v) (cap8 w))
 
 abbrev pub chapterIf : ℕ → ℕ → ℕ → ℕ → GivenFields
 chapterIf start end from to =
@@ -203,11 +209,13 @@ abbrev pub headingWith : ℕ → Bool → Bool → GivenFields → GivenHeading
 headingWith id short compressed (GivenFields.Good f) = GivenHeading.Good (record { id = id; short = short; compressed = compressed; fields = f })
 headingWith id short compressed GivenFields.Bad = GivenHeading.Bad
 
+-- a mark is any number but 0
+abbrev pub isMark : ℕ → Bool
+isMark n = not (eqb n 0)
+
 unfoldable pub headingOf : List ℕ → GivenHeading
 headingOf words =
-    pick (ltb (word 1 words) (2 ^ 32) && (isFlag (word 2 words) && isFlag (word 3 words)))
-    (headingWith (word 1 words) (eqb (word 2 words) 1) (eqb (word 3 words) 1) (fieldsIn words))
-    GivenHeading.Bad
+    pick (ltb (word 1 words) (2 ^ 32)) (headingWith (word 1 words) (isMark (word 2 words)) (isMark (word 3 words)) (fieldsIn words)) GivenHeading.Bad
 
 -- ---- what fits its words: numbers of the types that the code has for them, and no refusal without a number
 

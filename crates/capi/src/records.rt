@@ -7,7 +7,7 @@ ghost use mathlib.Core.Path.{_≡_};
 ghost use Prim.Native.Nat.{_≤_};
 ghost use lib.ListN.{length};
 ghost use lib.Seq.{sets};
-ghost use Rattle.capi.specs.Words.{numbersOf, headingList, placeList, recordWords, textIf, popularimeterIf, tableIf, chapterIf, contentsIf, fieldsIn, headingOf};
+ghost use Rattle.capi.specs.Words.{numbersOf, headingList, placeList, recordWords, cap8 as cap8Of, cap32 as cap32Of, textIf, popularimeterIf, tableIf, chapterIf, contentsIf, fieldsIn, headingOf};
 
 // A kind and its five numbers.
 pub struct Numbers {
@@ -154,15 +154,26 @@ const LIMIT_16: u64 = 0x1_0000;
 
 const LIMIT_32: u64 = 0x1_0000_0000;
 
+// A number, or the largest of 8 bits where it is beyond them.
+fn cap8(n: u64) -> u8
+    ensures { λ r. ⌜ r ≡ cap8Of n ⌝ }
+{
+    if n < LIMIT_8 { n as u8 } else { 0xFF }
+}
+
+// A number, or the largest of 32 bits where it is beyond them.
+fn cap32(n: u64) -> u32
+    ensures { λ r. ⌜ r ≡ cap32Of n ⌝ }
+{
+    if n < LIMIT_32 { n as u32 } else { 0xFFFF_FFFF }
+}
+
 // A text with its encoding.
 fn text_fields(encoding: u64) -> GivenFields
     ensures { λ r. ⌜ r ≡ textIf encoding ⌝ }
 {
-    if encoding >= LIMIT_8 {
-        return GivenFields::Bad;
-    }
     GivenFields::Good(Fields::Text {
-        encoding: encoding as u8,
+        encoding: cap8(encoding),
     })
 }
 
@@ -186,24 +197,12 @@ fn table_fields(frames: u64, bytes: u64, millis: u64, v: u64, w: u64) -> GivenFi
     if frames >= LIMIT_16 {
         return GivenFields::Bad;
     }
-    if bytes >= LIMIT_32 {
-        return GivenFields::Bad;
-    }
-    if millis >= LIMIT_32 {
-        return GivenFields::Bad;
-    }
-    if v >= LIMIT_8 {
-        return GivenFields::Bad;
-    }
-    if w >= LIMIT_8 {
-        return GivenFields::Bad;
-    }
     GivenFields::Good(Fields::Table {
         frames: frames as u16,
-        bytes: bytes as u32,
-        millis: millis as u32,
-        bits_for_bytes: v as u8,
-        bits_for_millis: w as u8,
+        bytes: cap32(bytes),
+        millis: cap32(millis),
+        bits_for_bytes: cap8(v),
+        bits_for_millis: cap8(w),
     })
 }
 
@@ -274,18 +273,12 @@ pub(crate) fn load_heading(words: &[u64]) -> GivenHeading
     if id >= LIMIT_32 {
         return GivenHeading::Bad;
     }
-    if short > 1 {
-        return GivenHeading::Bad;
-    }
-    if compressed > 1 {
-        return GivenHeading::Bad;
-    }
     let given = load_fields(words);
     match given {
         GivenFields::Good(fields) => GivenHeading::Good(Heading {
             id: id as u32,
-            short: short == 1,
-            compressed: compressed == 1,
+            short: short != 0,
+            compressed: compressed != 0,
             fields,
         }),
         GivenFields::Bad => GivenHeading::Bad,

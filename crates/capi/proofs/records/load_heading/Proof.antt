@@ -1,5 +1,5 @@
 -- `capi::records::load_heading` meets its contract. Assumes nothing.
-use borrow.Author.Tests.{le-ltb, lt-ltb, le-leb, lt-leb}
+use borrow.Author.Tests.{le-ltb, lt-ltb}
 use mathlib.Core.Path.{sym, _∙_}
 use Rattle.capi.specs.Words.{headingOf}
 use borrow.Author.Needs.{needs}
@@ -19,14 +19,6 @@ returns : tie.Need-returns
 unfolding headingOf
 returns c = rw (le-ltb _ _ (c .if1 .taken))
 
-returns-2 : tie.Need-returns-2
-unfolding headingOf
-returns-2 c = rw (lt-ltb _ _ (c .before .if1 .left), lt-leb _ _ (c .if2 .taken))
-
-returns-3 : tie.Need-returns-3
-unfolding headingOf
-returns-3 c = rw (lt-ltb _ _ (c .before .before .if1 .left), le-leb _ _ (c .before .if2 .left), lt-leb _ _ (c .if3 .taken))
-
 load-fields-requires : tie.Need-load-fields-requires
 load-fields-requires c κs = search needs
 
@@ -39,15 +31,13 @@ cast-t13 c = search needs
 enum-told : tie.Need-enum-told
 enum-told c = search needs
 
-returns-4 : tie.Need-returns-4
+returns-2 : tie.Need-returns-2
 unfolding headingOf
-returns-4 c =
-    rw (lt-ltb _ _ (c .before .before .before .before .before .before .if1 .left), le-leb _ _ (c .before .before .before .before .before .if2 .left), le-leb _ _ (c .before .before .before .before .if3 .left), sym (c .before .before .before .load-fields .ensures) ∙ c .before .given .given .1)
+returns-2 c = rw (lt-ltb _ _ (c .before .before .before .before .if1 .left), sym (c .before .before .before .load-fields .ensures) ∙ c .before .given .given .1)
 
-returns-5 : tie.Need-returns-5
+returns-3 : tie.Need-returns-3
 unfolding headingOf
-returns-5 c =
-    rw (lt-ltb _ _ (c .before .before .before .before .before .if1 .left), le-leb _ _ (c .before .before .before .before .if2 .left), le-leb _ _ (c .before .before .before .if3 .left), sym (c .before .before .load-fields .ensures) ∙ c .enum-told .given .1)
+returns-3 c = rw (lt-ltb _ _ (c .before .before .before .if1 .left), sym (c .before .before .load-fields .ensures) ∙ c .enum-told .given .1)
 
 pub load-heading-spec : {M : Type 1} → statement M
 load-heading-spec =
@@ -57,11 +47,9 @@ load-heading-spec =
     shared-slice-read-short
     shared-slice-read-compressed
     returns
-    returns-2
-    returns-3
     load-fields-requires
     enum-known-given
     cast-t13
     enum-told
-    returns-4
-    returns-5)
+    returns-2
+    returns-3)
