@@ -17,6 +17,8 @@ use Rattle.format.specs.declared.Record.{Record}
 use Rattle.reader.specs.declared.Header.{Header}
 use Rattle.reader.specs.declared.Stop.{Stop}
 use Rattle.reader.specs.declared.Reader.{Reader}
+use Rattle.meter.specs.declared.Meter.{Meter}
+use Rattle.meter.specs.declared.Metered.{Metered}
 use Rattle.writer.specs.Writer.{modeOf}
 use Rattle.writer.specs.declared.Writer.{Writer}
 use Rattle.capi.specs.declared.words.GivenReader.{GivenReader}
@@ -24,6 +26,7 @@ use Rattle.capi.specs.declared.words.GivenWriter.{GivenWriter}
 use Rattle.capi.specs.declared.records.GivenFields.{GivenFields}
 use Rattle.capi.specs.declared.records.GivenHeading.{GivenHeading}
 use Rattle.capi.specs.Words.{word, flag, isFlag, isVersion, versionNumber, modeNumber, stopNumber, failure, isStop, stopOf, readerList, readerWords, readerOf, headerWords, writerList, writerWords, writerOf, numbersOf, headingList, placeList, recordWords, cap8, cap32, fieldsOf, isMark, headingOf, StopFits, FieldsFit, HeadingFits}
+use Rattle.capi.specs.Meters.{meterList, meterWords, meterOf, meteredWords}
 
 -- ---- words
 
@@ -95,7 +98,7 @@ fields-back (Fields.Chapter a b c d) fits = rw (lt-ltb a (2 ^ 32) (fits .0), lt-
 fields-back (Fields.Contents t o) fits = rw (flag-known t, flag-known o, flag-back t, flag-back o)
 fields-back Fields.Raw fits = refl
 
--- ---- readers, writers and headings
+-- ---- readers, meters, writers and headings
 
 pub reader-back : (r : Reader) (words : List ℕ) → 7 ≤ length words → StopFits (r .stop) → readerOf (readerWords r words) ≡ GivenReader.Good r
 unfolding readerOf readerWords
@@ -115,6 +118,36 @@ reader-back r words h fits =
       flag-back (r .in_work),
       stop-known (r .stop) fits,
       stop-back (r .stop),
+    )
+
+pub meter-back : (m : Meter) (words : List ℕ) → 11 ≤ length words → StopFits (m .reader .stop) → meterOf (meterWords m words) ≡ m ∷ []
+unfolding meterOf meterWords
+meter-back m words h fits =
+    let at : (i : ℕ) → i < 11 → word i (sets words 0 (meterList m)) ≡ getD (meterList m) i 0 = λ i k. stored words (meterList m) i k h in
+    rw (
+      at 0 (omega arith),
+      at 1 (omega arith),
+      at 2 (omega arith),
+      at 3 (omega arith),
+      at 4 (omega arith),
+      at 5 (omega arith),
+      at 6 (omega arith),
+      at 7 (omega arith),
+      at 8 (omega arith),
+      at 9 (omega arith),
+      at 10 (omega arith),
+      version-known (m .reader .version),
+      version-back (m .reader .version),
+      flag-known (m .reader .in_work),
+      flag-back (m .reader .in_work),
+      stop-known (m .reader .stop) fits,
+      stop-back (m .reader .stop),
+      flag-known (m .short),
+      flag-back (m .short),
+      flag-known (m .compressed),
+      flag-back (m .compressed),
+      flag-known (m .missing),
+      flag-back (m .missing),
     )
 
 pub writer-back : (w : Writer) (words : List ℕ) → 4 ≤ length words → writerOf (writerWords w words) ≡ GivenWriter.Good w
@@ -165,6 +198,14 @@ header-behind h words = behind words 0 (versionNumber (h .version) ∷ h .flags 
 pub reader-behind : (r : Reader) (words : List ℕ) → drop 7 (readerWords r words) ≡ drop 7 words
 unfolding readerWords
 reader-behind r words = behind words 0 (readerList r) 7 (omega arith)
+
+pub meter-behind : (m : Meter) (words : List ℕ) → drop 11 (meterWords m words) ≡ drop 11 words
+unfolding meterWords
+meter-behind m words = behind words 0 (meterList m) 11 (omega arith)
+
+pub metered-behind : (p : Metered) (words : List ℕ) → drop 6 (meteredWords p words) ≡ drop 6 words
+unfolding meteredWords
+metered-behind p words = behind words 0 (flag (p .in_work) ∷ p .user .start ∷ p .user .len ∷ p .rating ∷ p .counter ∷ p .frame ∷ []) 6 (omega arith)
 
 pub writer-behind : (w : Writer) (words : List ℕ) → drop 4 (writerWords w words) ≡ drop 4 words
 unfolding writerWords

@@ -1,8 +1,8 @@
--- Worked calls, by computation, word for word: document 01's listing read and written again, what is refused 2, 20 and 21, and numbers beyond their types. Assumes nothing.
+-- Worked calls, by computation, word for word: document 01's listing read, metered and written again, what is refused 2, 20 and 21, and numbers beyond their types. Assumes nothing.
 use mathlib.Core.Path.{_≡_, refl}
 use Prim.Native.Nat.{ℕ, _^_}
 use mathlib.Core.List.{List, [], _∷_, _++_}
-use lib.ListN.{drop, set}
+use lib.ListN.{take, drop, set}
 use Rattle.format.specs.Bytes.{first, named, ascii, among, zeroAt, zerosIn, zeros}
 use Rattle.format.specs.Numbers.{digits, onto}
 use Rattle.format.specs.Unsynch.{resync, unsync}
@@ -17,9 +17,11 @@ use Rattle.format.specs.Walk.{insideOf, onHead, stepOf as walkStep, walkBytes, 
 use Rattle.format.specs.Encode.{bodyBytes, encode, refusalOf, tagOf}
 use Rattle.frame.specs.References.{unpackOf}
 use Rattle.reader.specs.Reader.{headerOf, openOf, stepOf}
+use Rattle.meter.specs.Meter.{meterOpenOf, nextIn, nextOf}
 use Rattle.writer.specs.Writer.{beginOf, addOf, finishOf}
 use Rattle.capi.specs.Words.{headerWords, readerWords, readerOf, writerWords, writerOf, recordWords, fieldsOf, headingOf}
 use Rattle.capi.specs.Calls.{Left1, Left2, Left3, svHeader, svOpen, svStep, svBegin, svAdd, svFinish, svReferences}
+use Rattle.capi.specs.Meters.{meterWords, meterOf, meteredWords, svMeterOpen, svMeterNext}
 
 -- each call, with all that it rests on unfolded
 onHeader : List ℕ → List ℕ → Left1
@@ -35,6 +37,16 @@ unfolding
     first zeroAt zerosIn digits onto resync utf8From kindOf headOf bodyRefusal runOf partsOf insideOf onHead walkStep walkBytes walked onShown frameOf stepOf
     readerOf readerWords recordWords svStep
 onStep tag work reader words = svStep tag work reader words
+
+onMeterOpen : List ℕ → List ℕ → List ℕ → Left2
+unfolding first digits onto extOf headerRefusal openOf meterOpenOf meterWords svMeterOpen
+onMeterOpen tag work meter = svMeterOpen tag work meter
+
+onMeterNext : List ℕ → List ℕ → List ℕ → List ℕ → Left3
+unfolding
+    first zeroAt zerosIn digits onto resync utf8From kindOf headOf bodyRefusal runOf partsOf insideOf onHead walkStep walkBytes walked onShown frameOf stepOf
+    nextIn nextOf meterOf meterWords meteredWords svMeterNext
+onMeterNext tag work meter metered = svMeterNext tag work meter metered
 
 onBegin : ℕ → ℕ → ℕ → List ℕ → Left1
 unfolding beginOf writerWords svBegin
@@ -114,6 +126,90 @@ bad = refl
 refused-again : onStep listed [] (4 ∷ 0 ∷ 0 ∷ 0 ∷ 0 ∷ 2 ∷ 11 ∷ []) found ≡ (11, [], 4 ∷ 0 ∷ 0 ∷ 0 ∷ 0 ∷ 2 ∷ 11 ∷ [], found)
 unfolding onStep listed found
 refused-again = refl
+
+-- ---- the same tag metered
+
+meter-opened : List ℕ
+meter-opened = 4 ∷ 0 ∷ 10 ∷ 10 ∷ 28 ∷ 0 ∷ 0 ∷ 0 ∷ 0 ∷ 0 ∷ 0 ∷ []
+
+meter-open-words : onMeterOpen listed [] (zeros 11) ≡ (0, [], meter-opened)
+unfolding onMeterOpen listed meter-opened
+meter-open-words = refl
+
+-- the popularimeter of user 61, frame 0
+metered : List ℕ
+metered = 0 ∷ 20 ∷ 1 ∷ 5 ∷ 4294967296 ∷ 0 ∷ []
+
+meter-behind : List ℕ
+meter-behind = 4 ∷ 0 ∷ 10 ∷ 28 ∷ 28 ∷ 0 ∷ 0 ∷ 1 ∷ 0 ∷ 0 ∷ 0 ∷ []
+
+meter-next-words : onMeterNext listed [] meter-opened (zeros 6) ≡ (0, [], meter-behind, metered)
+unfolding onMeterNext listed meter-opened meter-behind metered
+meter-next-words = refl
+
+-- the end leaves the popularimeter's words, and an ended meter ends again
+meter-end-words : onMeterNext listed [] meter-behind metered ≡ (256, [], set meter-behind 5 1, metered)
+unfolding onMeterNext listed meter-behind metered
+meter-end-words = refl
+
+meter-end-again : onMeterNext listed [] (set meter-behind 5 1) metered ≡ (256, [], set meter-behind 5 1, metered)
+unfolding onMeterNext listed meter-behind metered
+meter-end-again = refl
+
+-- a byte fewer than the header says is marked, and so is the frame that it cuts short, which does not count
+cut-opened : List ℕ
+cut-opened = 4 ∷ 0 ∷ 10 ∷ 10 ∷ 27 ∷ 0 ∷ 0 ∷ 0 ∷ 0 ∷ 0 ∷ 1 ∷ []
+
+cut-open-words : onMeterOpen (take 27 listed) [] (zeros 11) ≡ (0, [], cut-opened)
+unfolding onMeterOpen listed cut-opened
+cut-open-words = refl
+
+cut-next-words : onMeterNext (take 27 listed) [] cut-opened metered ≡ (256, [], 4 ∷ 0 ∷ 10 ∷ 27 ∷ 27 ∷ 1 ∷ 0 ∷ 1 ∷ 1 ∷ 0 ∷ 1 ∷ [], metered)
+unfolding onMeterNext listed cut-opened metered
+cut-next-words = refl
+
+-- in 2.3 that frame is refused, and then again
+cut-refused : List ℕ
+cut-refused = 3 ∷ 0 ∷ 10 ∷ 10 ∷ 27 ∷ 2 ∷ 5 ∷ 0 ∷ 0 ∷ 0 ∷ 1 ∷ []
+
+cut-refused-words : onMeterNext (set (take 27 listed) 3 3) [] (set cut-opened 0 3) metered ≡ (5, [], cut-refused, metered)
+unfolding onMeterNext listed cut-opened cut-refused metered
+cut-refused-words = refl
+
+cut-refused-again : onMeterNext (set (take 27 listed) 3 3) [] cut-refused metered ≡ (5, [], cut-refused, metered)
+unfolding onMeterNext listed cut-refused metered
+cut-refused-again = refl
+
+-- 10 words are too few for a meter, and 5 for a popularimeter
+short-meter : onMeterOpen listed [] (zeros 10) ≡ (20, [], zeros 10)
+unfolding onMeterOpen listed
+short-meter = refl
+
+short-metered : onMeterNext listed [] meter-opened (zeros 5) ≡ (20, [], meter-opened, zeros 5)
+unfolding onMeterNext listed meter-opened
+short-metered = refl
+
+-- words that no call leaves: those of a reader, and marks that are neither 0 nor 1
+bad-meters : List (List ℕ)
+unfolding meter-opened
+bad-meters =
+    set meter-opened 0 1
+    ∷ set meter-opened 0 5
+    ∷ set meter-opened 1 2
+    ∷ set meter-opened 5 3
+    ∷ set meter-opened 5 2
+    ∷ set meter-opened 6 7
+    ∷ set meter-opened 8 2
+    ∷ set meter-opened 9 2
+    ∷ set meter-opened 10 2
+    ∷ set (set meter-opened 5 1) 10 2
+    ∷ []
+
+bad-meter : onEach (λ meter. onMeterNext listed [] meter metered) bad-meters ≡ onEach (λ meter. (2, [], meter, metered)) bad-meters
+unfolding onMeterNext onEach listed meter-opened metered bad-meters
+bad-meter = refl
+
+-- ---- writers
 
 begun : onBegin 4 2 1 (zeros 4) ≡ (0, 4 ∷ 2 ∷ 1 ∷ 0 ∷ [])
 unfolding onBegin

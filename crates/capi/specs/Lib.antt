@@ -1,3 +1,5 @@
 -- What the exported functions answer, and the words that they lend on.
 pub mod Words
 pub mod Calls
+pub mod Meters
+pub mod Metering

@@ -1,8 +1,16 @@
 // The exported functions, for C and Rust: include/streamvault.h declares them. State and records lie in words that the
 // caller lends. What each call answers and leaves stands in specs/Calls.antt.
+mod meters;
 mod records;
 mod words;
 
+use crate::meters::GivenVersion;
+use crate::meters::answered;
+use crate::meters::is_running;
+use crate::meters::running;
+use crate::meters::stopped;
+use crate::meters::store_opened;
+use crate::meters::version_in;
 use crate::records::GivenHeading;
 use crate::records::load_heading;
 use crate::records::store_record;
@@ -19,6 +27,7 @@ use format::refusals::UNKNOWN_VERSION;
 use format::refusals::WRONG_ID;
 use frame::table::Put;
 use frame::table::unpack;
+use meter::MeterOpened;
 use reader::Headed;
 use reader::Opened;
 use reader::Step;
@@ -27,6 +36,7 @@ use writer::Begun;
 use writer::Finished;
 ghost use mathlib.Core.Path.{_≡_};
 ghost use Rattle.capi.specs.Calls.{svHeader, svOpen, svStep, svBegin, svAdd, svFinish, referencesOf, svReferences};
+ghost use Rattle.capi.specs.Meters.{svMeterOpen, svMeterNext};
 
 // Fewer words than a call takes.
 const SHORT: u32 = NO_ROOM as u32;
@@ -49,6 +59,10 @@ const HEADER: usize = 4;
 const READER: usize = 7;
 
 const RECORD: usize = 19;
+
+const METER: usize = 11;
+
+const METERED: usize = 6;
 
 const WRITER: usize = 4;
 
@@ -123,6 +137,49 @@ pub extern "C" fn sv_step(
             k as u32
         }
     }
+}
+
+// Opens a tag for its counters alone: the meter's words then say a meter at the first frame.
+#[no_mangle]
+pub extern "C" fn sv_meter_open(tag: &[u8], work: &mut [u8], meter: &mut [u64]) -> u32
+    ensures { λ r. ⌜ (r, now (work .exit), now (meter .exit)) ≡ svMeterOpen (now (tag .entry)) (now (work .entry)) (now (meter .entry)) ⌝ }
+{
+    if meter.len() < METER {
+        return SHORT;
+    }
+    let opened = meter::opening::open(work, tag);
+    match opened {
+        MeterOpened::Ready(m) => {
+            store_opened(meter, m);
+            0
+        }
+        MeterOpened::Refused(k) => k as u32,
+    }
+}
+
+// Goes on to the next whole popularimeter of the top level, into its words. The meter's words then say the moved meter, or
+// why it has stopped. Those of a meter that has stopped stay as they are.
+#[no_mangle]
+pub extern "C" fn sv_meter_next(
+    tag: &[u8],
+    work: &mut [u8],
+    meter: &mut [u64],
+    metered: &mut [u64],
+) -> u32
+    ensures { λ r. ⌜ (r, now (work .exit), now (meter .exit), now (metered .exit)) ≡ svMeterNext (now (tag .entry)) (now (work .entry)) (now (meter .entry)) (now (metered .entry)) ⌝ }
+{
+    if (meter.len() < METER) | (metered.len() < METERED) {
+        return SHORT;
+    }
+    if !is_running(&meter[..]) {
+        return stopped(&meter[..]);
+    }
+    let given = version_in(meter[0]);
+    let GivenVersion::Good(version) = given else {
+        return NO_STATE;
+    };
+    let next = running(&meter[..], version).next(work, tag);
+    answered(meter, metered, next)
 }
 
 // Begins a writer: version 2, 3 or 4, mode 0 (off), 1 (crate) or 2 (standard), altered 0 or 1.

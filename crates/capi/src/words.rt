@@ -35,7 +35,7 @@ pub(crate) fn flag(on: bool) -> u64
 }
 
 // The number of an edition.
-fn version_number(version: Version) -> u64
+pub(crate) fn version_number(version: Version) -> u64
     ensures { λ r. ⌜ r ≡ versionNumber version ⌝ }
 {
     match version {
@@ -125,7 +125,7 @@ fn stop_of(stop: u64, number: u64) -> Stop
 }
 
 // Whether the words that are not places are those of a reader.
-fn is_reader(version: u64, in_work: u64, stop: u64, number: u64) -> bool
+pub(crate) fn is_reader(version: u64, in_work: u64, stop: u64, number: u64) -> bool
     ensures { λ r. ⌜ r ≡ isReader version «in_work» stop number ⌝ }
 {
     if !is_version(version) {

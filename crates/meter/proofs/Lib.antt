@@ -1,5 +1,6 @@
 -- Laws of the meter.
 pub mod Nexts
 mod Glances
-mod Meets
+pub mod Meets
 mod Openings
+pub mod Keeps
