@@ -15,7 +15,8 @@
  *   may be lent than named; those behind are never changed. Fewer are refused with SV_NO_ROOM, and nothing at all is
  *   changed.
  * - No call trusts what it is lent. Words that no call leaves are refused: those of a reader, of a meter or of a writer
- *   with SV_UNKNOWN_VERSION, those of a record with SV_WRONG_ID.
+ *   with SV_UNKNOWN_VERSION, those of a record with the refusal that speaks of the field, and with SV_WRONG_ID where none
+ *   does. A mark that is not 0 is a mark.
  *
  * Reading: sv_open, then sv_step with the same tag, work buffer and reader until it answers something other than 0.
  * Counters alone: sv_meter_open, then sv_meter_next in the same way; the meter's marks then say whether some may be missing.

@@ -1,187 +1,230 @@
--- Every public function answers in one way: for each, what its contract says the answer and the lent buffers are. A part s[from..to] of a slice stands as the bytes s. Assumes nothing.
-use mathlib.Core.Path.{_≡_, sym, _∙_}
-use Prim.Native.Nat.{ℕ}
-use mathlib.Core.Bool.{Bool}
-use mathlib.Core.List.{List}
-use lib.ListN.{length}
-use Rattle.format.specs.Bytes.{first}
-use Rattle.format.specs.Numbers.{bytesOf, fromSynchsafe}
-use Rattle.format.specs.Unsynch.{resynchronised, unsynchronised}
-use Rattle.format.specs.Ids.{classOf, isUtf8, kindOf}
-use Rattle.format.specs.Frame.{headOf}
-use Rattle.format.specs.Text.{textEnd}
-use Rattle.format.specs.Record.{Rec}
-use Rattle.format.specs.Walk.{walked}
-use Rattle.format.specs.Encode.{recordChecks, isLost}
-use Rattle.format.specs.Listing.{tagLine, frameLine, endLine, refusedLine}
+-- Every public function answers in one way: a theorem for each, of its own contract. Assumes nothing.
+use mathlib.Core.Path.{_≡_, sym, ap, _∙_}
 use Rattle.format.specs.declared.Version.{Version}
-use Rattle.format.specs.declared.Mode.{Mode}
-use Rattle.format.specs.declared.Kind.{Kind}
-use Rattle.format.specs.declared.Fields.{Fields}
-use Rattle.unsynch.specs.Puts.{encodedOf, intoOf, inAreaOf, placedOf}
-use Rattle.frame.specs.Bodies.{parsedOf}
-use Rattle.frame.specs.References.{referencesIn, referenceOf, unpackOf}
-use Rattle.walk.specs.Areas.{inArea}
-use Rattle.walk.specs.Sources.{frameIn}
-use Rattle.lines.specs.Placed.{placedOf as lineAt}
-use Rattle.reader.specs.Reader.{headerOf, openOf, stepOf}
-use Rattle.reader.specs.declared.Reader.{Reader}
-use Rattle.checks.specs.Sizes.{sizeRefusal}
-use Rattle.writer.specs.Writer.{beginOf, beginPlainOf, addOf, finishOf}
-use Rattle.writer.specs.declared.Writer.{Writer}
-use Rattle.listed.specs.Lines.{linesOf}
-use Rattle.listed.specs.Turns.{putLines}
-use Rattle.back.specs.Trips.{backOf}
-use Rattle.capi.specs.Calls.{svHeader, svOpen, svStep, svBegin, svAdd, svFinish, svReferences}
+use Rattle.format.proofs as format
+use Rattle.loads.proofs as loads
+use Rattle.unsynch.proofs as unsynch
+use Rattle.frame.proofs as frame
+use Rattle.walk.proofs as walk
+use Rattle.lines.proofs as lines
+use Rattle.reader.proofs as reader
+use Rattle.meter.proofs as meter
+use Rattle.checks.proofs as checks
+use Rattle.writer.proofs as writer
+use Rattle.listed.proofs as listed
+use Rattle.back.proofs as back
+use Rattle.capi.proofs as capi
 use Rattle.answers.specs.OneAnswer.{OneAnswer}
 
-pub one-answer : {A : Type 0} (a : A) → OneAnswer a
-one-answer a x y p q = p ∙ sym q
+-- two that equal a third are equal, and so is what is made of them
+pub alike : {A B : Type 0} {x y z : A} → x ≡ z → y ≡ z → (f : A → B) → f x ≡ f y
+alike p q f = ap f (p ∙ sym q)
 
 -- ---- format
 
-pub class-one : (b : ℕ) → OneAnswer (classOf b)
-class-one b = one-answer (classOf b)
+pub class-one : OneAnswer format.classes.class.ended format.classes.class.Reads.Learnt
+class-one κs a x y v w p q = alike p q λ o. (o, v)
+
+-- ---- loads
+
+pub read32-one : OneAnswer loads.read32.ended loads.read32.Reads.Learnt
+read32-one κs a x y v w p q = alike p q λ o. (o, v)
+
+pub read64-one : OneAnswer loads.read64.ended loads.read64.Reads.Learnt
+read64-one κs a x y v w p q = alike p q λ o. (o, v)
+
+pub read-few-one : OneAnswer loads.read_few.ended loads.read_few.Reads.Learnt
+read-few-one κs a x y v w p q = alike p q λ o. (o, v)
 
 -- ---- unsynch
 
-pub encode-u32-one : (n : ℕ) → OneAnswer (encodedOf n)
-encode-u32-one n = one-answer (encodedOf n)
+pub encode-u32-one : OneAnswer unsynch.encode_u32.ended unsynch.encode_u32.Reads.Learnt
+encode-u32-one κs a x y v w p q = alike p q λ o. (o, v)
 
-pub decode-u32-one : (n : ℕ) → OneAnswer (fromSynchsafe (bytesOf 4 n))
-decode-u32-one n = one-answer (fromSynchsafe (bytesOf 4 n))
+pub decode-u32-one : OneAnswer unsynch.decode_u32.ended unsynch.decode_u32.Reads.Learnt
+decode-u32-one κs a x y v w p q = alike p q λ o. (o, v)
 
-pub resync-len-one : (s : List ℕ) → OneAnswer (length (resynchronised s))
-resync-len-one s = one-answer (length (resynchronised s))
+pub resync-len-one : OneAnswer unsynch.resync_len.ended unsynch.resync_len.Reads.Learnt
+resync-len-one κs a x y v w p q = alike p q λ o. (o, v)
 
-pub unsync-len-one : (mode : Mode) (s : List ℕ) → OneAnswer (length (unsynchronised mode s))
-unsync-len-one mode s = one-answer (length (unsynchronised mode s))
+pub unsync-len-one : OneAnswer unsynch.unsync_len.ended unsynch.unsync_len.Reads.Learnt
+unsync-len-one κs a x y v w p q = alike p q λ o. (o, v)
 
-pub resync-into-one : (s room : List ℕ) → OneAnswer (intoOf (resynchronised s) room)
-resync-into-one s room = one-answer (intoOf (resynchronised s) room)
+pub resync-into-one : OneAnswer unsynch.resync_into.ended unsynch.resync_into.Reads.Learnt
+resync-into-one κs a x y v w p q = alike p q λ o. (o .0, (o .1, v .1))
 
-pub unsync-into-one : (mode : Mode) (s out : List ℕ) (at : ℕ) → OneAnswer (placedOf (unsynchronised mode s) at out)
-unsync-into-one mode s out at = one-answer (placedOf (unsynchronised mode s) at out)
+pub unsync-into-one : OneAnswer unsynch.unsync_into.ended unsynch.unsync_into.Reads.Learnt
+unsync-into-one κs a x y v w p q = alike p q λ o. (o .0, (o .1, v .1))
 
-pub resync-in-one : (from to split : ℕ) (area : List ℕ) → OneAnswer (inAreaOf from to split area)
-resync-in-one from to split area = one-answer (inAreaOf from to split area)
+pub resync-in-one : OneAnswer unsynch.resync_in.ended unsynch.resync_in.Reads.Learnt
+resync-in-one κs a x y v w p q = alike p q λ o. (o .0, (o .1, v .1))
 
 -- ---- frame
 
-pub heads-one : (v : Version) (depth : ℕ) (s : List ℕ) → OneAnswer (headOf v depth s)
-heads-one v depth s = one-answer (headOf v depth s)
+pub heads-one : OneAnswer frame.heads.decode.ended frame.heads.decode.Reads.Learnt
+heads-one κs a x y v w p q = alike p q λ o. (o, v)
 
-pub is-utf8-one : (s : List ℕ) → OneAnswer (isUtf8 s)
-is-utf8-one s = one-answer (isUtf8 s)
+pub v2-one : OneAnswer frame.v2.decode.ended frame.v2.decode.Reads.Learnt
+v2-one κs a x y v w p q = alike p q λ o. (o, v)
 
-pub kind-of-one : (v : Version) (id : ℕ) → OneAnswer (kindOf v id)
-kind-of-one v id = one-answer (kindOf v id)
+pub v3-one : OneAnswer frame.v3.decode.ended frame.v3.decode.Reads.Learnt
+v3-one κs a x y v w p q = alike p q λ o. (o, v)
 
-pub parse-one : (v : Version) (kind : Kind) (from : ℕ) (s : List ℕ) → OneAnswer (parsedOf v kind from s)
-parse-one v kind from s = one-answer (parsedOf v kind from s)
+pub v4-one : OneAnswer frame.v4.decode.ended frame.v4.decode.Reads.Learnt
+v4-one κs a x y v w p q = alike p q λ o. (o, v)
 
-pub text-end-one : (v : Version) (encoding : ℕ) (s : List ℕ) → OneAnswer (textEnd v encoding s)
-text-end-one v encoding s = one-answer (textEnd v encoding s)
+pub is-utf8-three-one : OneAnswer frame.ids.is_utf8_3.ended frame.ids.is_utf8_3.Reads.Learnt
+is-utf8-three-one κs a x y v w p q = alike p q λ o. (o, v)
 
-pub count-one : (v w n : ℕ) → OneAnswer (referencesIn v w n)
-count-one v w n = one-answer (referencesIn v w n)
+pub is-utf8-four-one : OneAnswer frame.ids.is_utf8_4.ended frame.ids.is_utf8_4.Reads.Learnt
+is-utf8-four-one κs a x y v w p q = alike p q λ o. (o, v)
 
-pub reference-one : (v w : ℕ) (s : List ℕ) (i : ℕ) → OneAnswer (referenceOf v w s i)
-reference-one v w s i = one-answer (referenceOf v w s i)
+pub kind-of-one : OneAnswer frame.body.kind_of.ended frame.body.kind_of.Reads.Learnt
+kind-of-one κs a x y v w p q = alike p q λ o. (o, v)
 
-pub unpack-one : (v w : ℕ) (s out : List ℕ) → OneAnswer (unpackOf v w s out)
-unpack-one v w s out = one-answer (unpackOf v w s out)
+pub parse-one : OneAnswer frame.body.parse.ended frame.body.parse.Reads.Learnt
+parse-one κs a x y v w p q = alike p q λ o. (o, v)
+
+pub parse-raw-one : OneAnswer frame.body.parse_raw.ended frame.body.parse_raw.Reads.Learnt
+parse-raw-one κs a x y v w p q = alike (p Version.Id3v24) (q Version.Id3v24) λ o. (o, v)
+
+pub parse-chapter-one : OneAnswer frame.chapter.parse_chapter.ended frame.chapter.parse_chapter.Reads.Learnt
+parse-chapter-one κs a x y v w p q = alike (p Version.Id3v24) (q Version.Id3v24) λ o. (o, v)
+
+pub parse-contents-one : OneAnswer frame.chapter.parse_contents.ended frame.chapter.parse_contents.Reads.Learnt
+parse-contents-one κs a x y v w p q = alike (p Version.Id3v24) (q Version.Id3v24) λ o. (o, v)
+
+pub parse-popularimeter-one : OneAnswer frame.popularimeter.parse.ended frame.popularimeter.parse.Reads.Learnt
+parse-popularimeter-one κs a x y v w p q = alike (p Version.Id3v24) (q Version.Id3v24) λ o. (o, v)
+
+pub parse-table-one : OneAnswer frame.table.parse.ended frame.table.parse.Reads.Learnt
+parse-table-one κs a x y v w p q = alike (p Version.Id3v24) (q Version.Id3v24) λ o. (o, v)
+
+pub parse-text-one : OneAnswer frame.text.parse.ended frame.text.parse.Reads.Learnt
+parse-text-one κs a x y v w p q = alike p q λ o. (o, v)
+
+pub text-end-one : OneAnswer frame.text.text_end.ended frame.text.text_end.Reads.Learnt
+text-end-one κs a x y v w p q = alike p q λ o. (o, v)
+
+pub count-one : OneAnswer frame.table.count.ended frame.table.count.Reads.Learnt
+count-one κs a x y v w p q = alike p q λ o. (o, v)
+
+pub reference-one : OneAnswer frame.table.reference.ended frame.table.reference.Reads.Learnt
+reference-one κs a x y v w p q = alike p q λ o. (o, v)
+
+pub unpack-one : OneAnswer frame.table.unpack.ended frame.table.unpack.Reads.Learnt
+unpack-one κs a x y v w p q = alike p q λ o. (o .0, (o .1, v .1))
 
 -- ---- walk
 
-pub walk-one : (strict : Bool) (v : Version) (depth : ℕ) (s room : List ℕ) → OneAnswer (walked strict v depth s room)
-walk-one strict v depth s room = one-answer (walked strict v depth s room)
+pub walk-one : OneAnswer walk.run.walk.ended walk.run.walk.Reads.Learnt
+walk-one κs a x y v w p q = alike p q λ o. (o .0, (o .1, v .1))
 
-pub walk-in-one : (strict : Bool) (v : Version) (depth from to split : ℕ) (area : List ℕ) → OneAnswer (inArea strict v depth from to split area)
-walk-in-one strict v depth from to split area = one-answer (inArea strict v depth from to split area)
+pub walk-in-one : OneAnswer walk.run.walk_in.ended walk.run.walk_in.Reads.Learnt
+walk-in-one κs a x y v w p q = alike p q λ o. (o .0, (o .1, v .1))
 
-pub frame-at-one : (v : Version) (inWork : Bool) (begin at end : ℕ) (tag work : List ℕ) → OneAnswer (frameIn v inWork begin at end tag work)
-frame-at-one v inWork begin at end tag work = one-answer (frameIn v inWork begin at end tag work)
+pub frame-at-one : OneAnswer walk.record.frame_at.ended walk.record.frame_at.Reads.Learnt
+frame-at-one κs a x y v w p q = alike p q λ o. (o .0, (o .1, v .1))
+
+pub pass-at-one : OneAnswer walk.passing.pass_at.ended walk.passing.pass_at.Reads.Learnt
+pass-at-one κs a x y v w p q = alike (p 0) (q 0) λ o. (o .0, (o .1, v .1))
+
+pub read-as-one : OneAnswer walk.passing.read_as.ended walk.passing.read_as.Reads.Learnt
+read-as-one κs a x y v w p q = alike (p Version.Id3v24 0 0 0 0) (q Version.Id3v24 0 0 0 0) λ o. (o, v)
 
 -- ---- lines
 
-pub tag-line-one : (edition size flags ext at : ℕ) (out : List ℕ) → OneAnswer (lineAt (tagLine edition size flags ext) at out)
-tag-line-one edition size flags ext at out = one-answer (lineAt (tagLine edition size flags ext) at out)
+pub tag-line-one : OneAnswer lines.tag_line.ended lines.tag_line.Reads.Learnt
+tag-line-one κs a x y v w p q = alike p q λ o. (o .0, (o .1, v .1))
 
-pub frame-line-one : (number : ℕ) (id : List ℕ) (place body : ℕ) (short : Bool) (fields : Fields) (user : List ℕ) (at : ℕ) (out : List ℕ) → OneAnswer (lineAt (frameLine number id place body short fields user) at out)
-frame-line-one number id place body short fields user at out = one-answer (lineAt (frameLine number id place body short fields user) at out)
+pub frame-line-one : OneAnswer lines.frame_line.ended lines.frame_line.Reads.Learnt
+frame-line-one κs a x y v w p q = alike p q λ o. (o .0, (o .1, v .1))
 
-pub end-line-one : (number at : ℕ) (out : List ℕ) → OneAnswer (lineAt (endLine number) at out)
-end-line-one number at out = one-answer (lineAt (endLine number) at out)
+pub end-line-one : OneAnswer lines.end_line.ended lines.end_line.Reads.Learnt
+end-line-one κs a x y v w p q = alike p q λ o. (o .0, (o .1, v .1))
 
-pub refused-line-one : (number at : ℕ) (out : List ℕ) → OneAnswer (lineAt (refusedLine number) at out)
-refused-line-one number at out = one-answer (lineAt (refusedLine number) at out)
+pub refused-line-one : OneAnswer lines.refused_line.ended lines.refused_line.Reads.Learnt
+refused-line-one κs a x y v w p q = alike p q λ o. (o .0, (o .1, v .1))
 
 -- ---- reader
 
-pub header-one : (tag : List ℕ) → OneAnswer (headerOf tag)
-header-one tag = one-answer (headerOf tag)
+pub header-one : OneAnswer reader.headers.header.ended reader.headers.header.Reads.Learnt
+header-one κs a x y v w p q = alike p q λ o. (o, v)
 
-pub open-one : (tag work : List ℕ) → OneAnswer (openOf tag work)
-open-one tag work = one-answer (openOf tag work)
+pub open-one : OneAnswer reader.opening.open.ended reader.opening.open.Reads.Learnt
+open-one κs a x y v w p q = alike p q λ o. (o .0, (o .1, v .1))
 
-pub step-one : (r : Reader) (tag work : List ℕ) → OneAnswer (stepOf r tag work)
-step-one r tag work = one-answer (stepOf r tag work)
+pub step-one : OneAnswer reader.Reader.step.ended reader.Reader.step.Reads.Learnt
+step-one κs a x y v w p q = alike p q λ o. (o .0, (v .0, (o .1, v .1 .1)))
+
+-- ---- meter
+
+pub meter-open-one : OneAnswer meter.opening.open.ended meter.opening.open.Reads.Learnt
+meter-open-one κs a x y v w p q = alike p q λ o. (o .0, (o .1, v .1))
+
+pub next-one : OneAnswer meter.Meter.next.ended meter.Meter.next.Reads.Learnt
+next-one κs a x y v w p q = alike p q λ o. (o .0, (v .0, (o .1, v .1 .1)))
 
 -- ---- checks
 
-pub record-check-one : (v : Version) (r : Rec) → OneAnswer (first (recordChecks v r))
-record-check-one v r = one-answer (first (recordChecks v r))
+pub record-check-one : OneAnswer checks.record.record_check.ended checks.record.record_check.Reads.Learnt
+record-check-one κs a x y v w p q = alike p q λ o. (o, v)
 
-pub is-lost-one : (v : Version) (altered : Bool) (id : ℕ) → OneAnswer (isLost v altered id)
-is-lost-one v altered id = one-answer (isLost v altered id)
+pub is-lost-one : OneAnswer checks.ids.is_lost.ended checks.ids.is_lost.Reads.Learnt
+is-lost-one κs a x y v w p q = alike p q λ o. (o, v)
 
-pub size-check-one : (v : Version) (size : ℕ) → OneAnswer (sizeRefusal v size)
-size-check-one v size = one-answer (sizeRefusal v size)
+pub size-check-one : OneAnswer checks.sizes.size_check.ended checks.sizes.size_check.Reads.Learnt
+size-check-one κs a x y v w p q = alike p q λ o. (o, v)
 
 -- ---- writer
 
-pub begin-one : (version mode : ℕ) (altered : Bool) → OneAnswer (beginOf version mode altered)
-begin-one version mode altered = one-answer (beginOf version mode altered)
+pub begin-one : OneAnswer writer.begin.begin.ended writer.begin.begin.Reads.Learnt
+begin-one κs a x y v w p q = alike p q λ o. (o, v)
 
-pub begin-plain-one : (version : ℕ) → OneAnswer (beginPlainOf version)
-begin-plain-one version = one-answer (beginPlainOf version)
+pub begin-plain-one : OneAnswer writer.begin.begin_plain.ended writer.begin.begin_plain.Reads.Learnt
+begin-plain-one κs a x y v w p q = alike p q λ o. (o, v)
 
-pub add-one : (w : Writer) (r : Rec) (buffer : List ℕ) → OneAnswer (addOf w r buffer)
-add-one w r buffer = one-answer (addOf w r buffer)
+pub add-one : OneAnswer writer.Writer.add.ended writer.Writer.add.Reads.Learnt
+add-one κs a x y v w p q = alike (p .0) (q .0) λ o. (o .0, (v .0, (o .1, v .1 .1)))
 
-pub finish-one : (w : Writer) (padding : ℕ) (buffer output : List ℕ) → OneAnswer (finishOf w padding buffer output)
-finish-one w padding buffer output = one-answer (finishOf w padding buffer output)
+pub finish-one : OneAnswer writer.Writer.finish.ended writer.Writer.finish.Reads.Learnt
+finish-one κs a x y v w p q = alike p q λ o. (o .0, (v .0, (o .1, v .1 .1)))
 
 -- ---- listed
 
-pub list-one : (tag work out : List ℕ) → OneAnswer (putLines (linesOf tag work) 0 work out)
-list-one tag work out = one-answer (putLines (linesOf tag work) 0 work out)
+pub list-one : OneAnswer listed.list.ended listed.list.Reads.Learnt
+list-one κs a x y v w p q = alike p q λ o. (o .0, (o .1 .0, (o .1 .1, v .1 .1)))
 
 -- ---- back
 
-pub there-and-back-one : (version mode padding : ℕ) (r : Rec) (buffer output work : List ℕ) → OneAnswer (backOf version mode padding r buffer output work)
-there-and-back-one version mode padding r buffer output work = one-answer (backOf version mode padding r buffer output work)
+pub there-and-back-one : OneAnswer back.there_and_back.ended back.there_and_back.Reads.Learnt
+there-and-back-one κs a x y v w p q = alike (p .0) (q .0) λ o. (o .0, (o .1 .0, (o .1 .1 .0, (o .1 .1 .1, v .1 .1 .1))))
 
 -- ---- capi
 
-pub sv-header-one : (tag header : List ℕ) → OneAnswer (svHeader tag header)
-sv-header-one tag header = one-answer (svHeader tag header)
+pub sv-header-one : OneAnswer capi.sv_header.ended capi.sv_header.Reads.Learnt
+sv-header-one κs a x y v w p q = alike p q λ o. (o .0, (v .0, (o .1, v .1 .1)))
 
-pub sv-open-one : (tag work reader : List ℕ) → OneAnswer (svOpen tag work reader)
-sv-open-one tag work reader = one-answer (svOpen tag work reader)
+pub sv-open-one : OneAnswer capi.sv_open.ended capi.sv_open.Reads.Learnt
+sv-open-one κs a x y v w p q = alike p q λ o. (o .0, (v .0, (o .1, (o .2, v .1 .1 .1))))
 
-pub sv-step-one : (tag work reader words : List ℕ) → OneAnswer (svStep tag work reader words)
-sv-step-one tag work reader words = one-answer (svStep tag work reader words)
+pub sv-step-one : OneAnswer capi.sv_step.ended capi.sv_step.Reads.Learnt
+sv-step-one κs a x y v w p q = alike p q λ o. (o .0, (v .0, (o .1, (o .2, (o .3, v .1 .1 .1 .1)))))
 
-pub sv-begin-one : (version mode altered : ℕ) (writer : List ℕ) → OneAnswer (svBegin version mode altered writer)
-sv-begin-one version mode altered writer = one-answer (svBegin version mode altered writer)
+pub sv-begin-one : OneAnswer capi.sv_begin.ended capi.sv_begin.Reads.Learnt
+sv-begin-one κs a x y v w p q = alike p q λ o. (o .0, (v .0, (v .1 .0, (v .1 .1 .0, (o .1, v .1 .1 .1 .1)))))
 
-pub sv-add-one : (words name names rest deviations buffer writer count : List ℕ) → OneAnswer (svAdd words name names rest deviations buffer writer count)
-sv-add-one words name names rest deviations buffer writer count = one-answer (svAdd words name names rest deviations buffer writer count)
+pub sv-add-one : OneAnswer capi.sv_add.ended capi.sv_add.Reads.Learnt
+sv-add-one κs a x y v w p q = alike p q λ o. (o .0, (v .0, (v .1 .0, (v .1 .1 .0, (v .1 .1 .1 .0, (v .1 .1 .1 .1 .0, (o .1, (o .2, (o .3, tt)))))))))
 
-pub sv-finish-one : (padding : ℕ) (buffer output writer count : List ℕ) → OneAnswer (svFinish padding buffer output writer count)
-sv-finish-one padding buffer output writer count = one-answer (svFinish padding buffer output writer count)
+pub sv-finish-one : OneAnswer capi.sv_finish.ended capi.sv_finish.Reads.Learnt
+sv-finish-one κs a x y v w p q = alike p q λ o. (o .0, (v .0, (v .1 .0, (o .1, (v .1 .1 .1 .0, (o .2, tt))))))
 
-pub sv-references-one : (words rest deviations count : List ℕ) → OneAnswer (svReferences words rest deviations count)
-sv-references-one words rest deviations count = one-answer (svReferences words rest deviations count)
+pub sv-references-one : OneAnswer capi.sv_references.ended capi.sv_references.Reads.Learnt
+sv-references-one κs a x y v w p q = alike p q λ o. (o .0, (v .0, (v .1 .0, (o .1, (o .2, tt)))))
+
+pub sv-meter-open-one : OneAnswer capi.sv_meter_open.ended capi.sv_meter_open.Reads.Learnt
+sv-meter-open-one κs a x y v w p q = alike p q λ o. (o .0, (v .0, (o .1, (o .2, v .1 .1 .1))))
+
+pub sv-meter-next-one : OneAnswer capi.sv_meter_next.ended capi.sv_meter_next.Reads.Learnt
+sv-meter-next-one κs a x y v w p q = alike p q λ o. (o .0, (v .0, (o .1, (o .2, (o .3, v .1 .1 .1 .1)))))

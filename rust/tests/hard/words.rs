@@ -125,6 +125,24 @@ pub fn field_limits(kind: u64) -> &'static [u64] {
     }
 }
 
+/// The same, only of those fields of which no refusal but the wrong id speaks.
+fn unspoken_limits(kind: u64) -> &'static [u64] {
+    match kind {
+        SV_KIND_TEXT => &[],
+        SV_KIND_TABLE => &[0xFFFF],
+        _ => field_limits(kind),
+    }
+}
+
+/// Whether words say a record to be written: a number beyond its field that a refusal speaks of is refused with that one.
+pub fn is_given_record(words: &[u64]) -> bool {
+    let kind = words[SV_RECORD_KIND];
+    kind <= SV_KIND_RAW
+        && words[SV_RECORD_ID] <= 0xFFFF_FFFF
+        && words[4..].iter().zip(unspoken_limits(kind)).all(|(word, most)| word <= most)
+}
+
+/// Whether words say a record that a step may show.
 pub fn is_record(words: &[u64]) -> bool {
     let kind = words[SV_RECORD_KIND];
     kind <= SV_KIND_RAW

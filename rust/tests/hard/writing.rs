@@ -1,7 +1,7 @@
 //! Hard use of the functions that write, and of the one that unpacks references.
 
 use crate::common::Numbers;
-use crate::words::{is_record, is_writer, record_words, some_words, word, writer_words};
+use crate::words::{is_given_record, is_writer, record_words, some_words, word, writer_words};
 use crate::{tags, Buffers, ADDS, BEGINS, FINISHES, REFERENCES};
 use streamvault::calls::{self, Given};
 use streamvault::sys::*;
@@ -86,7 +86,7 @@ impl Buffers {
 
     /// Words that no call leaves have their answer.
     fn answered_to_words(&self, answer: u32) {
-        match (is_writer(self.state.was()), is_record(self.record.was())) {
+        match (is_writer(self.state.was()), is_given_record(self.record.was())) {
             (true, true) => assert_ne!(answer, SV_UNKNOWN_VERSION),
             (true, false) => assert_eq!(answer, SV_WRONG_ID),
             (false, _) => assert_eq!(answer, SV_UNKNOWN_VERSION),
@@ -192,7 +192,7 @@ impl Buffers {
     /// The answer and the count that a table has: as many references as fit whole. Another record has none.
     fn unpacked(&self) -> (u32, u64) {
         let record = self.record.was();
-        if !is_record(record) {
+        if !is_given_record(record) {
             return (SV_WRONG_ID, 0);
         }
         if record[SV_RECORD_KIND] != SV_KIND_TABLE {
