@@ -25,7 +25,7 @@ openedWords m words =
 
 -- ---- going on
 
--- whether it is a running meter that words say, if they say an edition
+-- whether words say a running meter, if the first says an edition
 abbrev pub isRunning : List ℕ → Bool
 isRunning words =
     (eqb (word 5 words) 0 && eqb (word 6 words) 0)

@@ -41,13 +41,13 @@ ghost use Rattle.capi.specs.Meters.{svMeterOpen, svMeterNext};
 // Fewer words than a call takes.
 const SHORT: u32 = NO_ROOM as u32;
 
-// Words that are no state of a reader or a writer.
+// Words that are no state of a reader, a meter or a writer.
 const NO_STATE: u32 = UNKNOWN_VERSION as u32;
 
 // Words that are no record.
 const NO_RECORD: u32 = WRONG_ID as u32;
 
-// The end of a tag's frames.
+// The end of a tag's frames, or of its popularimeters.
 const END: u32 = 256;
 
 // The count of a refused call.

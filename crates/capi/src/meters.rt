@@ -1,9 +1,10 @@
 // Meters and metered popularimeters, loaded from words and stored there. What each word means stands in specs/Meters.antt.
+use crate::END;
+use crate::NO_STATE;
 use crate::words::flag;
 use crate::words::is_reader;
 use crate::words::version_number;
 use format::Version;
-use format::refusals::UNKNOWN_VERSION;
 use meter::Meter;
 use meter::Metered;
 use meter::Next;
@@ -14,12 +15,6 @@ ghost use Prim.Native.Nat.{_≤_};
 ghost use lib.ListN.{length};
 ghost use Rattle.capi.specs.Meters.{isMeter, meterWith, meteredWords};
 ghost use Rattle.capi.specs.Metering.{openedWords, versionIn, isRunning, stoppedOf, movedWords, answeredOf};
-
-// Words that are no state of a meter.
-const NO_STATE: u32 = UNKNOWN_VERSION as u32;
-
-// The end of a tag's popularimeters.
-const END: u32 = 256;
 
 // The edition that a number says.
 pub enum GivenVersion {
@@ -51,7 +46,7 @@ pub(crate) fn store_opened(words: &mut [u64], m: Meter)
 
 // ---- a meter that runs
 
-// Whether words that say a meter say one that runs: nothing else of them but the edition is open then.
+// Whether words say a meter that runs, if the first says an edition.
 pub(crate) fn is_running(words: &[u64]) -> bool
     requires { ⌜ 11 ≤ length (now words) ⌝ }
     ensures { λ r. ⌜ r ≡ isRunning (now (words .entry)) ⌝ }
@@ -74,7 +69,7 @@ pub(crate) fn version_in(n: u64) -> GivenVersion
     }
 }
 
-// The meter that such words say.
+// The meter that words say, if it is one that runs.
 pub(crate) fn running(words: &[u64], version: Version) -> Meter
     requires { ⌜ 11 ≤ length (now words) ⌝ }
     ensures { λ r. ⌜ r ≡ meterWith version Stop.Running (now (words .entry)) ⌝ }
