@@ -34,7 +34,7 @@ pub read64-one : OneAnswer loads.read64.ended loads.read64.Reads.Learnt
 read64-one κs a x y v w p q = alike p q λ o. (o, v)
 
 pub read-few-one : OneAnswer loads.read_few.ended loads.read_few.Reads.Learnt
-read-few-one κs a x y v w p q = alike p q λ o. (o, v)
+read-few-one κs a x y v w p q = alike (p .0) (q .0) λ o. (o, v)
 
 -- ---- unsynch
 
