@@ -21,7 +21,8 @@ use Rattle.reader.specs.declared.Reader.{Reader}
 use Rattle.reader.specs.declared.Opened.{Opened}
 use Rattle.reader.proofs.Refusals.{Begun, no-extended}
 use Rattle.meter.specs.Meter.{isMissing, meterAt, openedAs, meterOpenOf}
-use Rattle.meter.specs.Openings.{isPlain, plainVersion}
+use Rattle.meter.specs.Openings.{frontIf, frontOf}
+use Rattle.meter.specs.declared.opening.Front.{Front}
 use Rattle.meter.specs.declared.Meter.{Meter}
 use Rattle.meter.specs.declared.MeterOpened.{MeterOpened}
 
@@ -97,20 +98,30 @@ module _ (tag : List ℕ) (bytes : Digits 256 tag) (long : 10 ≤ length tag) wh
         let first = sym is-front ∙ is in
         (begins e h first, none-plain tag e v (edition-of e h first) is-v is-known (sym is-flags ∙ f))
 
-    plain-front : (two : Bool) → eqb front 0x4944_3302 ≡ two → (three : Bool) → eqb front 0x4944_3303 ≡ three → (four : Bool) → eqb front 0x4944_3304 ≡ four
-        → pick two (eqb flags 0) (pick three (eqb flags 0) (pick four (eqb (flags % 0x80) 0) false)) ≡ true → Begins (pick two Id3v22 (pick three Id3v23 Id3v24))
-    plain-front true e2 three e3 four e4 h = begins-with 2 Id3v22 (omega arith) (eqb-true front 0x4944_3302 e2) refl refl (eqb-true flags 0 h)
-    plain-front false e2 true e3 four e4 h = begins-with 3 Id3v23 (omega arith) (eqb-true front 0x4944_3303 e3) refl refl (eqb-true flags 0 h)
-    plain-front false e2 false e3 true e4 h =
-        let first = sym is-front ∙ eqb-true front 0x4944_3304 e4 in
-        (begins 4 (omega arith) first, four-plain tag (edition-of 4 (omega arith) first) (ap (λ (f : ℕ). f % 128) (sym is-flags) ∙ eqb-true (flags % 0x80) 0 h))
-    plain-front false e2 false e3 false e4 h = absurd (let z : _≡_ {A = ℕ} 0 1 = cc in omega arith)
+    plain-if : (clear : Bool) (v u : Version) → frontIf clear v ≡ Front.Plain u → (clear ≡ true) × (v ≡ u)
+    plain-if true v u h = (refl, cc)
+    plain-if false v u h = absurd (let z : _≡_ {A = ℕ} 0 1 = cc in omega arith)
 
-    pub opens : isPlain front flags ≡ true → (work : List ℕ)
-        → _≡_ {A = MeterOpened × List ℕ} (MeterOpened.Ready (meterAt (isMissing tag) (readerAt (plainVersion front) false 10 (min (10 + sizeOf tag) (length tag)))), work) (meterOpenOf tag work)
-    opens h work =
-        let p = plain-front (eqb front 0x4944_3302) refl (eqb front 0x4944_3303) refl (eqb front 0x4944_3304) refl h in
-        meter-plain (plainVersion front) (p .0) (p .1) work
+    plain-front : (u : Version) (two : Bool) → eqb front 0x4944_3302 ≡ two → (three : Bool) → eqb front 0x4944_3303 ≡ three → (four : Bool) → eqb front 0x4944_3304 ≡ four
+        → pick two (frontIf (eqb flags 0) Id3v22) (pick three (frontIf (eqb flags 0) Id3v23) (pick four (frontIf (eqb (flags % 0x80) 0) Id3v24) Front.Other)) ≡ Front.Plain u → Begins u
+    plain-front u true e2 three e3 four e4 h =
+        let p = plain-if (eqb flags 0) Id3v22 u h in
+        rw (← p .1) (begins-with 2 Id3v22 (omega arith) (eqb-true front 0x4944_3302 e2) refl refl (eqb-true flags 0 (p .0)))
+    plain-front u false e2 true e3 four e4 h =
+        let p = plain-if (eqb flags 0) Id3v23 u h in
+        rw (← p .1) (begins-with 3 Id3v23 (omega arith) (eqb-true front 0x4944_3303 e3) refl refl (eqb-true flags 0 (p .0)))
+    plain-front u false e2 false e3 true e4 h =
+        let p = plain-if (eqb (flags % 0x80) 0) Id3v24 u h in
+        let first = sym is-front ∙ eqb-true front 0x4944_3304 e4 in
+        rw (← p .1)
+        (begins 4 (omega arith) first, four-plain tag (edition-of 4 (omega arith) first) (ap (λ (f : ℕ). f % 128) (sym is-flags) ∙ eqb-true (flags % 0x80) 0 (p .0)))
+    plain-front u false e2 false e3 false e4 h = absurd (let z : _≡_ {A = ℕ} 0 1 = cc in omega arith)
+
+    pub opens : (v : Version) → frontOf front flags ≡ Front.Plain v → (work : List ℕ)
+        → _≡_ {A = MeterOpened × List ℕ} (MeterOpened.Ready (meterAt (isMissing tag) (readerAt v false 10 (min (10 + sizeOf tag) (length tag)))), work) (meterOpenOf tag work)
+    opens v h work =
+        let p = plain-front v (eqb front 0x4944_3302) refl (eqb front 0x4944_3303) refl (eqb front 0x4944_3304) refl h in
+        meter-plain v (p .0) (p .1) work
 
 -- ---- any header
 

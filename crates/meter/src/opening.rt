@@ -16,7 +16,7 @@ ghost use lib.ListN.{length};
 ghost use Rattle.format.specs.Header.{sizeOf};
 ghost use Rattle.reader.specs.Reader.{readerAt};
 ghost use Rattle.meter.specs.Meter.{isMissing, meterAt, meterOpenOf};
-ghost use Rattle.meter.specs.Openings.{isPlain, plainVersion};
+ghost use Rattle.meter.specs.Openings.{frontIf, frontOf};
 
 // "ID3" and an edition's number, as one number.
 const ID3_2: u32 = 0x4944_3302;
@@ -43,37 +43,43 @@ fn is_missing(tag: &[u8]) -> bool
     tag.len() - 10 < size_of(tag)
 }
 
-// Whether no flag of a header counts, by its first four bytes as one number and its flag byte. In 2.4 the flag for
-// unsynchronised bytes says nothing.
-fn is_plain(front: u32, flags: u8) -> bool
-    ensures { λ r. ⌜ r ≡ isPlain front flags ⌝ }
+// The edition of a header of which no flag counts, or that it has to be looked at in full.
+enum Front {
+    Plain(Version),
+    Other,
+}
+
+// The edition where a flag is clear.
+fn where_clear(clear: bool, version: Version) -> Front
+    ensures { λ r. ⌜ r ≡ frontIf clear version ⌝ }
 {
-    match front {
-        ID3_2 => flags == 0,
-        ID3_3 => flags == 0,
-        ID3_4 => flags % 0x80 == 0,
-        _ => false,
+    if clear {
+        Front::Plain(version)
+    } else {
+        Front::Other
     }
 }
 
-// The edition of such a header.
-fn version(front: u32) -> Version
-    ensures { λ r. ⌜ r ≡ plainVersion front ⌝ }
+// What a header says by its first four bytes as one number and its flag byte. In 2.4 the flag for unsynchronised bytes
+// says nothing.
+fn front_of(front: u32, flags: u8) -> Front
+    ensures { λ r. ⌜ r ≡ frontOf front flags ⌝ }
 {
     match front {
-        ID3_2 => Version::Id3v22,
-        ID3_3 => Version::Id3v23,
-        _ => Version::Id3v24,
+        ID3_2 => where_clear(flags == 0, Version::Id3v22),
+        ID3_3 => where_clear(flags == 0, Version::Id3v23),
+        ID3_4 => where_clear(flags % 0x80 == 0, Version::Id3v24),
+        _ => Front::Other,
     }
 }
 
 // A reader at the first frame of a tag with such a header.
-fn plain_reader(tag: &[u8], front: u32) -> Reader
+fn plain_reader(tag: &[u8], version: Version) -> Reader
     requires { ⌜ 10 ≤ length (now tag) ⌝ }
-    ensures { λ r. ⌜ r ≡ readerAt (plainVersion front) false 10 (min (10 + sizeOf (now (tag .entry))) (length (now (tag .entry)))) ⌝ }
+    ensures { λ r. ⌜ r ≡ readerAt version false 10 (min (10 + sizeOf (now (tag .entry))) (length (now (tag .entry)))) ⌝ }
 {
     Reader {
-        version: version(front),
+        version,
         in_work: false,
         begin: 10,
         at: 10,
@@ -114,9 +120,11 @@ pub fn open(work: &mut [u8], tag: &[u8]) -> MeterOpened
     if tag.len() < 10 {
         return open_any(work, tag);
     }
-    let front = read32(tag, 0);
-    if !is_plain(front, tag[5]) {
-        return open_any(work, tag);
+    let front = front_of(read32(tag, 0), tag[5]);
+    match front {
+        Front::Plain(version) => {
+            MeterOpened::Ready(metered(plain_reader(tag, version), is_missing(tag)))
+        }
+        Front::Other => open_any(work, tag),
     }
-    MeterOpened::Ready(metered(plain_reader(tag, front), is_missing(tag)))
 }
