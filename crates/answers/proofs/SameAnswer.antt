@@ -93,7 +93,6 @@ sv-step-told c = (c .answer, c .left .1 .0, c .left .1 .1 .0, c .left .1 .1 .1 .
 pub sv-step-same : SameAnswer sv_step.ended sv_step.Reads.Learnt sv-step-given sv-step-told
 sv-step-same c d p q e = p ∙ ap (λ (i : List ℕ × List ℕ × List ℕ × List ℕ). svStep (i .0) (i .1) (i .2) (i .3)) e ∙ sym q
 
--- of walk.record.source, whose answer is a reference
 -- ---- record::source: where the frames lie, work and tag; the bytes that the answer refers to
 abbrev pub source-given : Call source.ended → Bool × List ℕ × List ℕ
 source-given c = (c .args .0, c .args .1 .0 .now, c .args .1 .1 .0 .now)
