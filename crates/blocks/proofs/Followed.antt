@@ -13,10 +13,10 @@ use Rattle.format.specs.Bytes.{pick, first, named, putFront}
 use Rattle.format.specs.Unsynch.{resynchronised}
 use Rattle.format.specs.Numbers.{number, fromSynchsafe}
 use Rattle.format.specs.Header.{editionOf, flagsOf, sizeOf, versionOf, isWhole, isExtended, cutOf, extOf, headerChecks, headerRefusal, regionStart, regionEnd, regionOf}
+use Rattle.format.specs.Numbered.{modeOf}
 use Rattle.format.specs.declared.Version.{Version}
 use Rattle.format.proofs.Checks.{of-picked, none-of, first-stops}
 use Rattle.format.proofs.Tags.{tag-headed}
-use Rattle.writer.specs.Writer.{modeOf}
 use Rattle.reader.specs.Reader.{readerAt, openWhole, openOf}
 use Rattle.reader.specs.declared.Opened.{Opened}
 use Rattle.promises.specs.Reading.{unfinished, readFrom, onOpen, readFor, readAll}

@@ -10,6 +10,7 @@ use lib.Seq.{sets, sets-eq, drop-set-lt}
 use lib.Dec.{leb, eqb}
 use borrow.Author.Tests.{le-leb, lt-ltb}
 use Rattle.format.specs.Header.{versionOf}
+use Rattle.format.specs.Numbered.{isVersion, modeNumber, modeOf, versionNumber}
 use Rattle.format.specs.declared.Version.{Version}
 use Rattle.format.specs.declared.Mode.{Mode}
 use Rattle.format.specs.declared.Fields.{Fields}
@@ -19,13 +20,12 @@ use Rattle.reader.specs.declared.Stop.{Stop}
 use Rattle.reader.specs.declared.Reader.{Reader}
 use Rattle.meter.specs.declared.Meter.{Meter}
 use Rattle.meter.specs.declared.Metered.{Metered}
-use Rattle.writer.specs.Writer.{modeOf}
 use Rattle.writer.specs.declared.Writer.{Writer}
 use Rattle.capi.specs.declared.words.GivenReader.{GivenReader}
 use Rattle.capi.specs.declared.words.GivenWriter.{GivenWriter}
 use Rattle.capi.specs.declared.records.GivenFields.{GivenFields}
 use Rattle.capi.specs.declared.records.GivenHeading.{GivenHeading}
-use Rattle.capi.specs.Words.{word, flag, isFlag, isVersion, versionNumber, modeNumber, stopNumber, failure, isStop, stopOf, readerList, readerWords, readerOf, headerWords, writerList, writerWords, writerOf, numbersOf, headingList, placeList, recordWords, cap8, cap32, fieldsOf, isMark, headingOf, StopFits, FieldsFit, HeadingFits}
+use Rattle.capi.specs.Words.{word, flag, isFlag, stopNumber, failure, isStop, stopOf, readerList, readerWords, readerOf, headerWords, writerList, writerWords, writerOf, numbersOf, headingList, placeList, recordWords, cap8, cap32, fieldsOf, isMark, headingOf, StopFits, FieldsFit, HeadingFits}
 use Rattle.capi.specs.Meters.{meterList, meterWords, meterOf, meteredWords}
 
 -- ---- words

@@ -7,8 +7,9 @@ use lib.Dec.{leb, eqb}
 use borrow.Author.Tests.{eqb-true, leb-true, ne-eqb}
 use Rattle.lists.proofs.Bools.{and-true}
 use Rattle.format.specs.Bytes.{pick}
+use Rattle.format.specs.Numbered.{isVersion}
 use Rattle.capi.specs.declared.records.GivenFields.{GivenFields}
-use Rattle.capi.specs.Words.{isVersion, isFlag, isStop, isReader, fieldsOf}
+use Rattle.capi.specs.Words.{isFlag, isStop, isReader, fieldsOf}
 
 -- the number of a reader's refusal fits a byte
 small-in : (two : Bool) (stop number : ℕ) → pick two (leb 1 number && leb number 255) (leb stop 1 && eqb number 0) ≡ true → number ≤ 255

@@ -13,6 +13,7 @@ use Rattle.format.proofs.Checks.{of-picked}
 use Rattle.format.specs.Bytes.{pick}
 use Rattle.format.specs.Unsynch.{resynchronised}
 use Rattle.format.specs.Header.{versionOf, isWhole, headerRefusal, regionOf}
+use Rattle.format.specs.Numbered.{isVersion, versionNumber}
 use Rattle.format.specs.declared.Version.{Version}
 use Rattle.reader.specs.Reader.{stoppedAs, openWhole, openOf}
 use Rattle.reader.specs.declared.Stop.{Stop}
@@ -25,7 +26,7 @@ use Rattle.meter.specs.declared.Next.{Next}
 use Rattle.meter.proofs.Meets.{next-ended, next-failed}
 use Rattle.meter.proofs.Keeps.{Goes, next-goes}
 use Rattle.capi.specs.declared.meters.GivenVersion.{GivenVersion}
-use Rattle.capi.specs.Words.{word, flag, isFlag, isVersion, versionNumber, stopNumber, failure, isStop, stopOf, isReader}
+use Rattle.capi.specs.Words.{word, flag, isFlag, stopNumber, failure, isStop, stopOf, isReader}
 use Rattle.capi.specs.Calls.{short, Left2, Left3}
 use Rattle.capi.specs.Meters.{meterWords, isMeter, meterWith, meterOf, svMeterOpen, afterNext, nextWith, svMeterNext}
 use Rattle.capi.proofs.Loads.{number-small}

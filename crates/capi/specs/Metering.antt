@@ -8,10 +8,11 @@ use lib.Seq.{sets}
 use lib.Dec.{eqb}
 use Rattle.format.specs.Bytes.{pick}
 use Rattle.format.specs.Header.{versionOf}
+use Rattle.format.specs.Numbered.{isVersion, versionNumber}
 use Rattle.meter.specs.declared.Meter.{Meter}
 use Rattle.meter.specs.declared.Next.{Next}
 use Rattle.capi.specs.declared.meters.GivenVersion.{GivenVersion}
-use Rattle.capi.specs.Words.{word, flag, isFlag, isVersion, versionNumber}
+use Rattle.capi.specs.Words.{word, flag, isFlag}
 use Rattle.capi.specs.Calls.{Left2}
 use Rattle.capi.specs.Meters.{isMeter, meteredWords}
 

@@ -7,6 +7,7 @@ use lib.Seq.{sets}
 use lib.Dec.{ltb, leb, eqb}
 use Rattle.format.specs.Bytes.{pick}
 use Rattle.format.specs.Header.{versionOf}
+use Rattle.format.specs.Numbered.{isVersion, modeNumber, modeOf, versionNumber}
 use Rattle.format.specs.Ids.{kindNumber}
 use Rattle.format.specs.declared.Version.{Version}
 use Rattle.format.specs.declared.Mode.{Mode}
@@ -17,7 +18,7 @@ use Rattle.format.specs.declared.Record.{Record}
 use Rattle.reader.specs.declared.Header.{Header}
 use Rattle.reader.specs.declared.Stop.{Stop}
 use Rattle.reader.specs.declared.Reader.{Reader}
-use Rattle.writer.specs.Writer.{modeOf, isKnown}
+use Rattle.writer.specs.Writer.{isKnown}
 use Rattle.writer.specs.declared.Writer.{Writer}
 use Rattle.capi.specs.declared.words.GivenReader.{GivenReader}
 use Rattle.capi.specs.declared.words.GivenWriter.{GivenWriter}
@@ -37,20 +38,6 @@ flag true = 1
 
 abbrev pub isFlag : ℕ → Bool
 isFlag n = leb n 1
-
--- the editions are 2, 3 and 4, the modes 0, 1 and 2
-abbrev pub versionNumber : Version → ℕ
-versionNumber Version.Id3v22 = 2
-versionNumber Version.Id3v23 = 3
-versionNumber Version.Id3v24 = 4
-
-abbrev pub isVersion : ℕ → Bool
-isVersion n = leb 2 n && leb n 4
-
-abbrev pub modeNumber : Mode → ℕ
-modeNumber Mode.Off = 0
-modeNumber Mode.Crate = 1
-modeNumber Mode.Standard = 2
 
 -- ---- a header, four words
 

@@ -10,8 +10,9 @@ ghost use mathlib.Core.Bool.{_&&_};
 ghost use Prim.Native.Nat.{_≤_};
 ghost use lib.ListN.{length};
 ghost use Rattle.format.specs.Header.{versionOf};
-ghost use Rattle.writer.specs.Writer.{modeOf, isKnown};
-ghost use Rattle.capi.specs.Words.{flag as flagOf, isFlag, isVersion, versionNumber, modeNumber, stopNumber, failure, stopOf, isStop, headerWords, isReader, readerWords, readerOf, writerWords, writerOf};
+ghost use Rattle.format.specs.Numbered.{isVersion, modeNumber, modeOf, versionNumber};
+ghost use Rattle.writer.specs.Writer.{isKnown};
+ghost use Rattle.capi.specs.Words.{flag as flagOf, isFlag, stopNumber, failure, stopOf, isStop, headerWords, isReader, readerWords, readerOf, writerWords, writerOf};
 
 // The reader that words say.
 pub enum GivenReader {

@@ -9,32 +9,27 @@ use lib.Dec.{eqb, leb}
 use borrow.Author.Tests.{eqb-true, leb-false, ne-eqb}
 use Rattle.lists.proofs.Bools.{false-not-true, or-false}
 use Rattle.format.specs.Bytes.{onlyIf, zeros}
-use Rattle.format.specs.Unsynch.{resync, resynchronised, guards, unsync, unsynchronised, isOn, NoSync}
+use Rattle.format.specs.Unsynch.{resync, resynchronised, guards, unsync, unsynchronised, isOn, endsFF, NoSync}
 use Rattle.format.specs.declared.Mode.{Mode}
 use Rattle.format.specs.declared.Mode.the-variants.{Off, Crate, Standard}
-
--- whether the last byte is FF; of no bytes, what was before
-unfoldable pub endsFF : Bool → List ℕ → Bool
-endsFF prev [] = prev
-endsFF prev (x ∷ s) = endsFF (eqb x 255) s
 
 -- ---- there and back
 
 module _ (guard : ℕ → Bool) (zero-guarded : guard 0 ≡ true) where
   -- one byte: a zero that was put in goes, and a zero that was there stays
-  one : (prev g z : Bool) (x : ℕ) (s more : List ℕ) → guard x ≡ g → eqb x 0 ≡ z
+  byte-back : (prev g z : Bool) (x : ℕ) (s more : List ℕ) → guard x ≡ g → eqb x 0 ≡ z
       → resync prev (onlyIf (prev && guard x) 0 (x ∷ s) ++ more) ≡ x ∷ resync (eqb x 255) (s ++ more)
   unfolding resync
-  one false g z x s more eg ez = refl
-  one true true z x s more eg ez = rw eg
-  one true false true x s more eg ez = let e : x ≡ 0 = eqb-true x 0 ez in cc
-  one true false false x s more eg ez = rw (eg, ez)
+  byte-back false g z x s more eg ez = refl
+  byte-back true true z x s more eg ez = rw eg
+  byte-back true false true x s more eg ez = let e : x ≡ 0 = eqb-true x 0 ez in cc
+  byte-back true false false x s more eg ez = rw (eg, ez)
 
   unsynced : (prev : Bool) (s more : List ℕ) → resync prev (unsync guard prev s ++ more) ≡ s ++ resync (endsFF prev s) more
   unfolding unsync endsFF resync
   unsynced prev [] more = refl
   unsynced prev (x ∷ s) more =
-      one prev (guard x) (eqb x 0) x (unsync guard (eqb x 255) s) more refl refl
+      byte-back prev (guard x) (eqb x 0) x (unsync guard (eqb x 255) s) more refl refl
       ∙ ap {B = List ℕ} (λ (l : List ℕ). x ∷ l) (unsynced (eqb x 255) s more)
 
 -- Resynchronising what was unsynchronised gives the bytes back, with more bytes behind them.

@@ -4,6 +4,7 @@ pub mod Numbers
 pub mod Unsynch
 pub mod Ids
 pub mod Header
+pub mod Numbered
 pub mod Frame
 pub mod Text
 pub mod Popularimeter

@@ -31,6 +31,11 @@ unsync guard prev (x ∷ s) = onlyIf (prev && guard x) 0 (x ∷ unsync guard (eq
 abbrev pub unsynchronised : Mode → List ℕ → List ℕ
 unsynchronised m s = unsync (guards m) false s
 
+-- whether the last byte is FF; of no bytes, what was before
+unfoldable pub endsFF : Bool → List ℕ → Bool
+endsFF prev [] = prev
+endsFF prev (x ∷ s) = endsFF (eqb x 255) s
+
 -- whether a mode is on
 abbrev pub isOn : Mode → Bool
 isOn Off = false

@@ -1,6 +1,8 @@
 // The metered tag: the types of frames and records. What they mean stands in specs/.
 pub mod classes;
+pub mod numbered;
 pub mod refusals;
+pub mod small;
 
 // The editions of ID3v2.
 pub enum Version {

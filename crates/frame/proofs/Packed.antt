@@ -10,7 +10,8 @@ use lib.Pow.{pow-pos, pow-mono, shl-exact}
 use lib.ListN.{length, take, drop, getD, length-take, length-drop, length-append, take-append-drop}
 use lib.Seq.{slice, take-all, drop-drop, take-append-add, drop-append-add, take-nil, drop-nil}
 use Rattle.lists.proofs.Parts.{each-take, each-drop}
-use Rattle.lists.proofs.Cuts.{take-drop, cut-of-take, length-cut}
+use Rattle.lists.proofs.Cuts.{take-drop, length-cut}
+use Rattle.lists.proofs.Slices.{take-drop-take}
 use Rattle.format.specs.Numbers.{digits, onto, number}
 use Rattle.format.specs.Table.{spread, gathered}
 use Rattle.format.proofs.Numbers.{Digits, length-digits, onto-digits, onto-above}
@@ -84,7 +85,7 @@ bits-read s k n r w d inside h =
     ∙ ap (λ (x : ℕ). x / 2 ^ z % 2 ^ w) (sym (bits-number 0 t dt))
     ∙ middle r w z (spread 8 8 t) (spread-bits 8 8 t) len
     ∙ ap (λ (l : List ℕ). onto 2 0 (take w (drop r l))) e
-    ∙ rw (cut-of-take w r (n * 8) (drop (k * 8) (spread 8 8 s)) h, drop-drop)
+    ∙ rw (take-drop-take w r (n * 8) (drop (k * 8) (spread 8 8 s)) h, drop-drop)
 
 -- the same of as many bytes as there may be, under a mask
 

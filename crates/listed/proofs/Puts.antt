@@ -13,6 +13,7 @@ use Rattle.format.specs.Listing.{tagLine, frameLine, endLine, refusedLine}
 use Rattle.format.specs.declared.Version.{Version}
 use Rattle.format.specs.declared.Span.{Span}
 use Rattle.format.specs.declared.Record.{Record}
+use Rattle.format.specs.Numbered.{versionNumber}
 use Rattle.lines.specs.Placed.{placedOf}
 use Rattle.lines.specs.declared.Placed.{Placed}
 use Rattle.reader.specs.Reader.{headerOf, openOf, Stepped, stepOf}
@@ -23,7 +24,7 @@ use Rattle.reader.specs.declared.Opened.{Opened}
 use Rattle.reader.specs.declared.Step.{Step}
 use Rattle.reader.proofs.Refusals.{accepted}
 use Rattle.reader.proofs.Opens.{found}
-use Rattle.listed.specs.Lines.{Line, line, editionIn, recordLine, recordIn, onStep, frameLines, onOpen, openedLines, onHeader, linesOf}
+use Rattle.listed.specs.Lines.{Line, line, recordLine, recordIn, onStep, frameLines, onOpen, openedLines, onHeader, linesOf}
 use Rattle.listed.specs.Turns.{Outcome, onPlaced, putLines, Turned, goOn, turnAs, turnOf}
 use Rattle.listed.specs.declared.Turn.{Turn}
 
@@ -226,7 +227,7 @@ module _ (tag work out : List ℕ) {h : Headed} (heads : h ≡ headerOf tag) whe
   headed = ap (λ (x : Headed). onHeader x tag work) heads
 
   -- the header's line is put, and what follows it
-  module _ {g : Header} (is : h ≡ Headed.Found g) {e : ℕ} (says : e ≡ editionIn (g .version)) {p : Placed} {o : List ℕ}
+  module _ {g : Header} (is : h ≡ Headed.Found g) {e : ℕ} (says : e ≡ versionNumber (g .version)) {p : Placed} {o : List ℕ}
       (puts : _≡_ {A = PutLine} (p, o) (placedOf (tagLine e (g .size) (g .flags) (g .ext)) 0 out)) where
     begun : onPlaced (λ q s. putLines (openedLines tag work) q work s) work p o ≡ putLines (linesOf tag work) 0 work out
     unfolding putLines

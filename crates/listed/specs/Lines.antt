@@ -10,6 +10,7 @@ use Rattle.format.specs.Listing.{tagLine, frameLine, endLine, refusedLine}
 use Rattle.format.specs.declared.Version.{Version}
 use Rattle.format.specs.declared.Version.the-variants.{Id3v22, Id3v23, Id3v24}
 use Rattle.format.specs.declared.Record.{Record}
+use Rattle.format.specs.Numbered.{versionNumber}
 use Rattle.reader.specs.Reader.{headerOf, openOf, stepOf}
 use Rattle.reader.specs.declared.Header.{Header}
 use Rattle.reader.specs.declared.Headed.{Headed}
@@ -27,13 +28,8 @@ line text work = record { text = text; work = work }
 
 -- ---- the header
 
-abbrev pub editionIn : Version → ℕ
-editionIn Id3v22 = 2
-editionIn Id3v23 = 3
-editionIn Id3v24 = 4
-
 abbrev pub headerLine : Header → List ℕ
-headerLine h = tagLine (editionIn (h .version)) (h .size) (h .flags) (h .ext)
+headerLine h = tagLine (versionNumber (h .version)) (h .size) (h .flags) (h .ext)
 
 -- ---- a frame
 

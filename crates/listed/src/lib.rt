@@ -18,8 +18,9 @@ ghost use Prim.Native.Nat.{_<_, min};
 ghost use lib.ListN.{length};
 ghost use Rattle.lines.specs.Placed.{placedOf};
 ghost use Rattle.reader.specs.Reader.{headerOf};
-ghost use Rattle.listed.specs.Lines.{editionIn, recordLine, recordIn, openedLines, frameLines, linesOf};
+ghost use Rattle.listed.specs.Lines.{recordLine, recordIn, openedLines, frameLines, linesOf};
 ghost use Rattle.listed.specs.Turns.{putLines, turnOf};
+ghost use Rattle.format.specs.Numbered.{versionNumber};
 
 // A listing goes on behind a frame's line, with the moved reader, or is done.
 enum Turn {
@@ -36,7 +37,7 @@ fn least(a: usize, b: usize) -> usize
 
 // The number behind "2." of an edition.
 fn edition(version: Version) -> u8
-    ensures { λ r. ⌜ r ≡ editionIn version ⌝ }
+    ensures { λ r. ⌜ r ≡ versionNumber version ⌝ }
 {
     match version {
         Version::Id3v22 => 2,

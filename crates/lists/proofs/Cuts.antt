@@ -1,12 +1,12 @@
 -- Laws on the rest of a list from a place on, and on slices whose ends lie anywhere. Assumes nothing.
 use mathlib.Core.Path.{_≡_, ap, _∙_}
 use Prim.Native.Nat.{ℕ, zero, suc, _+_, _-_, _≤_, _<_, min}
-use native.Mathlib.Nat.{min-zero, zero-min, suc-min-suc}
 use native.Mathlib.Numerals.{add-one}
 use native.Mathlib.Omega.{arith}
 use mathlib.Core.List.{List, [], _∷_}
 use lib.ListN.{length, take, drop, getD, length-take, length-drop}
-use lib.Seq.{drop-cons, take-nil, take-take, slice}
+use lib.Seq.{drop-cons, take-nil, slice}
+use Rattle.lists.proofs.Slices.{take-cut, drop-cut}
 
 -- ---- from a place on
 
@@ -33,24 +33,10 @@ take-drop k zero l = let e : 0 + k ≡ k = omega arith in rw e
 take-drop k (suc a) [] = rw (take-nil k, take-nil (suc a + k))
 take-drop k (suc a) (x ∷ l) = let e : suc a + k ≡ suc (a + k) = omega arith in rw e (take-drop k a l)
 
--- a part of the front of a list
-pub cut-of-take : (k a n : ℕ) (l : List ℕ) → a + k ≤ n → take k (drop a (take n l)) ≡ take k (drop a l)
-cut-of-take k a n l h = rw (take-drop k a (take n l), take-take (a + k) n l h, ← take-drop)
-
-take-min : (t : ℕ) (l : List ℕ) → take (min t (length l)) l ≡ take t l
-take-min zero l = rw zero-min
-take-min (suc t) [] = rw min-zero
-take-min (suc t) (x ∷ l) = rw suc-min-suc (ap (λ (r : List ℕ). x ∷ r) (take-min t l))
-
-drop-min : (f : ℕ) (l : List ℕ) → drop (min f (length l)) l ≡ drop f l
-drop-min zero l = rw zero-min
-drop-min (suc f) [] = rw min-zero
-drop-min (suc f) (x ∷ l) = rw suc-min-suc (drop-min f l)
-
 -- a part whose ends were moved into the list
 pub part-cut : (f t a e : ℕ) (l : List ℕ) → e ≡ min t (length l) → a ≡ min f e → take (e - a) (drop a l) ≡ slice f t l
 part-cut f t a e l he ha =
     let m : a + (e - a) ≡ e = omega arith in
-    let u : take e l ≡ take t l = rw (he, take-min) in
+    let u : take e l ≡ take t l = rw (he, take-cut) in
     let n : a ≡ min f (length (take t l)) = rw length-take (omega arith) in
-    take-drop (e - a) a l ∙ rw (m, u, n, drop-min)
+    take-drop (e - a) a l ∙ rw (m, u, n, drop-cut)

@@ -60,14 +60,14 @@ begin o p l h = record { same = refl; ends = refl; long = refl; room = h }
 
 -- the same list, the same buffer, the same place in other words
 module _ {o₀ : List ℕ} {p₀ : ℕ} {l₀ : List ℕ} where
-  pub by : {o : List ℕ} {p : ℕ} {l l′ : List ℕ} → l ≡ l′ → Storing o₀ p₀ l₀ o p l → Storing o₀ p₀ l₀ o p l′
-  by {o} {p} e s = subst (λ (m : List ℕ). Storing o₀ p₀ l₀ o p m) e s
+  pub same-list : {o : List ℕ} {p : ℕ} {l l′ : List ℕ} → l ≡ l′ → Storing o₀ p₀ l₀ o p l → Storing o₀ p₀ l₀ o p l′
+  same-list {o} {p} e s = subst (λ (m : List ℕ). Storing o₀ p₀ l₀ o p m) e s
 
-  pub on : {o o′ : List ℕ} {p : ℕ} {l : List ℕ} → o ≡ o′ → Storing o₀ p₀ l₀ o p l → Storing o₀ p₀ l₀ o′ p l
-  on {p} {l} e s = subst (λ (m : List ℕ). Storing o₀ p₀ l₀ m p l) e s
+  pub same-buffer : {o o′ : List ℕ} {p : ℕ} {l : List ℕ} → o ≡ o′ → Storing o₀ p₀ l₀ o p l → Storing o₀ p₀ l₀ o′ p l
+  same-buffer {p} {l} e s = subst (λ (m : List ℕ). Storing o₀ p₀ l₀ m p l) e s
 
-  pub at : {o : List ℕ} {p p′ : ℕ} {l : List ℕ} → p ≡ p′ → Storing o₀ p₀ l₀ o p l → Storing o₀ p₀ l₀ o p′ l
-  at {o} {l} e s = subst (λ (k : ℕ). Storing o₀ p₀ l₀ o k l) e s
+  pub same-place : {o : List ℕ} {p p′ : ℕ} {l : List ℕ} → p ≡ p′ → Storing o₀ p₀ l₀ o p l → Storing o₀ p₀ l₀ o p′ l
+  same-place {o} {l} e s = subst (λ (k : ℕ). Storing o₀ p₀ l₀ o k l) e s
 
 module _ {o₀ : List ℕ} {p₀ : ℕ} {l₀ o : List ℕ} {p : ℕ} where
   -- what is left has its place
@@ -93,7 +93,7 @@ module _ {o₀ : List ℕ} {p₀ : ℕ} {l₀ o : List ℕ} {p : ℕ} where
 
   -- a byte over another, at one place
   pub over : {x : ℕ} {l : List ℕ} (y : ℕ) → Storing o₀ p₀ l₀ o p (x ∷ l) → Storing o₀ p₀ l₀ (set (set o p y) p x) (p + 1) l
-  over {x} y s = on (sym (set-set o p y x)) (put s)
+  over {x} y s = same-buffer (sym (set-set o p y x)) (put s)
 
   -- what is left is stored at once: the place behind the whole, and the buffer with it
   pub rest : {l : List ℕ} → Storing o₀ p₀ l₀ o p l → _≡_ {A = ℕ × List ℕ} (p + length l, sets o p l) (p₀ + length l₀, sets o₀ p₀ l₀)
@@ -102,7 +102,7 @@ module _ {o₀ : List ℕ} {p₀ : ℕ} {l₀ o : List ℕ} {p : ℕ} where
   -- nothing is left: the place behind the whole, and the buffer with it
   pub done : {l : List ℕ} → l ≡ [] → Storing o₀ p₀ l₀ o p l → _≡_ {A = ℕ × List ℕ} (p, o) (p₀ + length l₀, sets o₀ p₀ l₀)
   done e s =
-      let t : Storing o₀ p₀ l₀ o p [] = by e s in
+      let t : Storing o₀ p₀ l₀ o p [] = same-list e s in
       let f : p ≡ p₀ + length l₀ = omega (arith, t .ends) in
       λ i. (f i, t .same i)
 
@@ -113,15 +113,15 @@ module _ (s : List ℕ) (from to p : ℕ) (le : to ≤ length s) where
   copy-begin o h =
       let e : from ≡ from + 0 = omega arith in
       let f : p ≡ p + 0 = omega arith in
-      at f (by (ap (λ (k : ℕ). slice k to s) e) (begin o p (slice from to s) (omega (arith, length-slice from to s le))))
+      same-place f (same-list (ap (λ (k : ℕ). slice k to s) e) (begin o p (slice from to s) (omega (arith, length-slice from to s le))))
 
   pub copy-turn : (k : ℕ) {o₀ : List ℕ} {p₀ : ℕ} {l₀ o : List ℕ} → from + k < to → Storing o₀ p₀ l₀ o (p + k) (slice (from + k) to s)
       → (p + k < length o) × Storing o₀ p₀ l₀ (set o (p + k) (getD s (from + k) 0)) (p + (k + 1)) (slice (from + (k + 1)) to s)
   copy-turn k lt t =
       let e : from + k + 1 ≡ from + (k + 1) = omega arith in
       let f : p + k + 1 ≡ p + (k + 1) = omega arith in
-      let u = by (slice-next (from + k) to s lt le) t in
-      (omega (arith, lies u), at f (by (ap (λ (j : ℕ). slice j to s) e) (put u)))
+      let u = same-list (slice-next (from + k) to s lt le) t in
+      (omega (arith, lies u), same-place f (same-list (ap (λ (j : ℕ). slice j to s) e) (put u)))
 
   pub copy-end : (k : ℕ) {o₀ : List ℕ} {p₀ : ℕ} {l₀ o : List ℕ} → to ≤ from + k → Storing o₀ p₀ l₀ o (p + k) (slice (from + k) to s) → o ≡ sets o₀ p₀ l₀
   copy-end k h t = ap (λ (z : ℕ × List ℕ). z .1) (done (slice-none (from + k) to s h) t)

@@ -13,22 +13,22 @@ abbrev pub tests : (ℕ → ℕ) → ℕ → List ℕ → Bool
 tests rule i [] = true
 tests rule i (x ∷ xs) = eqb x (rule i) && tests rule (suc i) xs
 
-left : (a b : Bool) → T (a && b) → T a
-left true b t = tt
-left false b t = t
+and-left : (a b : Bool) → T (a && b) → T a
+and-left true b t = tt
+and-left false b t = t
 
-right : (a b : Bool) → T (a && b) → T b
-right true b t = t
-right false b t = absurd t
+and-right : (a b : Bool) → T (a && b) → T b
+and-right true b t = t
+and-right false b t = absurd t
 
-from : (rule : ℕ → ℕ) (xs : List ℕ) (i : ℕ) → T (tests rule i xs) → (k : ℕ) → k < length xs → getD xs k 0 ≡ rule (i + k)
-from rule [] i t k h = absurd (omega arith)
-from rule (x ∷ xs) i t zero h =
+rule-from : (rule : ℕ → ℕ) (xs : List ℕ) (i : ℕ) → T (tests rule i xs) → (k : ℕ) → k < length xs → getD xs k 0 ≡ rule (i + k)
+rule-from rule [] i t k h = absurd (omega arith)
+rule-from rule (x ∷ xs) i t zero h =
     let e : i ≡ i + 0 = omega arith in
-    eqb→eq x (rule i) (left (eqb x (rule i)) (tests rule (suc i) xs) t) ∙ ap rule e
-from rule (x ∷ xs) i t (suc k) h =
+    eqb→eq x (rule i) (and-left (eqb x (rule i)) (tests rule (suc i) xs) t) ∙ ap rule e
+rule-from rule (x ∷ xs) i t (suc k) h =
     let e : suc i + k ≡ i + suc k = omega arith in
-    from rule xs (suc i) (right (eqb x (rule i)) (tests rule (suc i) xs) t) k (omega arith) ∙ ap rule e
+    rule-from rule xs (suc i) (and-right (eqb x (rule i)) (tests rule (suc i) xs) t) k (omega arith) ∙ ap rule e
 
 pub table-rule : (rule : ℕ → ℕ) (xs : List ℕ) → T (tests rule 0 xs) → (k : ℕ) → k < length xs → getD xs k 0 ≡ rule k
-table-rule rule xs t k h = from rule xs 0 t k h ∙ ap rule (zero-add k)
+table-rule rule xs t k h = rule-from rule xs 0 t k h ∙ ap rule (zero-add k)

@@ -9,8 +9,8 @@ use lib.ListN.{length, take, drop, getD, length-take, length-drop, take-append-d
 use lib.Pow.{pow-add, field, shl-shr}
 use lib.Seq.{slice, take-all, getD-take, length-slice}
 use Rattle.lists.proofs.Parts.{each-take, each-drop}
-use Rattle.lists.proofs.Cuts.{drop-next, length-cut, take-drop, cut-of-take}
-use Rattle.lists.proofs.Slices.{slice-drop}
+use Rattle.lists.proofs.Cuts.{drop-next, length-cut, take-drop}
+use Rattle.lists.proofs.Slices.{slice-drop, take-drop-take}
 use Rattle.format.specs.Numbers.{onto, number}
 use Rattle.format.proofs.Numbers.{Digits, onto-digits, digits-onto}
 
@@ -76,7 +76,7 @@ module _ (at m n : ℕ) (l : List ℕ) (h : at + (m + n) ≤ length l) where
   cut-in-two : slice at (at + (m + n)) l ≡ slice at (at + m) l ++ slice (at + m) (at + m + n) l
   cut-in-two =
       let whole : List ℕ = slice at (at + (m + n)) l in
-      let front : take m whole ≡ slice at (at + m) l = cut-of-take m at (at + (m + n)) l (omega arith) ∙ take-drop m at l in
+      let front : take m whole ≡ slice at (at + m) l = take-drop-take m at (at + (m + n)) l (omega arith) ∙ take-drop m at l in
       rw (← front, same-end, slice-drop) (sym (take-append-drop m whole))
 
   pub number-in-two : number (slice at (at + m) l) * 256 ^ n + number (slice (at + m) (at + m + n) l) ≡ number (slice at (at + (m + n)) l)

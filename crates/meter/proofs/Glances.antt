@@ -11,8 +11,8 @@ use lib.Bits.{bitAnd, bitOr, and-high, and-block, or-zero-l}
 use lib.Dec.{ltb, eqb·suc-zero}
 use borrow.Author.Tests.{le-ltb, lt-ltb, lt-leb, ne-eqb}
 use Rattle.lists.proofs.Parts.{each-drop, each-take}
-use Rattle.lists.proofs.Cuts.{length-cut, take-drop, cut-of-take}
-use Rattle.lists.proofs.Slices.{slice-none, slice-drop}
+use Rattle.lists.proofs.Cuts.{length-cut, take-drop}
+use Rattle.lists.proofs.Slices.{slice-none, slice-drop, take-drop-take}
 use Rattle.format.specs.Bytes.{first, pick}
 use Rattle.format.specs.Numbers.{digits, onto, number, bytesOf, fromSynchsafe}
 use Rattle.format.specs.Unsynch.{resync, resynchronised}
@@ -188,7 +188,7 @@ module _ (v : Version) (n : ℕ) (s : List ℕ) where
 module _ (at end : ℕ) (s : List ℕ) where
   pub within : (k n : ℕ) → at + k + n ≤ end → slice k (k + n) (slice at end s) ≡ slice (at + k) (at + k + n) s
   within k n h =
-      sym (take-drop n k (slice at end s)) ∙ ap (take n) (sym (slice-drop at k end s)) ∙ cut-of-take n (at + k) end s h ∙ take-drop n (at + k) s
+      sym (take-drop n k (slice at end s)) ∙ ap (take n) (sym (slice-drop at k end s)) ∙ take-drop-take n (at + k) end s h ∙ take-drop n (at + k) s
 
   pub byte-within : (k : ℕ) → at + k < end → getD (slice at end s) k 0 ≡ getD s (at + k) 0
   byte-within k h = rw (getD-drop, getD-take)
@@ -224,7 +224,7 @@ module _ (v : Version) (at left : ℕ) (s : List ℕ) (fits : at + headLen v + l
   long = length-cut at (at + headLen v + left) s ∙ omega arith
 
   front : (n : ℕ) → n ≤ headLen v → take n here ≡ slice at (at + n) s
-  front n h = cut-of-take n at (at + headLen v + left) s (omega arith) ∙ take-drop n at s
+  front n h = take-drop-take n at (at + headLen v + left) s (omega arith) ∙ take-drop n at s
 
   id-in : number (take (idLen v) here) ≡ number (slice at (at + idLen v) s)
   id-in = ap number (front (idLen v) (id-short v))

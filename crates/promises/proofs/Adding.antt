@@ -11,13 +11,14 @@ use lib.Dec.{leb, ltb, eqb}
 use borrow.Author.Tests.{eqb-true, ltb-false, leb-false, not-false}
 use Rattle.lists.proofs.Bools.{or-false, false-not-true}
 use Rattle.format.specs.Header.{versionOf}
+use Rattle.format.specs.Numbered.{modeOf}
 use Rattle.format.specs.Record.{Rec, Fits}
 use Rattle.format.specs.Encode.{encode, isLost, refusalOf, regionBytes, tagOf}
 use Rattle.format.specs.declared.Version.{Version}
 use Rattle.format.specs.declared.Mode.{Mode}
 use Rattle.format.proofs.Checks.{of-picked}
 use Rattle.format.proofs.Accepted.{accepted as sound}
-use Rattle.writer.specs.Writer.{modeOf, isKnown, beginOf, grown, Adding, addOf, Finishing, finishOf}
+use Rattle.writer.specs.Writer.{isKnown, beginOf, grown, Adding, addOf, Finishing, finishOf}
 use Rattle.writer.specs.Answers.{begunWriter, addedNumber, addedWriter, finishedNumber, finishedCount, finishedWriter}
 use Rattle.writer.specs.declared.Writer.{Writer}
 use Rattle.writer.specs.declared.Begun.{Begun}

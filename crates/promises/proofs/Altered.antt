@@ -8,9 +8,10 @@ use lib.Dec.{ltb, eqb}
 use Rattle.format.specs.Bytes.{zeros}
 use Rattle.format.specs.Unsynch.{NoSync}
 use Rattle.format.specs.Header.{versionOf}
+use Rattle.format.specs.Numbered.{modeOf}
 use Rattle.format.specs.Encode.{encode, isLost, refusalOf}
 use Rattle.format.proofs.Checks.{of-picked}
-use Rattle.writer.specs.Writer.{modeOf, Adding, addOf}
+use Rattle.writer.specs.Writer.{Adding, addOf}
 use Rattle.writer.specs.Answers.{addedWriter}
 use Rattle.writer.specs.declared.Writer.{Writer}
 use Rattle.promises.specs.Reading.{Reading}

@@ -6,13 +6,13 @@ use mathlib.Core.List.{List}
 use lib.ListN.{length}
 use Rattle.format.specs.Numbers.{digits}
 use Rattle.format.specs.Header.{flagsOf, sizeOf, versionOf, extOf}
+use Rattle.format.specs.Numbered.{modeOf}
 use Rattle.format.specs.Encode.{flagsByte, regionBytes, tagOf}
 use Rattle.format.specs.declared.Version.{Version}
 use Rattle.format.specs.declared.Mode.{Mode}
 use Rattle.format.specs.declared.Mode.the-variants.{Off, Crate, Standard}
 use Rattle.format.proofs.Numbers.{synchsafe-back}
 use Rattle.format.proofs.Tags.{tag-headed}
-use Rattle.writer.specs.Writer.{modeOf}
 use Rattle.reader.specs.Reader.{headerOf, fieldsOf}
 use Rattle.reader.specs.declared.Headed.{Headed}
 use Rattle.promises.specs.Promises.{framesOf, WrittenHeader}

@@ -11,13 +11,13 @@ use Rattle.lists.proofs.Bools.{false-not-true, and-true}
 use Rattle.format.specs.Bytes.{pick, putFront}
 use Rattle.format.specs.Unsynch.{resynchronised}
 use Rattle.format.specs.Header.{editionOf, sizeOf, versionOf, isWhole, headerRefusal, regionStart, regionEnd, regionOf}
+use Rattle.format.specs.Numbered.{modeOf}
 use Rattle.format.specs.Record.{Content, text, popularimeter, table, chapter, contents, raw, Rec}
 use Rattle.format.specs.Encode.{regionBytes, tagOf}
 use Rattle.format.specs.declared.Version.{Version}
 use Rattle.format.specs.declared.Mode.{Mode}
 use Rattle.format.proofs.Checks.{of-picked}
 use Rattle.format.proofs.Tags.{tag-headed}
-use Rattle.writer.specs.Writer.{modeOf}
 use Rattle.reader.specs.Reader.{readerAt, openWhole, openOf}
 use Rattle.reader.specs.declared.Reader.{Reader}
 use Rattle.reader.specs.declared.Opened.{Opened}

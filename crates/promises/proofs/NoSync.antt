@@ -9,7 +9,7 @@ use lib.Dec.{ltb}
 use Rattle.lists.proofs.Bools.{and-true}
 use Rattle.format.specs.Bytes.{zeros, ascii}
 use Rattle.format.specs.Numbers.{digits, bytesOf, synchsafe}
-use Rattle.format.specs.Unsynch.{unsynchronised, NoSync}
+use Rattle.format.specs.Unsynch.{unsynchronised, NoSync, endsFF}
 use Rattle.format.specs.Header.{versionOf}
 use Rattle.format.specs.Ids.{isIdByte, allIdBytes, isId}
 use Rattle.format.specs.Record.{Rec}
@@ -19,7 +19,7 @@ use Rattle.format.specs.declared.Version.the-variants.{Id3v22, Id3v23, Id3v24}
 use Rattle.format.specs.declared.Mode.the-variants.{Standard}
 use Rattle.format.proofs.Encoded.{head-length}
 use Rattle.format.proofs.Ids.{id-byte}
-use Rattle.format.proofs.Unsynch.{endsFF, Quiet, Low, quiet-at, quiet-append, quiet-low, quiet-behind-low, standard-quiet}
+use Rattle.format.proofs.Unsynch.{Quiet, Low, quiet-at, quiet-append, quiet-low, quiet-behind-low, standard-quiet}
 use Rattle.promises.specs.Promises.{framesOf, StandardMode}
 use Rattle.promises.proofs.Sounds.{Sounds, nothing, also}
 use Rattle.promises.proofs.Adding.{told}

@@ -12,13 +12,13 @@ use borrow.Author.Tests.{ltb-false, le-ltb}
 use Rattle.lists.proofs.Bools.{false-not-true}
 use Rattle.lists.proofs.Slices.{front-length}
 use Rattle.format.specs.Bytes.{pick, zeros, putFront}
-use Rattle.format.specs.Unsynch.{resync, resynchronised}
+use Rattle.format.specs.Unsynch.{resync, resynchronised, endsFF}
 use Rattle.format.specs.Encode.{wholeOf, regionBytes, tagOf}
 use Rattle.format.specs.declared.Version.{Version}
 use Rattle.format.specs.declared.Version.the-variants.{Id3v22, Id3v23, Id3v24}
 use Rattle.format.specs.declared.Mode.{Mode}
 use Rattle.format.specs.declared.Mode.the-variants.{Off, Crate, Standard}
-use Rattle.format.proofs.Unsynch.{endsFF, back-with-more, unsync-off, padding-back, resync-shorter}
+use Rattle.format.proofs.Unsynch.{back-with-more, unsync-off, padding-back, resync-shorter}
 use Rattle.format.proofs.Tags.{wholeBy, Headed, tag-headed}
 use Rattle.reader.specs.Reader.{readerAt, openWhole, openOf}
 use Rattle.reader.specs.declared.Opened.{Opened}

@@ -9,6 +9,7 @@ use lib.ListN.{length}
 use lib.Seq.{slice}
 use Rattle.format.specs.Bytes.{zeros}
 use Rattle.format.specs.Header.{versionOf}
+use Rattle.format.specs.Numbered.{modeOf}
 use Rattle.format.specs.Record.{Rec}
 use Rattle.format.specs.Encode.{encode, regionBytes, tagOf}
 use Rattle.format.specs.declared.Version.{Version}
@@ -18,7 +19,6 @@ use Rattle.format.specs.declared.Mode.the-variants.{Off}
 use Rattle.format.proofs.Encoded.{flaggedBy}
 use Rattle.format.proofs.Accepted.{Sound}
 use Rattle.format.proofs.Tags.{wholeBy}
-use Rattle.writer.specs.Writer.{modeOf}
 use Rattle.reader.specs.Reader.{openOf, Stepped}
 use Rattle.reader.specs.declared.Opened.{Opened}
 use Rattle.promises.specs.Reading.{Reading, ended, andRecord, onStep, readFrom, onOpen, readFor, readAll}

@@ -8,6 +8,7 @@ use lib.ListN.{length, length-append, length-replicate}
 use lib.Seq.{slice}
 use Rattle.format.specs.Bytes.{zeros}
 use Rattle.format.specs.Header.{versionOf}
+use Rattle.format.specs.Numbered.{modeOf}
 use Rattle.format.specs.Unsynch.{guards}
 use Rattle.format.specs.Frame.{headLen}
 use Rattle.format.specs.Record.{Rec}
@@ -18,7 +19,6 @@ use Rattle.format.specs.declared.Mode.{Mode}
 use Rattle.format.proofs.Unsynch.{unsync-longer}
 use Rattle.format.proofs.Encoded.{encode-length}
 use Rattle.format.proofs.Tags.{wholeBy, tag-headed}
-use Rattle.writer.specs.Writer.{modeOf}
 use Rattle.reader.specs.Reader.{Stepped}
 use Rattle.reader.specs.declared.Opened.{Opened}
 use Rattle.promises.specs.Reading.{ended, Reading, onStep, readFrom, onOpen, readFor, readAll}

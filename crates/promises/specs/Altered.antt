@@ -6,10 +6,11 @@ use mathlib.Core.List.{List}
 use lib.ListN.{length}
 use Rattle.format.specs.Unsynch.{NoSync}
 use Rattle.format.specs.Header.{versionOf}
+use Rattle.format.specs.Numbered.{modeOf}
 use Rattle.format.specs.Record.{Rec}
 use Rattle.format.specs.Encode.{tagOf}
 use Rattle.format.specs.declared.Version.{Version}
-use Rattle.writer.specs.Writer.{modeOf, addOf, finishOf}
+use Rattle.writer.specs.Writer.{addOf, finishOf}
 use Rattle.writer.specs.Answers.{addedWriter, finishedCount, finishedWriter}
 use Rattle.writer.specs.declared.Writer.{Writer}
 use Rattle.promises.specs.Written.{WrittenAs, keptOf}

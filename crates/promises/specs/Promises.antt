@@ -6,11 +6,12 @@ use mathlib.Core.List.{List, [], _∷_, _++_}
 use lib.ListN.{length}
 use Rattle.format.specs.Unsynch.{NoSync}
 use Rattle.format.specs.Header.{versionOf}
+use Rattle.format.specs.Numbered.{modeOf}
 use Rattle.format.specs.Record.{Rec}
 use Rattle.format.specs.Encode.{encode, flagsByte, tagOf}
 use Rattle.format.specs.declared.Version.{Version}
 use Rattle.format.specs.declared.Mode.{Mode}
-use Rattle.writer.specs.Writer.{modeOf, finishOf}
+use Rattle.writer.specs.Writer.{finishOf}
 use Rattle.writer.specs.Answers.{finishedCount}
 use Rattle.reader.specs.Reader.{headerOf, Stepped, stepOf}
 use Rattle.reader.specs.Answers.{headedNumber, headedFields, stepNumber, stepRecord, stepReader}

@@ -7,7 +7,7 @@ use mathlib.Core.Bool.{Bool, true, false, cond}
 use mathlib.Core.List.{List, [], _∷_}
 use lib.ListN.{length, take, set, length-set, length-append}
 use lib.Seq.{slice, length-slice, sets, set-set}
-use Rattle.lists.proofs.Stores.{take-sets, Storing, lies, by, on, at, put, puts, over}
+use Rattle.lists.proofs.Stores.{take-sets, Storing, lies, same-list, same-buffer, same-place, put, puts, over}
 use Rattle.format.specs.Bytes.{pick}
 use Rattle.unsynch.specs.declared.loops.How.{How}
 use Rattle.unsynch.specs.Edits.{editedAfter, hitsAfter, stored}
@@ -26,23 +26,23 @@ module _ {o₀ : List ℕ} {p₀ : ℕ} {l₀ o : List ℕ} {p : ℕ} {m : List 
   -- the byte is stored: it stays, as f says, or it goes, and the next one will take its place
   pub drop-turn : (f : Bool) (q y : ℕ) (k : List ℕ) → m ≡ pick f (x ∷ l) l → (f ≡ false → l ≡ y ∷ k) → q ≡ p + cond f 1 0
       → (p < length o) × Storing o₀ p₀ l₀ (set o p x) q l
-  drop-turn true q y k e next is = (omega (arith, lies (by e s)), at (sym is) (put (by e s)))
+  drop-turn true q y k e next is = (omega (arith, lies (same-list e s)), same-place (sym is) (put (same-list e s)))
   drop-turn false q y k e next is =
       let z : p ≡ q = omega arith in
-      let u = by (e ∙ next refl) s in
-      (omega (arith, lies u), at z (by (sym (next refl)) (under x u)))
+      let u = same-list (e ∙ next refl) s in
+      (omega (arith, lies u), same-place z (same-list (sym (next refl)) (under x u)))
 
   -- a 00 is stored, and the byte behind it, where f says that it is concerned; or the byte over it
   pub insert-turn : (f : Bool) (q : ℕ) → m ≡ pick f (0 ∷ x ∷ l) (x ∷ l) → q ≡ p + cond f 1 0
       → (p ≤ q) × (q < length o) × Storing o₀ p₀ l₀ (set (set o p 0) q x) (q + 1) l
   insert-turn true q e is = (
     omega arith,
-    omega (arith, lies (by e s)),
-    on (ap (λ (k : ℕ). set (set o p 0) k x) (sym is)) (at (ap (λ (k : ℕ). k + 1) (sym is)) (put (put (by e s)))),
+    omega (arith, lies (same-list e s)),
+    same-buffer (ap (λ (k : ℕ). set (set o p 0) k x) (sym is)) (same-place (ap (λ (k : ℕ). k + 1) (sym is)) (put (put (same-list e s)))),
   )
   insert-turn false q e is =
       let z : p ≡ q = omega arith in
-      (omega arith, omega (arith, lies (by e s)), on (ap (λ (k : ℕ). set (set o p 0) k x) z) (at (ap (λ (k : ℕ). k + 1) z) (over 0 (by e s))))
+      (omega arith, omega (arith, lies (same-list e s)), same-buffer (ap (λ (k : ℕ). set (set o p 0) k x) z) (same-place (ap (λ (k : ℕ). k + 1) z) (over 0 (same-list e s))))
 
 -- what the edit makes of the bytes behind place i, up to place m, is stored by another function
 module _ (how : How) (s : List ℕ) (i m to : ℕ) (after : i ≤ m) (lt : m < to) (le : to ≤ length s) where
@@ -51,11 +51,11 @@ module _ (how : How) (s : List ℕ) (i m to : ℕ) (after : i ≤ m) (lt : m < t
       × ((r : ℕ) (o′ : List ℕ) → _≡_ {A = ℕ × List ℕ} (r, o′) (stored (editedAfter how s i (m + 1)) p o) → (p ≤ r) × Storing o₀ p₀ l₀ o′ r (editedAfter how s m to))
   piece {o} {p} t =
       let l : List ℕ = editedAfter how s i (m + 1) in
-      let u = by (parted how s (m - i) i m to (omega arith) lt le) t in (
+      let u = same-list (parted how s (m - i) i m to (omega arith) lt le) t in (
         omega (arith, lies u, length-append l (editedAfter how s m to)),
         λ r o′ e.
             let f : r ≡ p + length l = ap (λ (z : ℕ × List ℕ). z .0) e in
-            (omega arith, at (sym f) (on (sym (ap (λ (z : ℕ × List ℕ). z .1) e)) (puts l u))),
+            (omega arith, same-place (sym f) (same-buffer (sym (ap (λ (z : ℕ × List ℕ). z .1) e)) (puts l u))),
       )
 
   -- the same behind place n of the area that is edited

@@ -8,7 +8,7 @@ use lib.ListN.{length, set, take, drop, length-append, length-take, length-repli
 use lib.Seq.{slice, sets, length-sets, length-take-le, set-comm, take-set-lt, drop-set-lt}
 use lib.Dec.{ltb, leb}
 use borrow.Author.Tests.{le-leb, lt-leb, leb-true, leb-false, lt-ltb, le-ltb, ltb-true, ltb-false}
-use Rattle.lists.proofs.Stores.{Storing, begin, by, at, put, next-lies, all-done, sets-append}
+use Rattle.lists.proofs.Stores.{Storing, begin, same-list, same-place, put, next-lies, all-done, sets-append}
 use Rattle.format.specs.Bytes.{pick, zeros, ascii}
 use Rattle.format.specs.Numbers.{digits, bytesOf}
 use Rattle.format.specs.Unsynch.{unsync, unsynchronised}
@@ -115,18 +115,18 @@ module _ {o₀ o : List ℕ} (p n : ℕ) {l₀ : List ℕ} where
   pub zero-turn : (i : ℕ) → i < n → Storing o₀ p l₀ o (p + i) (zeros (n - i))
       → (p + i < length o) × Storing o₀ p l₀ (set o (p + i) 0) (p + (i + 1)) (zeros (n - (i + 1)))
   zero-turn i h s =
-      let t = by (zeros-next n i h) s in
+      let t = same-list (zeros-next n i h) s in
       let e : p + i + 1 ≡ p + (i + 1) = omega arith in
-      (next-lies t, at e (put t))
+      (next-lies t, same-place e (put t))
 
   pub zeros-done : (i : ℕ) → n ≤ i → Storing o₀ p l₀ o (p + i) (zeros (n - i)) → o ≡ sets o₀ p l₀
-  zeros-done i h s = let e : n - i ≡ 0 = omega arith in all-done (by (ap zeros e) s) .1
+  zeros-done i h s = let e : n - i ≡ 0 = omega arith in all-done (same-list (ap zeros e) s) .1
 
 pub zeros-begin : (o : List ℕ) (p n : ℕ) → p + n ≤ length o → Storing o p (zeros n) o (p + 0) (zeros (n - 0))
 zeros-begin o p n h =
     let e : p ≡ p + 0 = omega arith in
     let f : n ≡ n - 0 = omega arith in
-    at e (by (ap zeros f) (begin o p (zeros n) (omega (arith, length-replicate {A = ℕ} n 0))))
+    same-place e (same-list (ap zeros f) (begin o p (zeros n) (omega (arith, length-replicate {A = ℕ} n 0))))
 
 -- ---- the header
 

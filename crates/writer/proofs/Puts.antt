@@ -11,10 +11,10 @@ use lib.Seq.{sets, length-sets}
 use lib.Dec.{eqb}
 use Rattle.lists.proofs.Stores.{sets-append}
 use Rattle.format.specs.Bytes.{pick, onlyIf}
-use Rattle.format.specs.Unsynch.{guards, unsync}
+use Rattle.format.specs.Unsynch.{guards, unsync, endsFF}
 use Rattle.format.specs.declared.Mode.{Mode}
 use Rattle.format.specs.declared.Mode.the-variants.{Off}
-use Rattle.format.proofs.Unsynch.{endsFF, unsync-append, unsync-off}
+use Rattle.format.proofs.Unsynch.{unsync-append, unsync-off}
 use Rattle.writer.specs.Pens.{penAfter, Putting, putOf, Placed, placed, Near, Sized, Paced}
 use Rattle.writer.specs.declared.pens.Pen.{Pen}
 

@@ -7,9 +7,8 @@ use mathlib.Core.List.{List}
 use lib.ListN.{length, set}
 use lib.Seq.{sets}
 use Rattle.format.specs.Bytes.{pick}
-use Rattle.format.specs.Unsynch.{guards, unsync}
+use Rattle.format.specs.Unsynch.{guards, unsync, endsFF}
 use Rattle.format.specs.declared.Mode.{Mode}
-use Rattle.format.proofs.Unsynch.{endsFF}
 use Rattle.writer.specs.declared.pens.Pen.{Pen}
 
 -- the pen behind the bytes s

@@ -7,6 +7,7 @@ use lib.Seq.{sets}
 use lib.Dec.{ltb, leb, eqb}
 use Rattle.format.specs.Bytes.{pick}
 use Rattle.format.specs.Header.{versionOf}
+use Rattle.format.specs.Numbered.{isMode, isVersion}
 use Rattle.format.specs.Record.{Rec}
 use Rattle.format.specs.Encode.{isLost, refusalOf, encode, regionBytes, tagOf}
 use Rattle.format.specs.declared.Version.{Version}
@@ -19,11 +20,8 @@ use Rattle.writer.specs.declared.Finished.{Finished}
 
 -- ---- beginning: the version is 2, 3 or 4, the mode 0 (off), 1 (crate) or 2 (standard)
 
-abbrev pub modeOf : ℕ → Mode
-modeOf mode = pick (eqb mode 0) Off (pick (eqb mode 1) Crate Standard)
-
 abbrev pub isKnown : ℕ → ℕ → Bool
-isKnown version mode = (leb 2 version && leb version 4) && leb mode 2
+isKnown version mode = isVersion version && isMode mode
 
 unfoldable pub beginOf : ℕ → ℕ → Bool → Begun
 beginOf version mode altered =

@@ -6,7 +6,8 @@ use format::Version;
 use format::refusals::UNKNOWN_VERSION;
 ghost use mathlib.Core.Path.{_≡_};
 ghost use Rattle.format.specs.Header.{versionOf};
-ghost use Rattle.writer.specs.Writer.{modeOf, isKnown, beginOf, beginPlainOf};
+ghost use Rattle.format.specs.Numbered.{modeOf};
+ghost use Rattle.writer.specs.Writer.{isKnown, beginOf, beginPlainOf};
 
 // The edition that a known number says.
 fn version_of(version: u8) -> Version

@@ -6,8 +6,7 @@ ghost use mathlib.Core.Bool.{_&&_};
 ghost use mathlib.Core.List.{[], _∷_};
 ghost use lib.ListN.{length};
 ghost use lib.Seq.{sets};
-ghost use Rattle.format.specs.Unsynch.{guards, unsync};
-ghost use Rattle.format.proofs.Unsynch.{endsFF};
+ghost use Rattle.format.specs.Unsynch.{guards, unsync, endsFF};
 ghost use Rattle.writer.specs.Pens.{penAfter, putOf, placed, Paced};
 
 // The place of the next byte, and whether the byte before it was FF.

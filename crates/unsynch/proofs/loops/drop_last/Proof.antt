@@ -4,7 +4,7 @@ use Prim.Native.Nat.{_+_}
 use mathlib.Core.Bool.{true, false}
 use mathlib.Core.List.{_∷_}
 use lib.ListN.{getD}
-use Rattle.lists.proofs.Stores.{Storing, begin, lies, by, put, done}
+use Rattle.lists.proofs.Stores.{Storing, begin, lies, same-list, put, done}
 use Rattle.unsynch.specs.Edits.{resyncBy, editedAfter}
 use Rattle.unsynch.proofs.Edits.{edited-end, stays}
 use borrow.Author.Needs.{needs}
@@ -18,7 +18,7 @@ left : (c : tie.Then2)
     Storing (a .buf .now) (a .at) (editedAfter resyncBy (a .s .now) (a .from) (a .to)) (a .buf .now) (a .at) (getD (a .s .now) (a .from + 1) 0 ∷ editedAfter resyncBy (a .s .now) (a .from + 1) (a .to))
 left c =
     let a = c .before .before .before .before .before .before .before .args in
-    by (stays (a .s .now) (a .from) (a .to) (omega arith) (omega arith) true (sym (c .if2 .taken) ∙ c .before .stays .ensures)) (begin _ _ _ (omega arith))
+    same-list (stays (a .s .now) (a .from) (a .to) (omega arith) (omega arith) true (sym (c .if2 .taken) ∙ c .before .stays .ensures)) (begin _ _ _ (omega arith))
 
 add-if1 : tie.Need-add-if1
 add-if1 c = search needs

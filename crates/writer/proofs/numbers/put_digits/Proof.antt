@@ -4,7 +4,7 @@ use Prim.Native.Nat.{_-_, _*_, _/_, _%_, _^_, _≤_}
 use native.Mathlib.Omega.{arith}
 use mathlib.Core.List.{_∷_}
 use borrow.Author.Needs.{needs}
-use Rattle.lists.proofs.Stores.{Storing, begin, next-lies as lies, put, by, all-done as done}
+use Rattle.lists.proofs.Stores.{Storing, begin, next-lies as lies, put, same-list, all-done as done}
 use Rattle.format.specs.Numbers.{digits}
 use Rattle.format.proofs.Numbers.{length-digits}
 use Rattle.writer.proofs.Digits.{digits-first, digits-none, base-made, base-pos, digit-small, shift-small}
@@ -44,7 +44,7 @@ next c =
     let a = c .before .before .args in
     let L = c .before .loop in
     let e = base-made (a .bits) (c .before .before .pre .0) in
-    by (digits-first (a .bits) (L .left) (a .n) (c .loop-test .taken) ∙ rw e) (L .inv .1)
+    same-list (digits-first (a .bits) (L .left) (a .n) (c .loop-test .taken) ∙ rw e) (L .inv .1)
 
 mul-buffer : tie.Need-mul-buffer Inv-loop μ-loop
 mul-buffer c = omega (arith, shift c)
@@ -74,7 +74,7 @@ same-length : tie.Need-same-length Inv-loop μ-loop
 same-length c = c .before .loop .inv .1 .long
 
 returns : tie.Need-returns Inv-loop μ-loop
-returns c = done (by (digits-none (2 ^ c .before .before .args .bits) (c .before .loop .left) (c .before .before .args .n) (omega arith)) (c .before .loop .inv .1)) .1
+returns c = done (same-list (digits-none (2 ^ c .before .before .args .bits) (c .before .loop .left) (c .before .before .args .n) (omega arith)) (c .before .loop .inv .1)) .1
 
 pub put-digits-spec : {M : Type 1} → statement M
 put-digits-spec =

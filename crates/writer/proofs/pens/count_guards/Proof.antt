@@ -6,7 +6,8 @@ use Prim.Native.Nat.{ℕ, _+_, _-_, _≤_}
 use native.Mathlib.Omega.{arith}
 use borrow.Author.Needs.{needs}
 use lib.ListN.{length, drop, getD}
-use Rattle.lists.proofs.Pieces.{drop-next, drop-none}
+use Rattle.lists.proofs.Cuts.{drop-next}
+use Rattle.lists.proofs.Pieces.{drop-none}
 use Rattle.format.specs.Unsynch.{guards, unsync}
 use Rattle.writer.proofs.Puts.{guards-turn}
 use Rattle.writer.proofs.pens.count_guards.Statement.{statement}

@@ -3,7 +3,8 @@ use Prim.Native.Nat.{_-_, _≤_}
 use native.Mathlib.Omega.{arith}
 use borrow.Author.Needs.{needs}
 use lib.ListN.{length, drop}
-use Rattle.lists.proofs.Pieces.{drop-next, drop-none}
+use Rattle.lists.proofs.Cuts.{drop-next}
+use Rattle.lists.proofs.Pieces.{drop-none}
 use Rattle.writer.proofs.Puts.{Writing, begin, by, lies, put, done}
 use Rattle.writer.proofs.pens.put_guarded.Statement.{statement}
 use Rattle.writer.proofs.pens.put_guarded.Tie as tie

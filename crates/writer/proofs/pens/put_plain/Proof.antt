@@ -4,8 +4,9 @@ use Prim.Native.Nat.{ℕ, _+_, _-_, _≤_}
 use native.Mathlib.Omega.{arith}
 use borrow.Author.Needs.{needs}
 use lib.ListN.{length, drop}
-use Rattle.lists.proofs.Stores.{Storing, begin, next-lies as lies, by, all-done as done}
-use Rattle.lists.proofs.Pieces.{drop-next, drop-none, copied}
+use Rattle.lists.proofs.Stores.{Storing, begin, next-lies as lies, same-list, all-done as done}
+use Rattle.lists.proofs.Cuts.{drop-next}
+use Rattle.lists.proofs.Pieces.{drop-none, copied}
 use Rattle.writer.proofs.pens.put_plain.Statement.{statement}
 use Rattle.writer.proofs.pens.put_plain.Tie as tie
 
@@ -29,7 +30,7 @@ add-buffer c = omega arith
 
 slice-write-buffer : tie.Need-slice-write-buffer Inv-loop μ-loop
 slice-write-buffer c =
-    lies (by (drop-next (c .before .before .before .args .s .now) (c .before .before .loop .i) (c .before .loop-test .taken)) (c .before .before .loop .inv .1))
+    lies (same-list (drop-next (c .before .before .before .args .s .now) (c .before .before .loop .i) (c .before .loop-test .taken)) (c .before .before .loop .inv .1))
 
 add-i : tie.Need-add-i Inv-loop μ-loop
 add-i c = search needs
@@ -48,7 +49,7 @@ same-length c = c .before .loop .inv .1 .long
 
 returns : tie.Need-returns Inv-loop μ-loop
 returns c =
-    done (by (drop-none (c .before .before .args .s .now) (c .before .loop .i) (c .loop-test .left)) (c .before .loop .inv .1)) .1
+    done (same-list (drop-none (c .before .before .args .s .now) (c .before .loop .i) (c .loop-test .left)) (c .before .loop .inv .1)) .1
 
 pub put-plain-spec : {M : Type 1} → statement M
 put-plain-spec =

@@ -1,0 +1,17 @@
+-- `format::small::has` meets its contract. Assumes nothing.
+use borrow.Author.Needs.{needs}
+use native.Mathlib.Nat.{div-zero}
+use Rattle.format.proofs.small.has.Statement.{statement}
+use Rattle.format.proofs.small.has.Tie as tie
+
+returns : tie.Need-returns
+returns c = rw (c .if1 .taken, div-zero)
+
+div-result : tie.Need-div-result
+div-result c = search needs
+
+returns-2 : tie.Need-returns-2
+returns-2 c = search needs
+
+pub has-spec : {M : Type 1} → statement M
+has-spec = tie.close (tie.spec returns div-result returns-2)
