@@ -8,6 +8,8 @@ use mathlib.Core.List.{List, [], _∷_, _++_}
 use lib.ListN.{length, take, drop, getD, length-append}
 use lib.Seq.{take-append-seam, drop-append-add, getD-append-add}
 use lib.Dec.{eqb, eqb·suc-zero}
+use borrow.Author.Tests.{ne-eqb}
+use Rattle.lists.proofs.Cuts.{drop-next}
 use Rattle.format.specs.Bytes.{pick, zeroAt, zerosIn}
 use Rattle.format.specs.Chapter.{namesLen}
 use Rattle.format.specs.Encode.{lastOr}
@@ -17,12 +19,12 @@ use Rattle.format.specs.Encode.{lastOr}
 pub zero-at : (name z : List ℕ) → zeroAt name ≡ length name → zeroAt (name ++ (0 ∷ z)) ≡ length name
 unfolding zeroAt
 zero-at [] z none = refl
-zero-at (x ∷ name) z none = by (eqb x 0) none (zero-at name z)
+zero-at (x ∷ name) z none = by-first (eqb x 0) none (zero-at name z)
   where
-    by : (b : Bool) → pick b 0 (suc (zeroAt name)) ≡ suc (length name) → (zeroAt name ≡ length name → zeroAt (name ++ (0 ∷ z)) ≡ length name)
+    by-first : (b : Bool) → pick b 0 (suc (zeroAt name)) ≡ suc (length name) → (zeroAt name ≡ length name → zeroAt (name ++ (0 ∷ z)) ≡ length name)
         → pick b 0 (suc (zeroAt (name ++ (0 ∷ z)))) ≡ suc (length name)
-    by true h go = absurd (omega arith)
-    by false h go = ap suc (go (omega arith))
+    by-first true h go = absurd (omega arith)
+    by-first false h go = ap suc (go (omega arith))
 
 module _ (name z : List ℕ) (none : zeroAt name ≡ length name) where
   pub length-named : length (name ++ (0 ∷ z)) ≡ zeroAt (name ++ (0 ∷ z)) + (1 + length z)
@@ -67,3 +69,14 @@ names-back d [] (x ∷ z) h = refl
 names-back d (zero ∷ names) z h = ap suc (names-back 0 names z h)
 names-back d (suc x ∷ names) z h =
     rw (eqb·suc-zero, name-goes-on (zerosIn names) x (names ++ z) (last-zero x names h), names-back (suc x) names z h)
+
+-- ---- how many zeros there are from a place on
+
+module _ (s : List ℕ) (i : ℕ) (there : i < length s) where
+  pub zero-counts : getD s i 0 ≡ 0 → zerosIn (drop i s) ≡ suc (zerosIn (drop (i + 1) s))
+  unfolding zerosIn
+  zero-counts e = rw (drop-next s i there, e)
+
+  pub other-counts-not : (getD s i 0 ≡ 0 → ⊥) → zerosIn (drop i s) ≡ zerosIn (drop (i + 1) s)
+  unfolding zerosIn
+  other-counts-not e = rw (drop-next s i there, ne-eqb _ _ e)

@@ -1,7 +1,7 @@
-// Small functions on numbers that several crates use.
+// Small functions that several crates use.
 ghost use mathlib.Core.Path.{_≡_};
 ghost use Prim.Native.Nat.{_-_, _<_, _^_, min};
-ghost use Rattle.format.specs.Bytes.{has as isSet};
+ghost use Rattle.format.specs.Bytes.{has as isSet, zerosIn};
 
 // The smaller of two numbers.
 pub fn least(a: usize, b: usize) -> usize
@@ -46,4 +46,19 @@ pub fn half(x: u32) -> u64
     ensures { λ r. ⌜ (r ≡ x) × (r < 2 ^ 32) ⌝ }
 {
     x as u64
+}
+
+// How many zeros there are: of names each closed by one, how many names.
+pub fn zeros_in(s: &[u8]) -> usize
+    ensures { λ r. ⌜ r ≡ zerosIn (now (s .entry)) ⌝ }
+{
+    let mut n: usize = 0;
+    let mut i: usize = 0;
+    while i < s.len() {
+        if s[i] == 0 {
+            n += 1;
+        }
+        i += 1;
+    }
+    n
 }
