@@ -30,7 +30,7 @@ resyncs prev (x ∷ s) = one prev (eqb x 0) (edited resyncBy (eqb x 255) s) ∙ 
     one true true l = refl
     one true false l = refl
 
-guarded : (m : Mode) (x : ℕ) → concerns (unsyncBy m) x ≡ guards m x
+pub guarded : (m : Mode) (x : ℕ) → concerns (unsyncBy m) x ≡ guards m x
 guarded Off x = refl
 guarded Crate x = or-false (eqb x 0)
 guarded Standard x = refl
@@ -104,6 +104,14 @@ module _ (how : How) where
   unfolding Lengths
   shorter i prev s = omega (arith, subst (λ (b : Bool). Lengths b prev s) i (lengths prev s))
 
+  -- one byte before others: f says that the edit concerns it, g that it inserts
+  pub edited-next : (prev : Bool) (x : ℕ) (l : List ℕ) (f g : Bool) → f ≡ (prev && concerns how x) → how .insert ≡ g
+      → edited how prev (x ∷ l) ≡ turned f g x (edited how (eqb x 255) l)
+  unfolding edited
+  edited-next prev x l f g e h =
+      ap (λ (f′ : Bool). turned f′ (how .insert) x (edited how (eqb x 255) l)) (sym e)
+      ∙ ap (λ (g′ : Bool). turned f g′ x (edited how (eqb x 255) l)) h
+
   -- ---- place by place
 
   module _ (s : List ℕ) where
@@ -120,49 +128,50 @@ module _ (how : How) where
       unfolding hits
       hits-end = ap (hits how (eqb (getD s i 0) 255)) nothing
 
-    -- the first byte stays as it is
-    module _ (from to : ℕ) (lt : from < to) (le : to ≤ length s) where
-      pub edited-first : edited how false (slice from to s) ≡ getD s from 0 ∷ editedAfter how s from to
+    pub few-after : (from to : ℕ) → from < to → to ≤ length s → from + 1 + hitsAfter how s from to ≤ to
+    few-after from to lt le = omega (arith, few (eqb (getD s from 0) 255) (slice (from + 1) to s), length-slice (from + 1) to s le)
+
+    -- the first byte, then the bytes behind it
+    module _ (prev : Bool) (from to : ℕ) (lt : from < to) (le : to ≤ length s) where
+      pub edited-first : edited how prev (slice from to s) ≡ edited how prev (getD s from 0 ∷ []) ++ editedAfter how s from to
       unfolding edited
-      edited-first = ap (edited how false) (slice-next from to s lt le)
+      edited-first =
+          ap (edited how prev) (slice-next from to s lt le)
+          ∙ turned-append (prev && concerns how (getD s from 0)) (how .insert) (getD s from 0) [] (editedAfter how s from to)
 
-      hits-first : hits how false (slice from to s) ≡ hitsAfter how s from to
-      unfolding hits
-      hits-first = ap (hits how false) (slice-next from to s lt le) ∙ omega arith
+      -- f says that the edit concerns the first
+      module _ (f : Bool) (e : f ≡ (prev && concerns how (getD s from 0))) where
+        hits-first : hits how prev (slice from to s) ≡ cond f 1 0 + hitsAfter how s from to
+        unfolding hits
+        hits-first = ap (hits how prev) (slice-next from to s lt le) ∙ ap (λ (g : Bool). cond g 1 0 + hitsAfter how s from to) (sym e)
 
-      pub few-after : from + 1 + hitsAfter how s from to ≤ to
-      few-after = omega (arith, few (eqb (getD s from 0) 255) (slice (from + 1) to s), length-slice (from + 1) to s le)
+        pub hits-few : cond f 1 0 + hitsAfter how s from to ≤ to - from
+        hits-few = omega (arith, few prev (slice from to s), hits-first, length-slice from to s le)
 
-      pub length-longer : how .insert ≡ true → to - from + hitsAfter how s from to ≡ length (edited how false (slice from to s))
-      length-longer h = omega (arith, longer h false (slice from to s), hits-first, length-slice from to s le)
+        pub length-longer : how .insert ≡ true → to - from + (cond f 1 0 + hitsAfter how s from to) ≡ length (edited how prev (slice from to s))
+        length-longer h = omega (arith, longer h prev (slice from to s), hits-first, length-slice from to s le)
 
-      pub length-shorter : how .insert ≡ false → to - from - hitsAfter how s from to ≡ length (edited how false (slice from to s))
-      length-shorter h = omega (arith, shorter h false (slice from to s), hits-first, length-slice from to s le)
+        pub length-shorter : how .insert ≡ false → to - from - (cond f 1 0 + hitsAfter how s from to) ≡ length (edited how prev (slice from to s))
+        length-shorter h = omega (arith, shorter h prev (slice from to s), hits-first, length-slice from to s le)
 
-      pub length-most : (g : Bool) → how .insert ≡ g → length (edited how false (slice from to s)) ≤ pick g (to - from + (to - from) - 1) (to - from)
-      length-most true h = omega (arith, length-longer h, few-after)
-      length-most false h = omega (arith, length-shorter h)
+      pub length-most : (g : Bool) → how .insert ≡ g → length (edited how prev (slice from to s)) ≤ pick g (to - from + (to - from)) (to - from)
+      length-most true h = omega (arith, longer h prev (slice from to s), few prev (slice from to s), length-slice from to s le)
+      length-most false h = omega (arith, shorter h prev (slice from to s), length-slice from to s le)
 
     -- one place further: f says that the edit concerns the byte there
     module _ (i to : ℕ) (lt : i + 1 < to) (le : to ≤ length s) where
-      edited-next : editedAfter how s i to
-          ≡ turned (eqb (getD s i 0) 255 && concerns how (getD s (i + 1) 0)) (how .insert) (getD s (i + 1) 0) (editedAfter how s (i + 1) to)
-      unfolding edited
-      edited-next = ap (edited how (eqb (getD s i 0) 255)) (slice-next (i + 1) to s lt le)
-
       module _ (f : Bool) (e : f ≡ (eqb (getD s i 0) 255 && concerns how (getD s (i + 1) 0))) where
-        told : (g : Bool) → how .insert ≡ g → editedAfter how s i to ≡ turned f g (getD s (i + 1) 0) (editedAfter how s (i + 1) to)
-        told g h =
-            edited-next
-            ∙ ap (λ (f′ : Bool). turned f′ (how .insert) (getD s (i + 1) 0) (editedAfter how s (i + 1) to)) (sym e)
-            ∙ ap (λ (g′ : Bool). turned f g′ (getD s (i + 1) 0) (editedAfter how s (i + 1) to)) h
+        further : (g : Bool) → how .insert ≡ g → editedAfter how s i to ≡ turned f g (getD s (i + 1) 0) (editedAfter how s (i + 1) to)
+        further g h =
+            ap (edited how (eqb (getD s i 0) 255)) (slice-next (i + 1) to s lt le)
+            ∙ edited-next (eqb (getD s i 0) 255) (getD s (i + 1) 0) (slice (i + 1 + 1) to s) f g e h
 
         pub goes : how .insert ≡ false → editedAfter how s i to ≡ pick f (editedAfter how s (i + 1) to) (getD s (i + 1) 0 ∷ editedAfter how s (i + 1) to)
-        goes h = told false h
+        goes h = further false h
 
         pub comes : how .insert ≡ true
             → editedAfter how s i to ≡ pick f (0 ∷ getD s (i + 1) 0 ∷ editedAfter how s (i + 1) to) (getD s (i + 1) 0 ∷ editedAfter how s (i + 1) to)
-        comes h = told true h
+        comes h = further true h
 
         pub counts : hitsAfter how s i to ≡ cond f 1 0 + hitsAfter how s (i + 1) to
         unfolding hits
@@ -177,10 +186,10 @@ module _ (how : How) where
     parted (suc n) i m to e lt le =
         let f : Bool = eqb (getD s i 0) 255 && concerns how (getD s (i + 1) 0) in
         let x : ℕ = getD s (i + 1) 0 in
-        edited-next i to (omega arith) le
+        further i to (omega arith) le f refl (how .insert) refl
         ∙ ap (turned f (how .insert) x) (parted n (i + 1) m to (omega arith) lt le)
         ∙ turned-append f (how .insert) x (editedAfter how s (i + 1) (m + 1)) (editedAfter how s m to)
-        ∙ ap (λ (l : List ℕ). l ++ editedAfter how s m to) (sym (edited-next i (m + 1) (omega arith) (omega arith)))
+        ∙ ap (λ (l : List ℕ). l ++ editedAfter how s m to) (sym (further i (m + 1) (omega arith) (omega arith) f refl (how .insert) refl))
 
     pub hits-parted : (n i m to : ℕ) → m ≡ i + n → m < to → to ≤ length s → hitsAfter how s i to ≡ hitsAfter how s i (m + 1) + hitsAfter how s m to
     hits-parted zero i m to e lt le =
@@ -297,8 +306,11 @@ module _ (how : How) (z : how .zero ≡ false) (h : how .high ≡ false) where
       ∙ ap {B = ℕ} (λ (g : Bool). cond (prev && (g && leb 0xE0 x)) 1 0 + hits how (eqb x 255) l) h
       ∙ omega (arith, ap {B = ℕ} (λ (g : Bool). cond g 1 0) (and-false prev), none (eqb x 255) l)
 
+  pub none-after : (s : List ℕ) (i to : ℕ) → hitsAfter how s i to ≡ 0
+  none-after s i to = none (eqb (getD s i 0) 255) (slice (i + 1) to s)
+
   pub unchanged : (s : List ℕ) (i to : ℕ) → editedAfter how s i to ≡ slice (i + 1) to s
-  unchanged s i to = left-alone how s i to (none (eqb (getD s i 0) 255) (slice (i + 1) to s))
+  unchanged s i to = left-alone how s i to (none-after s i to)
 
 -- the edits that there are
 pub known-resync : (how : How) → how ≡ resyncBy → Known how
