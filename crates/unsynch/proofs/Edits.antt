@@ -23,12 +23,12 @@ use Rattle.unsynch.specs.Edits.{concerns, resyncBy, isStandard, unsyncBy
 pub resyncs : (prev : Bool) (s : List ℕ) → edited resyncBy prev s ≡ resync prev s
 unfolding edited resync
 resyncs prev [] = refl
-resyncs prev (x ∷ s) = one prev (eqb x 0) (edited resyncBy (eqb x 255) s) ∙ ap (onlyIf (not (prev && eqb x 0)) x) (resyncs (eqb x 255) s)
+resyncs prev (x ∷ s) = pick-only prev (eqb x 0) (edited resyncBy (eqb x 255) s) ∙ ap (onlyIf (not (prev && eqb x 0)) x) (resyncs (eqb x 255) s)
   where
-    one : (p z : Bool) (l : List ℕ) → pick (p && (z || false)) l (x ∷ l) ≡ onlyIf (not (p && z)) x l
-    one false z l = refl
-    one true true l = refl
-    one true false l = refl
+    pick-only : (p z : Bool) (l : List ℕ) → pick (p && (z || false)) l (x ∷ l) ≡ onlyIf (not (p && z)) x l
+    pick-only false z l = refl
+    pick-only true true l = refl
+    pick-only true false l = refl
 
 pub guarded : (m : Mode) (x : ℕ) → concerns (unsyncBy m) x ≡ guards m x
 guarded Off x = refl
@@ -40,12 +40,12 @@ unfolding edited unsync
 unsyncs m prev [] = refl
 unsyncs m prev (x ∷ s) =
     ap (λ (g : Bool). pick (prev && g) (0 ∷ x ∷ edited (unsyncBy m) (eqb x 255) s) (x ∷ edited (unsyncBy m) (eqb x 255) s)) (guarded m x)
-    ∙ one (prev && guards m x) (x ∷ edited (unsyncBy m) (eqb x 255) s)
+    ∙ pick-only (prev && guards m x) (x ∷ edited (unsyncBy m) (eqb x 255) s)
     ∙ ap (λ (l : List ℕ). onlyIf (prev && guards m x) 0 (x ∷ l)) (unsyncs m (eqb x 255) s)
   where
-    one : (g : Bool) (l : List ℕ) → pick g (0 ∷ l) l ≡ onlyIf g 0 l
-    one true l = refl
-    one false l = refl
+    pick-only : (g : Bool) (l : List ℕ) → pick g (0 ∷ l) l ≡ onlyIf g 0 l
+    pick-only true l = refl
+    pick-only false l = refl
 
 -- the loop that looks for an FF
 pub any-turn : (s : List ℕ) (i k to : ℕ) (any w : Bool) → i + k < to → to ≤ length s → (any || anyFF (slice (i + k) to s)) ≡ w
@@ -70,14 +70,14 @@ turned-append false g x l m = refl
 module _ (how : How) where
   -- ---- lengths
 
-  pub few : (prev : Bool) (s : List ℕ) → hits how prev s ≤ length s
+  pub hits-at-most : (prev : Bool) (s : List ℕ) → hits how prev s ≤ length s
   unfolding hits
-  few prev [] = omega arith
-  few prev (x ∷ s) = one (prev && concerns how x) (few (eqb x 255) s)
+  hits-at-most prev [] = omega arith
+  hits-at-most prev (x ∷ s) = next-hits (prev && concerns how x) (hits-at-most (eqb x 255) s)
     where
-      one : (g : Bool) → hits how (eqb x 255) s ≤ length s → cond g 1 0 + hits how (eqb x 255) s ≤ suc (length s)
-      one true h = omega arith
-      one false h = omega arith
+      next-hits : (g : Bool) → hits how (eqb x 255) s ≤ length s → cond g 1 0 + hits how (eqb x 255) s ≤ suc (length s)
+      next-hits true h = omega arith
+      next-hits false h = omega arith
 
   -- as many bytes more, or as many less
   Lengths : Bool → Bool → List ℕ → Type 0
@@ -87,14 +87,14 @@ module _ (how : How) where
   unfolding Lengths edited hits
   lengths prev [] = refl
   lengths prev (x ∷ s) =
-      one (how .insert) (prev && concerns how x) (edited how (eqb x 255) s) (length s) (hits how (eqb x 255) s) (lengths (eqb x 255) s)
+      next-length (how .insert) (prev && concerns how x) (edited how (eqb x 255) s) (length s) (hits how (eqb x 255) s) (lengths (eqb x 255) s)
     where
-      one : (i g : Bool) (l : List ℕ) (n h : ℕ) → length l + pick i 0 h ≡ n + pick i h 0
+      next-length : (i g : Bool) (l : List ℕ) (n h : ℕ) → length l + pick i 0 h ≡ n + pick i h 0
           → length (pick g (pick i (0 ∷ x ∷ l) l) (x ∷ l)) + pick i 0 (cond g 1 0 + h) ≡ suc n + pick i (cond g 1 0 + h) 0
-      one true true l n h e = omega arith
-      one true false l n h e = omega arith
-      one false true l n h e = omega arith
-      one false false l n h e = omega arith
+      next-length true true l n h e = omega arith
+      next-length true false l n h e = omega arith
+      next-length false true l n h e = omega arith
+      next-length false false l n h e = omega arith
 
   pub longer : how .insert ≡ true → (prev : Bool) (s : List ℕ) → length (edited how prev s) ≡ length s + hits how prev s
   unfolding Lengths
@@ -129,7 +129,7 @@ module _ (how : How) where
       hits-end = ap (hits how (eqb (getD s i 0) 255)) nothing
 
     pub few-after : (from to : ℕ) → from < to → to ≤ length s → from + 1 + hitsAfter how s from to ≤ to
-    few-after from to lt le = omega (arith, few (eqb (getD s from 0) 255) (slice (from + 1) to s), length-slice (from + 1) to s le)
+    few-after from to lt le = omega (arith, hits-at-most (eqb (getD s from 0) 255) (slice (from + 1) to s), length-slice (from + 1) to s le)
 
     -- the first byte, then the bytes behind it
     module _ (prev : Bool) (from to : ℕ) (lt : from < to) (le : to ≤ length s) where
@@ -146,7 +146,7 @@ module _ (how : How) where
         hits-first = ap (hits how prev) (slice-next from to s lt le) ∙ ap (λ (g : Bool). cond g 1 0 + hitsAfter how s from to) (sym e)
 
         pub hits-few : cond f 1 0 + hitsAfter how s from to ≤ to - from
-        hits-few = omega (arith, few prev (slice from to s), hits-first, length-slice from to s le)
+        hits-few = omega (arith, hits-at-most prev (slice from to s), hits-first, length-slice from to s le)
 
         pub length-longer : how .insert ≡ true → to - from + (cond f 1 0 + hitsAfter how s from to) ≡ length (edited how prev (slice from to s))
         length-longer h = omega (arith, longer h prev (slice from to s), hits-first, length-slice from to s le)
@@ -155,7 +155,7 @@ module _ (how : How) where
         length-shorter h = omega (arith, shorter h prev (slice from to s), hits-first, length-slice from to s le)
 
       pub length-most : (g : Bool) → how .insert ≡ g → length (edited how prev (slice from to s)) ≤ pick g (to - from + (to - from)) (to - from)
-      length-most true h = omega (arith, longer h prev (slice from to s), few prev (slice from to s), length-slice from to s le)
+      length-most true h = omega (arith, longer h prev (slice from to s), hits-at-most prev (slice from to s), length-slice from to s le)
       length-most false h = omega (arith, shorter h prev (slice from to s), length-slice from to s le)
 
     -- one place further: f says that the edit concerns the byte there
@@ -212,12 +212,12 @@ module _ (how : How) where
   unhit : (prev : Bool) (s : List ℕ) → hits how prev s ≡ 0 → edited how prev s ≡ s
   unfolding edited hits
   unhit prev [] h = refl
-  unhit prev (x ∷ s) h = one (prev && concerns how x) (unhit (eqb x 255) s) h
+  unhit prev (x ∷ s) h = next-unhit (prev && concerns how x) (unhit (eqb x 255) s) h
     where
-      one : (g : Bool) → (hits how (eqb x 255) s ≡ 0 → edited how (eqb x 255) s ≡ s) → cond g 1 0 + hits how (eqb x 255) s ≡ 0
+      next-unhit : (g : Bool) → (hits how (eqb x 255) s ≡ 0 → edited how (eqb x 255) s ≡ s) → cond g 1 0 + hits how (eqb x 255) s ≡ 0
           → turned g (how .insert) x (edited how (eqb x 255) s) ≡ x ∷ s
-      one true e z = absurd (omega arith)
-      one false e z = ap (λ (l : List ℕ). x ∷ l) (e (omega arith))
+      next-unhit true e z = absurd (omega arith)
+      next-unhit false e z = ap (λ (l : List ℕ). x ∷ l) (e (omega arith))
 
   pub left-alone : (s : List ℕ) (i to : ℕ) → hitsAfter how s i to ≡ 0 → editedAfter how s i to ≡ slice (i + 1) to s
   left-alone s i to h = unhit (eqb (getD s i 0) 255) (slice (i + 1) to s) h
@@ -256,12 +256,12 @@ module _ (s : List ℕ) (i to : ℕ) (lt : i + 1 < to) (le : to ≤ length s) (f
       let l : List ℕ = editedAfter resyncBy s (i + 1) to in
       let g : Bool = eqb (getD s i 0) 255 && eqb x 0 in
       goes resyncBy s i to lt le g (ap (λ (z : Bool). eqb (getD s i 0) 255 && z) (sym (or-false (eqb x 0)))) refl
-      ∙ other g l (x ∷ l)
+      ∙ pick-not g l (x ∷ l)
       ∙ ap (λ (k : Bool). pick k (x ∷ l) l) (sym e)
     where
-      other : (g : Bool) (l m : List ℕ) → pick g l m ≡ pick (not g) m l
-      other true l m = refl
-      other false l m = refl
+      pick-not : (g : Bool) (l m : List ℕ) → pick g l m ≡ pick (not g) m l
+      pick-not true l m = refl
+      pick-not false l m = refl
 
 -- where a byte goes, the next one stays
 pub next-stays : (s : List ℕ) (i to : ℕ) → i + 2 < to → to ≤ length s → not (eqb (getD s i 0) 255 && eqb (getD s (i + 1) 0) 0) ≡ false
@@ -279,35 +279,35 @@ guardBy top = record { insert = true; zero = true; high = ltb top 0xFF }
 pub above : (high : Bool) (top : ℕ) → top ≡ pick high 0xDF 0xFF → (x : ℕ) → x ≤ 255 → (eqb x 0 || ltb top x) ≡ concerns (guardBy top) x
 above high top t x b =
     ap (λ (k : ℕ). eqb x 0 || ltb k x) t
-    ∙ one high
+    ∙ each-top high
     ∙ ap (λ (k : ℕ). eqb x 0 || (ltb k 0xFF && leb 0xE0 x)) (sym t)
   where
-    one : (h : Bool) → (eqb x 0 || ltb (pick h 0xDF 0xFF) x) ≡ (eqb x 0 || (ltb (pick h 0xDF 0xFF) 0xFF && leb 0xE0 x))
-    one true = refl
-    one false = ap (λ (g : Bool). eqb x 0 || g) (le-ltb _ _ b)
+    each-top : (h : Bool) → (eqb x 0 || ltb (pick h 0xDF 0xFF) x) ≡ (eqb x 0 || (ltb (pick h 0xDF 0xFF) 0xFF && leb 0xE0 x))
+    each-top true = refl
+    each-top false = ap (λ (g : Bool). eqb x 0 || g) (le-ltb _ _ b)
 
 -- an edit that inserts, before 00 too, is one of these
 pub guards-by : (how : How) (top : ℕ) → how .insert ≡ true → how .zero ≡ true → top ≡ pick (how .high) 0xDF 0xFF → how ≡ guardBy top
 guards-by how top i z t =
-    let h : how .high ≡ ltb top 0xFF = one (how .high) ∙ ap (λ (k : ℕ). ltb k 0xFF) (sym t) in
+    let h : how .high ≡ ltb top 0xFF = high-by-top (how .high) ∙ ap (λ (k : ℕ). ltb k 0xFF) (sym t) in
     λ j. record { insert = i j; zero = z j; high = h j }
   where
-    one : (h : Bool) → h ≡ ltb (pick h 0xDF 0xFF) 0xFF
-    one true = refl
-    one false = refl
+    high-by-top : (h : Bool) → h ≡ ltb (pick h 0xDF 0xFF) 0xFF
+    high-by-top true = refl
+    high-by-top false = refl
 
 -- an edit that concerns no byte leaves all as they are
 module _ (how : How) (z : how .zero ≡ false) (h : how .high ≡ false) where
-  none : (prev : Bool) (l : List ℕ) → hits how prev l ≡ 0
+  no-hits : (prev : Bool) (l : List ℕ) → hits how prev l ≡ 0
   unfolding hits
-  none prev [] = refl
-  none prev (x ∷ l) =
+  no-hits prev [] = refl
+  no-hits prev (x ∷ l) =
       ap {B = ℕ} (λ (g : Bool). cond (prev && ((g && eqb x 0) || (how .high && leb 0xE0 x))) 1 0 + hits how (eqb x 255) l) z
       ∙ ap {B = ℕ} (λ (g : Bool). cond (prev && (g && leb 0xE0 x)) 1 0 + hits how (eqb x 255) l) h
-      ∙ omega (arith, ap {B = ℕ} (λ (g : Bool). cond g 1 0) (and-false prev), none (eqb x 255) l)
+      ∙ omega (arith, ap {B = ℕ} (λ (g : Bool). cond g 1 0) (and-false prev), no-hits (eqb x 255) l)
 
   pub none-after : (s : List ℕ) (i to : ℕ) → hitsAfter how s i to ≡ 0
-  none-after s i to = none (eqb (getD s i 0) 255) (slice (i + 1) to s)
+  none-after s i to = no-hits (eqb (getD s i 0) 255) (slice (i + 1) to s)
 
   pub unchanged : (s : List ℕ) (i to : ℕ) → editedAfter how s i to ≡ slice (i + 1) to s
   unchanged s i to = left-alone how s i to (none-after s i to)

@@ -27,11 +27,13 @@ same-length c = search needs
 
 returns : tie.Need-returns
 returns c =
-    let a = c .before .before .before .before .before .before .before .args in
+    let at-resync-by = c .before .before .before in
+    let at-start = at-resync-by .before .before .before .before in
+    let a = at-start .args in
     let part = slice (a .from) (a .to) (a .s .now) in
     let e : 0 ≡ min 0 (length (a .room .now)) = omega arith in
     c .before .before .put-part .ensures
-    ∙ ap (λ (how : How). putOf 14 (edited how false part) 0 (a .room .now)) (c .before .before .before .resync-by .ensures)
+    ∙ ap (λ (how : How). putOf 14 (edited how false part) 0 (a .room .now)) (at-resync-by .resync-by .ensures)
     ∙ ap (λ (u : List ℕ). putOf 14 u 0 (a .room .now)) (resyncs false part)
     ∙ in-room (resynchronised part) 0 0 (a .room .now) e
 

@@ -37,20 +37,22 @@ edit-first-requires c κs =
     let at-start = c .before .before .before .before in
     then-stored (first at-start) (behind at-start) (all-left at-start) .0
 
--- the bytes behind the first are left to store
+-- the first byte is stored: the arguments, and that the bytes behind it are left to store
+abbrev start : tie.After-edit-first → tie.Start
+start c = let at-read = c .before in at-read .before .before .before .before
+
 behind-left : (c : tie.After-slice-known2) →
     let at-first = c .before .before in
-    let at-start = at-first .before .before .before .before .before in
+    let at-start = start at-first in
     Storing (at-start .args .buf .now) (at-start .args .at) (whole at-start) (at-first .edit-first .last .0) (at-first .edit-first .result) (behind at-start)
 behind-left c =
     let at-first = c .before .before in
-    let at-start = at-first .before .before .before .before .before in
+    let at-start = start at-first in
     then-stored (first at-start) (behind at-start) (all-left at-start) .1 (at-first .edit-first .result) (at-first .edit-first .last .0) (at-first .edit-first .ensures) .1
 
 edit-after-requires : tie.Need-edit-after-requires
 edit-after-requires c κs =
-    let at-first = c .before .before .before .before in
-    let at-start = at-first .before .before .before .before .before in
+    let at-start = start (c .before .before .before .before) in
     (omega arith, (lies (behind-left (c .before .before)), at-start .pre .1 .1))
 
 same-length : tie.Need-same-length
@@ -63,8 +65,7 @@ returns c =
 
 edit-by-byte-requires : tie.Need-edit-by-byte-requires
 edit-by-byte-requires c κs =
-    let at-first = c .before .before .before .before in
-    let at-start = at-first .before .before .before .before .before in
+    let at-start = start (c .before .before .before .before) in
     (omega arith, (lies (behind-left (c .before .before)), at-start .pre .1 .1))
 
 same-length-2 : tie.Need-same-length-2

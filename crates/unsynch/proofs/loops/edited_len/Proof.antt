@@ -20,7 +20,8 @@ hits-after-requires c κs = search needs
 
 -- the edit concerns at most every byte
 counted : (c : tie.After-hits-after) →
-    let a = c .before .before .before .before .before .args in
+    let at-hit = c .before .before in
+    let a = at-hit .before .before .before .args in
     c .before .bit .result + c .hits-after .result ≤ a .to - a .from
 counted c =
     let at-hit = c .before .before in

@@ -46,13 +46,17 @@ loop-less c = omega arith
 
 loop-again : tie.Need-loop-again Inv-loop μ-loop
 loop-again c =
-    let a = c .before .before .before .before .before .before .before .args in
-    let L = c .before .before .before .before .before .loop in
-    omega (arith, counts (a .how) (a .s .now) (L .k) (a .to) (omega arith) (omega arith) (c .before .hit .result) (c .before .hit .ensures))
+    let at-hit = c .before in
+    let at-loop = at-hit .before .before .before .before in
+    let at-start = at-loop .before .before in
+    let a = at-start .args in
+    let L = at-loop .loop in
+    omega (arith, counts (a .how) (a .s .now) (L .k) (a .to) (omega arith) (omega arith) (at-hit .hit .result) (at-hit .hit .ensures))
 
 returns : tie.Need-returns Inv-loop μ-loop
 returns c =
-    let a = c .before .before .before .args in
+    let at-start = c .before .before .before in
+    let a = at-start .args in
     let L = c .before .loop in
     omega (arith, hits-end (a .how) (a .s .now) (L .k) (a .to) (omega arith))
 
