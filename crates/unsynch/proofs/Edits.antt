@@ -133,14 +133,19 @@ module _ (how : How) where
 
     -- the first byte, then the bytes behind it
     module _ (prev : Bool) (from to : ℕ) (lt : from < to) (le : to ≤ length s) where
-      pub edited-first : edited how prev (slice from to s) ≡ edited how prev (getD s from 0 ∷ []) ++ editedAfter how s from to
-      unfolding edited
-      edited-first =
-          ap (edited how prev) (slice-next from to s lt le)
-          ∙ turned-append (prev && concerns how (getD s from 0)) (how .insert) (getD s from 0) [] (editedAfter how s from to)
-
       -- f says that the edit concerns the first
       module _ (f : Bool) (e : f ≡ (prev && concerns how (getD s from 0))) where
+        -- it gets a 00 before it, or stays
+        pub edited-first : (prev ≡ true → how .insert ≡ true)
+            → edited how prev (slice from to s) ≡ pick f (0 ∷ getD s from 0 ∷ editedAfter how s from to) (getD s from 0 ∷ editedAfter how s from to)
+        edited-first inserts = ap (edited how prev) (slice-next from to s lt le) ∙ cases f e
+          where
+            cases : (f : Bool) → f ≡ (prev && concerns how (getD s from 0))
+                → edited how prev (getD s from 0 ∷ slice (from + 1) to s)
+                ≡ pick f (0 ∷ getD s from 0 ∷ editedAfter how s from to) (getD s from 0 ∷ editedAfter how s from to)
+            cases true e = edited-next prev (getD s from 0) (slice (from + 1) to s) true true e (inserts (and-true prev _ (sym e) .0))
+            cases false e = edited-next prev (getD s from 0) (slice (from + 1) to s) false (how .insert) e refl
+
         hits-first : hits how prev (slice from to s) ≡ cond f 1 0 + hitsAfter how s from to
         unfolding hits
         hits-first = ap (hits how prev) (slice-next from to s lt le) ∙ ap (λ (g : Bool). cond g 1 0 + hitsAfter how s from to) (sym e)

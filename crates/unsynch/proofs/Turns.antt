@@ -3,9 +3,10 @@ use mathlib.Core.Path.{_≡_, refl, sym, ap, _∙_}
 use Prim.Native.Nat.{ℕ, suc, _+_, _-_, _≤_, _<_}
 use native.Mathlib.Omega.{arith}
 use mathlib.Core.Bool.{Bool, true, false, cond}
-use mathlib.Core.List.{List, [], _∷_, _++_}
+use mathlib.Core.List.{List, _∷_}
 use lib.ListN.{length, getD, take, set, length-set, length-append}
 use lib.Seq.{slice, length-slice, sets, set-set}
+use Rattle.lists.proofs.Bools.{false-not-true}
 use Rattle.lists.proofs.Stores.{take-sets, Storing, begin, lies, same-list, same-buffer, same-place, put, puts, over}
 use Rattle.format.specs.Bytes.{pick}
 use Rattle.unsynch.specs.declared.loops.How.{How}
@@ -43,22 +44,19 @@ module _ {o₀ : List ℕ} {p₀ : ℕ} {l₀ o : List ℕ} {p : ℕ} {m : List 
       let z : p ≡ q = omega arith in
       (omega arith, omega (arith, lies (same-list e s)), same-buffer (ap (λ (k : ℕ). set (set o p 0) k x) z) (same-place (ap (λ (k : ℕ). k + 1) z) (over 0 (same-list e s))))
 
--- a list m, behind which l is left, is stored by another function
-pub then-stored : {o₀ : List ℕ} {p₀ : ℕ} {l₀ o : List ℕ} {p : ℕ} (m l : List ℕ) → Storing o₀ p₀ l₀ o p (m ++ l)
-    → (p + length m ≤ length o) × ((r : ℕ) (o′ : List ℕ) → _≡_ {A = ℕ × List ℕ} (r, o′) (stored m p o) → (p ≤ r) × Storing o₀ p₀ l₀ o′ r l)
-then-stored {o} {p} m l t = (
-  omega (arith, lies t, length-append m l),
-  λ r o′ e.
-      let f : r ≡ p + length m = ap (λ (z : ℕ × List ℕ). z .0) e in
-      (omega arith, same-place (sym f) (same-buffer (sym (ap (λ (z : ℕ × List ℕ). z .1) e)) (puts m t))),
-)
-
--- what the edit makes of the bytes behind place i, up to place m
+-- what the edit makes of the bytes behind place i, up to place m, is stored by another function
 module _ (how : How) (s : List ℕ) (i m to : ℕ) (after : i ≤ m) (lt : m < to) (le : to ≤ length s) where
   pub piece : {o₀ : List ℕ} {p₀ : ℕ} {l₀ o : List ℕ} {p : ℕ} → Storing o₀ p₀ l₀ o p (editedAfter how s i to)
       → (p + length (editedAfter how s i (m + 1)) ≤ length o)
       × ((r : ℕ) (o′ : List ℕ) → _≡_ {A = ℕ × List ℕ} (r, o′) (stored (editedAfter how s i (m + 1)) p o) → (p ≤ r) × Storing o₀ p₀ l₀ o′ r (editedAfter how s m to))
-  piece t = then-stored (editedAfter how s i (m + 1)) (editedAfter how s m to) (same-list (parted how s (m - i) i m to (omega arith) lt le) t)
+  piece {o} {p} t =
+      let l : List ℕ = editedAfter how s i (m + 1) in
+      let u = same-list (parted how s (m - i) i m to (omega arith) lt le) t in (
+        omega (arith, lies u, length-append l (editedAfter how s m to)),
+        λ r o′ e.
+            let f : r ≡ p + length l = ap (λ (z : ℕ × List ℕ). z .0) e in
+            (omega arith, same-place (sym f) (same-buffer (sym (ap (λ (z : ℕ × List ℕ). z .1) e)) (puts l u))),
+      )
 
   -- the same behind place n of the area that is edited
   module _ (n : ℕ) (before : to ≤ n) {o₀ : List ℕ} {p₀ : ℕ} {l₀ o : List ℕ} {p : ℕ} (fits : n ≤ length s) (behind : n ≤ p) where
@@ -88,7 +86,6 @@ module _ (how : How) (s : List ℕ) (i n to : ℕ) (lt : i + n < to) (le : to �
 -- the first byte stays as it is, where the byte before it was not FF
 pub first-stored : (how : How) (s : List ℕ) (from to at : ℕ) (o : List ℕ) → from < to → to ≤ length s → at + length (edited how false (slice from to s)) ≤ length o
     → (at < length o) × Storing o at (edited how false (slice from to s)) (set o at (getD s from 0)) (at + 1) (editedAfter how s from to)
-unfolding edited
 first-stored how s from to at o lt le room =
-    let t = same-list (edited-first how s false from to lt le) (begin o at (edited how false (slice from to s)) room) in
+    let t = same-list (edited-first how s false from to lt le false refl (λ e. absurd (false-not-true e))) (begin o at (edited how false (slice from to s)) room) in
     (omega (arith, lies t), put t)

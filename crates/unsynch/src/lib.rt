@@ -15,7 +15,7 @@ ghost use Rattle.format.specs.Numbers.{bytesOf, fromSynchsafe};
 ghost use Rattle.format.specs.Unsynch.{resynchronised, guards, unsync};
 ghost use Rattle.unsynch.specs.Puts.{encodedOf, putOf, intoOf, inAreaOf, placedOf};
 ghost use Rattle.unsynch.specs.Edits.{Known, edited};
-ghost use mathlib.Core.Bool.{_&&_};
+ghost use mathlib.Core.Bool.{true, _&&_};
 
 // A synchsafe number as one word, or a refusal.
 pub enum Encoded {
@@ -116,7 +116,7 @@ pub fn resync_in(area: &mut [u8], from: usize, to: usize, split: usize) -> Put
     Put::Refused(WORK_TOO_SMALL)
 }
 
-// Puts s[from..to], edited, at the place `at` of a buffer; prev says that the byte before it was FF.
+// Puts s[from..to], edited, at the place `at` of a buffer; prev says that the byte before it was FF, which only an edit that inserts is asked.
 // A buffer that is too small is left as it was, and the answer is the refusal k.
 fn put_part(
     buf: &mut [u8],
@@ -128,7 +128,7 @@ fn put_part(
     how: How,
     k: u8,
 ) -> Put
-    requires { ⌜ Known how ⌝ }
+    requires { ⌜ Known how × (prev ≡ true → how .insert ≡ true) ⌝ }
     ensures { λ r. ⌜ (r, now (buf .exit)) ≡ putOf k (edited how prev (slice from to (now (s .entry)))) at (now (buf .entry)) ⌝ }
 {
     if buf.len() < at {

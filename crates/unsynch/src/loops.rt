@@ -4,7 +4,6 @@ use format::Mode;
 use format::small::least;
 ghost use mathlib.Core.Path.{_≡_};
 ghost use mathlib.Core.Bool.{Bool, true, false, cond, not, _&&_, _||_};
-ghost use mathlib.Core.List.{[], _∷_};
 ghost use Prim.Native.Nat.{_+_, _-_, _*_, _^_, _≤_, _<_};
 ghost use lib.ListN.{length, take, getD};
 ghost use lib.Seq.{slice, sets};
@@ -271,26 +270,8 @@ fn edit_by_byte(buf: &mut [u8], at: usize, s: &[u8], from: usize, to: usize, how
     drop_words(buf, at, s, from, to)
 }
 
-// Stores the byte b, edited, from `at` on; prev says that the byte before it was FF. The answer is the place behind what is stored.
-fn edit_first(buf: &mut [u8], at: usize, b: u8, prev: bool, how: How) -> usize
-    requires { ⌜ at + length (edited how prev (b ∷ [])) ≤ length (now buf) ⌝ }
-    ensures { λ r. ⌜ (r, now (buf .exit)) ≡ stored (edited how prev (b ∷ [])) at (now (buf .entry)) ⌝ }
-{
-    if hit(how, prev, b) {
-        if how.insert {
-            buf[at] = 0;
-            let next = at + 1;
-            buf[next] = b;
-            return next + 1;
-        }
-        return at;
-    }
-    buf[at] = b;
-    at + 1
-}
-
-// Stores s[from..to], edited, from `at` on; prev says that the byte before them was FF. The answer is the place behind what is stored.
-// An edit that concerns no byte is one copy.
+// Stores s[from..to], edited, from `at` on; prev says that the byte before them was FF, which only an edit that inserts is asked.
+// The answer is the place behind what is stored. An edit that concerns no byte is one copy.
 pub(crate) fn edit(
     buf: &mut [u8],
     at: usize,
@@ -302,10 +283,14 @@ pub(crate) fn edit(
 ) -> usize
     requires { ⌜ (from < to) × (to ≤ length (now s)) ⌝ }
     requires { ⌜ at + length (edited how prev (slice from to (now s))) ≤ length (now buf) ⌝ }
-    requires { ⌜ Known how ⌝ }
+    requires { ⌜ Known how × (prev ≡ true → how .insert ≡ true) ⌝ }
     ensures { λ r. ⌜ (r, now (buf .exit)) ≡ stored (edited how prev (slice from to (now (s .entry)))) at (now (buf .entry)) ⌝ }
 {
-    let behind = edit_first(buf, at, s[from], prev, how);
+    let b = s[from];
+    let first = at + bit(hit(how, prev, b));
+    buf[at] = 0;
+    buf[first] = b;
+    let behind = first + 1;
     if how.zero {
         return edit_after(buf, behind, s, from, to, how);
     }

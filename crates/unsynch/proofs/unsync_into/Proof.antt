@@ -16,20 +16,18 @@ unsync-by-requires c κs = search needs
 
 put-part-requires : tie.Need-put-part-requires
 put-part-requires c κs =
-    let at-start = c .before .before .before .before in
-    known-unsync _ (at-start .args .mode) (c .unsync-by .ensures)
+    (known-unsync _ (c .before .before .before .before .args .mode) (c .unsync-by .ensures), λ _. ap (λ (how : How). how .insert) (c .unsync-by .ensures))
 
 same-length : tie.Need-same-length
 same-length c = search needs
 
 returns : tie.Need-returns
 returns c =
-    let at-unsync-by = c .before .before .before in
-    let at-start = at-unsync-by .before .before .before .before in
-    let a = at-start .args in
+    let at-how = c .before .before .before in
+    let a = at-how .before .before .before .before .args in
     let part = slice (a .from) (a .to) (a .s .now) in
     c .before .before .put-part .ensures
-    ∙ ap (λ (how : How). putOf 20 (edited how (a .prev) part) (a .at) (a .out .now)) (at-unsync-by .unsync-by .ensures)
+    ∙ ap (λ (how : How). putOf 20 (edited how (a .prev) part) (a .at) (a .out .now)) (at-how .unsync-by .ensures)
     ∙ ap (λ (u : List ℕ). putOf 20 u (a .at) (a .out .now)) (unsyncs (a .mode) (a .prev) part)
 
 pub unsync-into-spec : {M : Type 1} → statement M

@@ -37,8 +37,7 @@ loop-less c = omega arith
 
 loop-again : tie.Need-loop-again Inv-loop μ-loop
 loop-again c =
-    let at-start = c .before .before .before in
-    let a = at-start .args in
+    let a = c .before .before .before .args in
     let L = c .before .before .loop in
     (omega arith, any-turn (a .s .now) (a .i) (L .k) (a .i + a .n) (L .any) _ (omega arith) (omega arith) (L .inv .1))
 

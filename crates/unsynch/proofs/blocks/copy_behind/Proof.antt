@@ -41,8 +41,7 @@ returns : tie.Need-returns
 returns c =
     let at-stored = c .before .before in
     let at-copy = at-stored .before .before .before .before in
-    let at-start = at-copy .before .before .before .before in
-    let a = at-start .args in
+    let a = at-copy .before .before .before .before .args in
     let part : List ℕ = slice (a .i + 1) (a .i + a .n + 1) (a .s .now) in
     let block = slice-copy (a .s .now) (replicate 64 0) _ (a .i + 1) (a .i + a .n + 1) (a .n) (omega arith) (omega arith) (omega arith) (at-copy .copy .ensures) in
     let n : a .at + a .n ≡ a .at + length part = omega (arith, length-slice (a .i + 1) (a .i + a .n + 1) (a .s .now) (omega arith)) in

@@ -60,8 +60,7 @@ loop-less c = omega arith
 loop-again : tie.Need-loop-again Inv-loop μ-loop
 loop-again c =
     let at-loop = c .before .before .before .before in
-    let at-start = at-loop .before .before in
-    let a = at-start .args in
+    let a = at-loop .before .before .args in
     let L = at-loop .loop in
     let here : a .i + L .k + 1 ≡ a .i + (L .k + 1) = omega arith in
     let one = counts (a .how) (a .s .now) (a .i + L .k) (a .i + 64 + 1) (omega arith) (omega arith) (c .hit .result) (c .hit .ensures) in
@@ -70,8 +69,7 @@ loop-again c =
 
 returns : tie.Need-returns Inv-loop μ-loop
 returns c =
-    let at-start = c .before .before .before in
-    let a = at-start .args in
+    let a = c .before .before .before .args in
     let L = c .before .loop in
     omega (arith, hits-end (a .how) (a .s .now) (a .i + L .k) (a .i + 64 + 1) (omega arith))
 

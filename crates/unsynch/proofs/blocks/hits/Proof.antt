@@ -21,8 +21,7 @@ returns c = search needs
 
 returns-2 : tie.Need-returns-2
 returns-2 c =
-    let at-start = c .before .before .before in
-    let a = at-start .args in
+    let a = c .before .before .before .args in
     sym (no-ff (a .how) (a .s .now) 64 (a .i) (a .i + 64) (omega arith) (omega arith) (sym (c .before .any-ff .ensures) ∙ c .if1 .left))
 
 pub hits-spec : {M : Type 1} → statement M

@@ -32,8 +32,7 @@ add-buf-2 c = omega arith
 
 slice-write-buf : tie.Need-slice-write-buf Inv-loop μ-loop
 slice-write-buf c =
-    let at-start = c .before .before .before in
-    let a = at-start .args in
+    let a = c .before .before .before .args in
     let L = c .before .before .loop in
     copy-turn (a .s .now) (a .from) (a .to) (a .at) (omega arith) (L .k) (omega arith) (L .inv .2) .0
 
@@ -45,8 +44,7 @@ loop-less c = omega arith
 
 loop-again : tie.Need-loop-again Inv-loop μ-loop
 loop-again c =
-    let at-start = c .before .before .before in
-    let a = at-start .args in
+    let a = c .before .before .before .args in
     let L = c .before .before .loop in
     (refl, omega arith, copy-turn (a .s .now) (a .from) (a .to) (a .at) (omega arith) (L .k) (omega arith) (L .inv .2) .1)
 

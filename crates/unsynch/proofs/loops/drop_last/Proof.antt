@@ -15,8 +15,7 @@ use Rattle.unsynch.proofs.loops.drop_last.Tie as tie
 -- the byte is looked at: the arguments
 abbrev start : tie.Then2 → tie.Start
 start c =
-    let at-read = c .before .before in
-    let at-test = at-read .before .before in
+    let at-test = c .before .before .before .before in
     at-test .before .before .before
 
 -- where it stays, it is left to store
@@ -58,16 +57,14 @@ returns c =
 
 returns-2 : tie.Need-returns-2
 returns-2 c =
-    let at-read = c .before .before in
-    let at-test = at-read .before .before in
+    let at-test = c .before .before .before .before in
     let a = at-test .before .before .before .args in
     let goes = stays (a .s .now) (a .from) (a .to) (omega arith) (omega arith) false (sym (c .if2 .left) ∙ c .before .stays .ensures) in
     done (goes ∙ edited-end resyncBy (a .s .now) (a .from + 1) (a .to) (omega arith)) (begin _ _ _ (omega arith))
 
 returns-3 : tie.Need-returns-3
 returns-3 c =
-    let at-start = c .before .before .before in
-    let a = at-start .args in
+    let a = c .before .before .before .args in
     done (edited-end resyncBy (a .s .now) (a .from) (a .to) (omega arith)) (begin _ _ _ (omega arith))
 
 pub drop-last-spec : {M : Type 1} → statement M

@@ -1,87 +1,99 @@
 -- `unsynch::loops::edit` meets its contract. Assumes nothing.
-use mathlib.Core.Path.{_∙_}
-use Prim.Native.Nat.{ℕ}
-use mathlib.Core.List.{List, [], _∷_, _++_}
-use lib.ListN.{getD}
+use mathlib.Core.Path.{ap, _∙_}
+use Prim.Native.Nat.{ℕ, _+_, _≤_, _<_}
+use lib.ListN.{length, set, getD, length-set}
 use lib.Seq.{slice}
-use Rattle.lists.proofs.Stores.{Storing, begin, same-list, lies, rest}
+use Rattle.lists.proofs.Stores.{Storing, begin, lies, rest}
 use Rattle.unsynch.specs.Edits.{edited, editedAfter}
 use Rattle.unsynch.proofs.Edits.{edited-first}
-use Rattle.unsynch.proofs.Turns.{then-stored}
+use Rattle.unsynch.proofs.Turns.{insert-turn}
 use borrow.Author.Needs.{needs}
 use native.Mathlib.Omega.{arith}
 use Rattle.unsynch.proofs.loops.edit.Statement.{statement}
 use Rattle.unsynch.proofs.loops.edit.Tie as tie
 
-shared-slice-read-edit-first : tie.Need-shared-slice-read-edit-first
-shared-slice-read-edit-first c = search needs
+-- the first byte is put: the arguments
+abbrev start : tie.After-bit → tie.Start
+start c = let at-hit = c .before in at-hit .before .before .before .before
 
--- what the bytes become, what the first becomes, and those behind it
-abbrev whole : tie.Start → List ℕ
-whole s = let a = s .args in edited (a .how) (a .prev) (slice (a .from) (a .to) (a .s .now))
+-- the stores lie in the buffer, and leave the bytes behind it
+first-put : (c : tie.After-bit)
+    → let a = start c .args in
+    let first = a .at + c .bit .result in
+    (a .at ≤ first)
+    × (first < length (a .buf .now))
+    × Storing (a .buf .now) (a .at) (edited (a .how) (a .prev) (slice (a .from) (a .to) (a .s .now)))
+    (set (set (a .buf .now) (a .at) 0) first (getD (a .s .now) (a .from) 0)) (first + 1) (editedAfter (a .how) (a .s .now) (a .from) (a .to))
+first-put c =
+    let at-start = start c in
+    let a = at-start .args in
+    let f = c .before .hit in
+    insert-turn (begin _ _ _ (at-start .pre .1 .0)) (getD (a .s .now) (a .from) 0) (editedAfter (a .how) (a .s .now) (a .from) (a .to)) (f .result) (a .at + c .bit .result)
+    (edited-first (a .how) (a .s .now) (a .prev) (a .from) (a .to) (omega arith) (omega arith) (f .result) (f .ensures) (at-start .pre .1 .1 .1))
+    (ap (λ (k : ℕ). a .at + k) (c .bit .ensures .0))
 
-abbrev first : tie.Start → List ℕ
-first s = let a = s .args in edited (a .how) (a .prev) (getD (a .s .now) (a .from) 0 ∷ [])
+shared-slice-read-b : tie.Need-shared-slice-read-b
+shared-slice-read-b c = search needs
 
-abbrev behind : tie.Start → List ℕ
-behind s = let a = s .args in editedAfter (a .how) (a .s .now) (a .from) (a .to)
+hit-requires : tie.Need-hit-requires
+hit-requires c κs = search needs
 
--- all is left to store
-all-left : (s : tie.Start) → let a = s .args in Storing (a .buf .now) (a .at) (whole s) (a .buf .now) (a .at) (first s ++ behind s)
-all-left s =
-    let a = s .args in
-    same-list (edited-first (a .how) (a .s .now) (a .prev) (a .from) (a .to) (omega arith) (omega arith)) (begin _ _ _ (s .pre .1 .0))
+bit-requires : tie.Need-bit-requires
+bit-requires c κs = search needs
 
-edit-first-requires : tie.Need-edit-first-requires
-edit-first-requires c κs =
-    let at-start = c .before .before .before .before in
-    then-stored (first at-start) (behind at-start) (all-left at-start) .0
+add-first : tie.Need-add-first
+add-first c = search needs
 
--- the first byte is stored: the arguments, and that the bytes behind it are left to store
-abbrev start : tie.After-edit-first → tie.Start
-start c = let at-read = c .before in at-read .before .before .before .before
+slice-write-buf : tie.Need-slice-write-buf
+slice-write-buf c = omega (arith, first-put c .0, first-put c .1)
 
-behind-left : (c : tie.After-slice-known2) →
-    let at-first = c .before .before in
-    let at-start = start at-first in
-    Storing (at-start .args .buf .now) (at-start .args .at) (whole at-start) (at-first .edit-first .last .0) (at-first .edit-first .result) (behind at-start)
-behind-left c =
-    let at-first = c .before .before in
-    let at-start = start at-first in
-    then-stored (first at-start) (behind at-start) (all-left at-start) .1 (at-first .edit-first .result) (at-first .edit-first .last .0) (at-first .edit-first .ensures) .1
+slice-write-buf-2 : tie.Need-slice-write-buf-2
+slice-write-buf-2 c = simp length-set (first-put c .1)
+
+add-behind : tie.Need-add-behind
+add-behind c = search needs
 
 edit-after-requires : tie.Need-edit-after-requires
 edit-after-requires c κs =
-    let at-start = start (c .before .before .before .before) in
-    (omega arith, (lies (behind-left (c .before .before)), at-start .pre .1 .1))
+    let at-first = c .before .before in
+    (omega arith, (lies (first-put at-first .2), start at-first .pre .1 .1 .0))
 
 same-length : tie.Need-same-length
-same-length c = search needs
+same-length c =
+    let at-edit = c .before .before in
+    at-edit .edit-after .kept .0 ∙ first-put (at-edit .before .before .before) .2 .long
 
 returns : tie.Need-returns
 returns c =
-    let stored = c .before .before in
-    stored .edit-after .ensures ∙ rest (behind-left (stored .before .before .before))
+    let at-edit = c .before .before in
+    at-edit .edit-after .ensures ∙ rest (first-put (at-edit .before .before .before) .2)
 
 edit-by-byte-requires : tie.Need-edit-by-byte-requires
 edit-by-byte-requires c κs =
-    let at-start = start (c .before .before .before .before) in
-    (omega arith, (lies (behind-left (c .before .before)), at-start .pre .1 .1))
+    let at-first = c .before .before in
+    (omega arith, (lies (first-put at-first .2), start at-first .pre .1 .1 .0))
 
 same-length-2 : tie.Need-same-length-2
-same-length-2 c = search needs
+same-length-2 c =
+    let at-edit = c .before .before in
+    at-edit .edit-by-byte .kept .0 ∙ first-put (at-edit .before .before .before) .2 .long
 
 returns-2 : tie.Need-returns-2
 returns-2 c =
-    let stored = c .before .before in
-    stored .edit-by-byte .ensures ∙ rest (behind-left (stored .before .before .before))
+    let at-edit = c .before .before in
+    at-edit .edit-by-byte .ensures ∙ rest (first-put (at-edit .before .before .before) .2)
 
 pub edit-spec : {M : Type 1} → statement M
 edit-spec =
     tie.close
     (tie.spec
-    shared-slice-read-edit-first
-    edit-first-requires
+    shared-slice-read-b
+    hit-requires
+    bit-requires
+    add-first
+    slice-write-buf
+    slice-write-buf-2
+    add-behind
     edit-after-requires
     same-length
     returns

@@ -37,8 +37,7 @@ returns : tie.Need-returns
 returns c =
     let at-edit = c .before .before in
     let at-copy = at-edit .before .before .before .before in
-    let at-start = at-copy .before .before .before .before in
-    let a = at-start .args in
+    let a = at-copy .before .before .before .before .args in
     let e = in-copy (a .how) (a .area .now) (replicate 1025 0) (at-copy .copy .last .0) (a .from) (a .to) (omega arith) (omega arith) (omega arith) (at-copy .copy .ensures) in
     at-edit .edit-after .ensures ∙ ap (λ (l : List ℕ). stored l (a .at) (a .area .now)) (e .1)
 

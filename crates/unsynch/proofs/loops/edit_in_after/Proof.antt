@@ -55,8 +55,7 @@ loop-again : tie.Need-loop-again Inv-loop μ-loop
 loop-again c =
     let at-least = c .before .before .before .before in
     let at-loop = at-least .before .before in
-    let at-start = at-loop .before .before in
-    let a = at-start .args in
+    let a = at-loop .before .before .args in
     let L = at-loop .loop in
     let t = piece-in (a .how) (a .area .now) (L .i) (L .i + at-least .least .result) (a .to) (omega arith) (omega arith) (omega arith) (a .at) (omega arith) (omega arith) (L .inv .2) (L .inv .4 .long) (L .inv .3) (L .inv .4) .1 (c .before .before .edit-chunk .result) (c .before .before .edit-chunk .last .0) (c .before .before .edit-chunk .ensures) in
     (omega arith, omega arith, omega arith, t .1, t .2)
@@ -66,8 +65,7 @@ same-length c = c .before .loop .inv .4 .long
 
 returns : tie.Need-returns Inv-loop μ-loop
 returns c =
-    let at-start = c .before .before .before in
-    let a = at-start .args in
+    let a = c .before .before .before .args in
     let L = c .before .loop in
     done (edited-end (a .how) (a .area .now) (L .i) (a .to) (omega arith)) (L .inv .4)
 

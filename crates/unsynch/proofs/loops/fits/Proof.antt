@@ -20,8 +20,7 @@ most-requires c κs = omega (arith, c .before .good)
 
 returns : tie.Need-returns
 returns c =
-    let at-start = c .before .before .before in
-    let a = at-start .args in
+    let a = c .before .before .before .args in
     let most : length (edited (a .how) (a .prev) (slice (a .from) (a .to) (a .s .now))) ≤ a .room =
     omega (arith, length-most (a .how) (a .s .now) (a .prev) (a .from) (a .to) (omega arith) (omega arith) (a .how .insert) refl) in
     sym (le-leb _ _ most)
@@ -31,8 +30,7 @@ edited-len-requires c κs = omega arith
 
 returns-2 : tie.Need-returns-2
 returns-2 c =
-    let at-start = c .before .before .before .before in
-    ap (λ (n : ℕ). leb n (at-start .args .room)) (c .edited-len .ensures)
+    ap (λ (n : ℕ). leb n (c .before .before .before .before .args .room)) (c .edited-len .ensures)
 
 pub fits-spec : {M : Type 1} → statement M
 fits-spec = tie.close (tie.spec sub-most most-requires returns edited-len-requires returns-2)

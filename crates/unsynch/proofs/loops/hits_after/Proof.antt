@@ -17,8 +17,7 @@ abbrev μ-loop : tie.MeasureT-loop
 
 returns : tie.Need-returns Inv-loop μ-loop
 returns c =
-    let at-start = c .before .before .before in
-    let a = at-start .args in
+    let a = c .before .before .before .args in
     let none = or-false (a .how .zero) (a .how .high) (not-true _ (c .if1 .taken)) in
     sym (none-after (a .how) (none .0) (none .1) (a .s .now) (a .from) (a .to))
 

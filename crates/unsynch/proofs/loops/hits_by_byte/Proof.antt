@@ -48,15 +48,13 @@ loop-again : tie.Need-loop-again Inv-loop μ-loop
 loop-again c =
     let at-hit = c .before in
     let at-loop = at-hit .before .before .before .before in
-    let at-start = at-loop .before .before in
-    let a = at-start .args in
+    let a = at-loop .before .before .args in
     let L = at-loop .loop in
     omega (arith, counts (a .how) (a .s .now) (L .k) (a .to) (omega arith) (omega arith) (at-hit .hit .result) (at-hit .hit .ensures))
 
 returns : tie.Need-returns Inv-loop μ-loop
 returns c =
-    let at-start = c .before .before .before in
-    let a = at-start .args in
+    let a = c .before .before .before .args in
     let L = c .before .loop in
     omega (arith, hits-end (a .how) (a .s .now) (L .k) (a .to) (omega arith))
 

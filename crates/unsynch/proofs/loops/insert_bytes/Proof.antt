@@ -59,8 +59,7 @@ either-requires c κs = search needs
 
 loop-holds : tie.Need-loop-holds Inv-loop μ-loop
 loop-holds c =
-    let at-start = c .before .before .before in
-    let a = at-start .args in
+    let a = c .before .before .before .args in
     (omega arith, omega arith, begin _ _ _ (omega (arith, ap (λ (how : How). length (editedAfter how (a .s .now) (a .from) (a .to))) (same c))))
 
 add-loop : tie.Need-add-loop Inv-loop μ-loop
