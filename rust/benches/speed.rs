@@ -25,6 +25,7 @@ fn main() {
     for (name, bytes) in [("clean", clean()), ("random", random()), ("FF-dense", dense()), ("FF-dense at random", dense_at_random())] {
         resynchronising(name, &bytes);
         unsynchronising(name, &bytes);
+        adding(name, &bytes);
     }
 }
 
@@ -234,6 +235,23 @@ fn unsynchronising(name: &str, bytes: &[u8]) {
     let plain = best(|| unsync_plain(black_box(bytes), &mut other));
     let search = best(|| unsync_by_search(black_box(bytes), &mut other));
     compared("unsynchronising", name, bytes.len(), [library, plain, search]);
+}
+
+/// Adds a 2.4 frame with a raw body of 1 MiB in standard mode, which measures the body and unsynchronises it.
+fn adding(name: &str, bytes: &[u8]) {
+    let mut record = [0; SV_RECORD_WORDS];
+    (record[SV_RECORD_KIND], record[SV_RECORD_ID]) = (SV_KIND_RAW, u64::from(u32::from_be_bytes(*b"PRIV")));
+    let given = calls::Given { record: &record, name: &[], names: &[], rest: black_box(bytes), deviations: &[] };
+    let (mut buffer, mut other) = (vec![0; 10 + 2 * bytes.len()], vec![0; 2 * bytes.len()]);
+    let mut count = [0];
+    let mut add = || calls::add(given, &mut buffer, &mut [4, SV_MODE_STANDARD, 0, 0], &mut count);
+    assert_eq!(add(), 0);
+    let library = best(add);
+    let len = unsync_plain(bytes, &mut other);
+    assert_eq!((count[0] as usize, &buffer[10..10 + len]), (10 + len, &other[..len]));
+    let plain = best(|| unsync_plain(black_box(bytes), &mut other));
+    let search = best(|| unsync_by_search(black_box(bytes), &mut other));
+    compared("adding", name, bytes.len(), [library, plain, search]);
 }
 
 fn compared(what: &str, name: &str, bytes: usize, [library, plain, search]: [f64; 3]) {

@@ -1,6 +1,6 @@
 #!/usr/bin/env bash
 # Counts the instructions that the library takes for the tag that a box leaves, from opening to the end: by the meter and by a reader's steps, the caller's
-# few included. On any machine with qemu-x86_64 and a C compiler for x86-64; the count is the same in each run. It is no time: what a load or a branch
+# few included; and for adding a 2.4 frame with a raw body of 1 MiB. On any machine with qemu-x86_64 and a C compiler for x86-64; the count is the same in each run. It is no time: what a load or a branch
 # costs is not in it.
 #
 #   rust/compare/count.sh
@@ -32,5 +32,13 @@ for edition in 2 3 4; do
             many=$(run "$way" "$edition" "$mode" 1100)
             echo "2.$edition, mode $mode, $way: $(((many - few) / 1000)) instructions"
         done
+    done
+done
+
+for body in clean random dense; do
+    for mode in 0 2; do
+        few=$(run add "$body" "$mode" 1)
+        many=$(run add "$body" "$mode" 5)
+        echo "2.4, mode $mode, adding 1 MiB, $body: $(((many - few) / 4)) instructions"
     done
 done

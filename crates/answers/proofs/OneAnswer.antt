@@ -44,8 +44,8 @@ encode-u32-one κs a x y v w p q = alike p q λ o. (o, v)
 pub decode-u32-one : OneAnswer unsynch.decode_u32.ended unsynch.decode_u32.Reads.Learnt
 decode-u32-one κs a x y v w p q = alike p q λ o. (o, v)
 
-pub resync-len-one : OneAnswer unsynch.resync_len.ended unsynch.resync_len.Reads.Learnt
-resync-len-one κs a x y v w p q = alike p q λ o. (o, v)
+pub is-guarded-one : OneAnswer unsynch.is_guarded.ended unsynch.is_guarded.Reads.Learnt
+is-guarded-one κs a x y v w p q = alike p q λ o. (o, v)
 
 pub unsync-len-one : OneAnswer unsynch.unsync_len.ended unsynch.unsync_len.Reads.Learnt
 unsync-len-one κs a x y v w p q = alike p q λ o. (o, v)

@@ -64,7 +64,7 @@ unsync-longer guard prev [] = omega arith
 unsync-longer guard prev (x ∷ s) =
     omega (arith, unsync-longer guard (eqb x 255) s, only-if-longer (prev && guard x) 0 (x ∷ unsync guard (eqb x 255) s))
 
-doubled : (guard : ℕ → Bool) (prev : Bool) (s : List ℕ) → length (unsync guard prev s) ≤ 2 * length s
+pub doubled : (guard : ℕ → Bool) (prev : Bool) (s : List ℕ) → length (unsync guard prev s) ≤ 2 * length s
 unfolding unsync
 doubled guard prev [] = omega arith
 doubled guard prev (x ∷ s) =

@@ -56,18 +56,18 @@ pub in-room : (u : List ℕ) (split mid : ℕ) (a : List ℕ) → mid ≡ min sp
 in-room u split mid a e =
     let front : take mid a ≡ take split a = ap (λ (k : ℕ). take k a) e ∙ take-cut split a in
     let back : drop mid a ≡ drop split a = ap (λ (k : ℕ). drop k a) e ∙ drop-cut split a in
-    one (ltb (length a) (mid + length u)) refl
+    by-room (ltb (length a) (mid + length u)) refl
     ∙ ap {B = Out} (λ (l : List ℕ). let o = intoOf u (drop mid a) in (o .0, l ++ o .1)) front
     ∙ ap {B = Out} (λ (l : List ℕ). let o = intoOf u l in (o .0, take split a ++ o .1)) back
   where
     within : mid ≤ length a
     within = omega arith
 
-    one : (t : Bool) → ltb (length a) (mid + length u) ≡ t → putOf 14 u mid a ≡ (let o = intoOf u (drop mid a) in (o .0, take mid a ++ o .1))
-    one true t =
+    by-room : (t : Bool) → ltb (length a) (mid + length u) ≡ t → putOf 14 u mid a ≡ (let o = intoOf u (drop mid a) in (o .0, take mid a ++ o .1))
+    by-room true t =
         let h : length (drop mid a) < length u = omega (arith, ltb-true (length a) (mid + length u) t, length-drop mid a) in
         rw (t, lt-ltb _ _ h) (ap {B = Out} (λ (l : List ℕ). (Put.Refused 14, l)) (sym (take-append-drop mid a)))
-    one false t =
+    by-room false t =
         let f : mid + length u ≤ length a = ltb-false _ _ t in
         let h : length u ≤ length (drop mid a) = omega (arith, length-drop mid a, within) in
         rw (t, le-ltb _ _ h) (ap {B = Out} (λ (l : List ℕ). (Put.Bytes (length u), l)) (sets-in a mid u f))

@@ -23,14 +23,14 @@ use Rattle.unsynch.specs.Edits.{concerns, resyncBy, isStandard, unsyncBy
 pub resyncs : (prev : Bool) (s : List ℕ) → edited resyncBy prev s ≡ resync prev s
 unfolding edited resync
 resyncs prev [] = refl
-resyncs prev (x ∷ s) = one prev (eqb x 0) (edited resyncBy (eqb x 255) s) ∙ ap (onlyIf (not (prev && eqb x 0)) x) (resyncs (eqb x 255) s)
+resyncs prev (x ∷ s) = pick-only prev (eqb x 0) (edited resyncBy (eqb x 255) s) ∙ ap (onlyIf (not (prev && eqb x 0)) x) (resyncs (eqb x 255) s)
   where
-    one : (p z : Bool) (l : List ℕ) → pick (p && (z || false)) l (x ∷ l) ≡ onlyIf (not (p && z)) x l
-    one false z l = refl
-    one true true l = refl
-    one true false l = refl
+    pick-only : (p z : Bool) (l : List ℕ) → pick (p && (z || false)) l (x ∷ l) ≡ onlyIf (not (p && z)) x l
+    pick-only false z l = refl
+    pick-only true true l = refl
+    pick-only true false l = refl
 
-guarded : (m : Mode) (x : ℕ) → concerns (unsyncBy m) x ≡ guards m x
+pub guarded : (m : Mode) (x : ℕ) → concerns (unsyncBy m) x ≡ guards m x
 guarded Off x = refl
 guarded Crate x = or-false (eqb x 0)
 guarded Standard x = refl
@@ -40,12 +40,12 @@ unfolding edited unsync
 unsyncs m prev [] = refl
 unsyncs m prev (x ∷ s) =
     ap (λ (g : Bool). pick (prev && g) (0 ∷ x ∷ edited (unsyncBy m) (eqb x 255) s) (x ∷ edited (unsyncBy m) (eqb x 255) s)) (guarded m x)
-    ∙ one (prev && guards m x) (x ∷ edited (unsyncBy m) (eqb x 255) s)
+    ∙ pick-only (prev && guards m x) (x ∷ edited (unsyncBy m) (eqb x 255) s)
     ∙ ap (λ (l : List ℕ). onlyIf (prev && guards m x) 0 (x ∷ l)) (unsyncs m (eqb x 255) s)
   where
-    one : (g : Bool) (l : List ℕ) → pick g (0 ∷ l) l ≡ onlyIf g 0 l
-    one true l = refl
-    one false l = refl
+    pick-only : (g : Bool) (l : List ℕ) → pick g (0 ∷ l) l ≡ onlyIf g 0 l
+    pick-only true l = refl
+    pick-only false l = refl
 
 -- the loop that looks for an FF
 pub any-turn : (s : List ℕ) (i k to : ℕ) (any w : Bool) → i + k < to → to ≤ length s → (any || anyFF (slice (i + k) to s)) ≡ w
@@ -70,14 +70,14 @@ turned-append false g x l m = refl
 module _ (how : How) where
   -- ---- lengths
 
-  pub few : (prev : Bool) (s : List ℕ) → hits how prev s ≤ length s
+  pub hits-at-most : (prev : Bool) (s : List ℕ) → hits how prev s ≤ length s
   unfolding hits
-  few prev [] = omega arith
-  few prev (x ∷ s) = one (prev && concerns how x) (few (eqb x 255) s)
+  hits-at-most prev [] = omega arith
+  hits-at-most prev (x ∷ s) = next-hits (prev && concerns how x) (hits-at-most (eqb x 255) s)
     where
-      one : (g : Bool) → hits how (eqb x 255) s ≤ length s → cond g 1 0 + hits how (eqb x 255) s ≤ suc (length s)
-      one true h = omega arith
-      one false h = omega arith
+      next-hits : (g : Bool) → hits how (eqb x 255) s ≤ length s → cond g 1 0 + hits how (eqb x 255) s ≤ suc (length s)
+      next-hits true h = omega arith
+      next-hits false h = omega arith
 
   -- as many bytes more, or as many less
   Lengths : Bool → Bool → List ℕ → Type 0
@@ -87,14 +87,14 @@ module _ (how : How) where
   unfolding Lengths edited hits
   lengths prev [] = refl
   lengths prev (x ∷ s) =
-      one (how .insert) (prev && concerns how x) (edited how (eqb x 255) s) (length s) (hits how (eqb x 255) s) (lengths (eqb x 255) s)
+      next-length (how .insert) (prev && concerns how x) (edited how (eqb x 255) s) (length s) (hits how (eqb x 255) s) (lengths (eqb x 255) s)
     where
-      one : (i g : Bool) (l : List ℕ) (n h : ℕ) → length l + pick i 0 h ≡ n + pick i h 0
+      next-length : (i g : Bool) (l : List ℕ) (n h : ℕ) → length l + pick i 0 h ≡ n + pick i h 0
           → length (pick g (pick i (0 ∷ x ∷ l) l) (x ∷ l)) + pick i 0 (cond g 1 0 + h) ≡ suc n + pick i (cond g 1 0 + h) 0
-      one true true l n h e = omega arith
-      one true false l n h e = omega arith
-      one false true l n h e = omega arith
-      one false false l n h e = omega arith
+      next-length true true l n h e = omega arith
+      next-length true false l n h e = omega arith
+      next-length false true l n h e = omega arith
+      next-length false false l n h e = omega arith
 
   pub longer : how .insert ≡ true → (prev : Bool) (s : List ℕ) → length (edited how prev s) ≡ length s + hits how prev s
   unfolding Lengths
@@ -103,6 +103,14 @@ module _ (how : How) where
   pub shorter : how .insert ≡ false → (prev : Bool) (s : List ℕ) → length (edited how prev s) + hits how prev s ≡ length s
   unfolding Lengths
   shorter i prev s = omega (arith, subst (λ (b : Bool). Lengths b prev s) i (lengths prev s))
+
+  -- one byte before others: f says that the edit concerns it, g that it inserts
+  pub edited-next : (prev : Bool) (x : ℕ) (l : List ℕ) (f g : Bool) → f ≡ (prev && concerns how x) → how .insert ≡ g
+      → edited how prev (x ∷ l) ≡ turned f g x (edited how (eqb x 255) l)
+  unfolding edited
+  edited-next prev x l f g e h =
+      ap (λ (f′ : Bool). turned f′ (how .insert) x (edited how (eqb x 255) l)) (sym e)
+      ∙ ap (λ (g′ : Bool). turned f g′ x (edited how (eqb x 255) l)) h
 
   -- ---- place by place
 
@@ -120,49 +128,55 @@ module _ (how : How) where
       unfolding hits
       hits-end = ap (hits how (eqb (getD s i 0) 255)) nothing
 
-    -- the first byte stays as it is
-    module _ (from to : ℕ) (lt : from < to) (le : to ≤ length s) where
-      pub edited-first : edited how false (slice from to s) ≡ getD s from 0 ∷ editedAfter how s from to
-      unfolding edited
-      edited-first = ap (edited how false) (slice-next from to s lt le)
+    pub few-after : (from to : ℕ) → from < to → to ≤ length s → from + 1 + hitsAfter how s from to ≤ to
+    few-after from to lt le = omega (arith, hits-at-most (eqb (getD s from 0) 255) (slice (from + 1) to s), length-slice (from + 1) to s le)
 
-      hits-first : hits how false (slice from to s) ≡ hitsAfter how s from to
-      unfolding hits
-      hits-first = ap (hits how false) (slice-next from to s lt le) ∙ omega arith
+    -- the first byte, then the bytes behind it
+    module _ (prev : Bool) (from to : ℕ) (lt : from < to) (le : to ≤ length s) where
+      -- f says that the edit concerns the first
+      module _ (f : Bool) (e : f ≡ (prev && concerns how (getD s from 0))) where
+        -- it gets a 00 before it, or stays
+        pub edited-first : (prev ≡ true → how .insert ≡ true)
+            → edited how prev (slice from to s) ≡ pick f (0 ∷ getD s from 0 ∷ editedAfter how s from to) (getD s from 0 ∷ editedAfter how s from to)
+        edited-first inserts = ap (edited how prev) (slice-next from to s lt le) ∙ cases f e
+          where
+            cases : (f : Bool) → f ≡ (prev && concerns how (getD s from 0))
+                → edited how prev (getD s from 0 ∷ slice (from + 1) to s)
+                ≡ pick f (0 ∷ getD s from 0 ∷ editedAfter how s from to) (getD s from 0 ∷ editedAfter how s from to)
+            cases true e = edited-next prev (getD s from 0) (slice (from + 1) to s) true true e (inserts (and-true prev _ (sym e) .0))
+            cases false e = edited-next prev (getD s from 0) (slice (from + 1) to s) false (how .insert) e refl
 
-      pub few-after : from + 1 + hitsAfter how s from to ≤ to
-      few-after = omega (arith, few (eqb (getD s from 0) 255) (slice (from + 1) to s), length-slice (from + 1) to s le)
+        hits-first : hits how prev (slice from to s) ≡ cond f 1 0 + hitsAfter how s from to
+        unfolding hits
+        hits-first = ap (hits how prev) (slice-next from to s lt le) ∙ ap (λ (g : Bool). cond g 1 0 + hitsAfter how s from to) (sym e)
 
-      pub length-longer : how .insert ≡ true → to - from + hitsAfter how s from to ≡ length (edited how false (slice from to s))
-      length-longer h = omega (arith, longer h false (slice from to s), hits-first, length-slice from to s le)
+        pub hits-few : cond f 1 0 + hitsAfter how s from to ≤ to - from
+        hits-few = omega (arith, hits-at-most prev (slice from to s), hits-first, length-slice from to s le)
 
-      pub length-shorter : how .insert ≡ false → to - from - hitsAfter how s from to ≡ length (edited how false (slice from to s))
-      length-shorter h = omega (arith, shorter h false (slice from to s), hits-first, length-slice from to s le)
+        pub length-longer : how .insert ≡ true → to - from + (cond f 1 0 + hitsAfter how s from to) ≡ length (edited how prev (slice from to s))
+        length-longer h = omega (arith, longer h prev (slice from to s), hits-first, length-slice from to s le)
 
-      pub length-most : (g : Bool) → how .insert ≡ g → length (edited how false (slice from to s)) ≤ pick g (to - from + (to - from) - 1) (to - from)
-      length-most true h = omega (arith, length-longer h, few-after)
-      length-most false h = omega (arith, length-shorter h)
+        pub length-shorter : how .insert ≡ false → to - from - (cond f 1 0 + hitsAfter how s from to) ≡ length (edited how prev (slice from to s))
+        length-shorter h = omega (arith, shorter h prev (slice from to s), hits-first, length-slice from to s le)
+
+      pub length-most : (g : Bool) → how .insert ≡ g → length (edited how prev (slice from to s)) ≤ pick g (to - from + (to - from)) (to - from)
+      length-most true h = omega (arith, longer h prev (slice from to s), hits-at-most prev (slice from to s), length-slice from to s le)
+      length-most false h = omega (arith, shorter h prev (slice from to s), length-slice from to s le)
 
     -- one place further: f says that the edit concerns the byte there
     module _ (i to : ℕ) (lt : i + 1 < to) (le : to ≤ length s) where
-      edited-next : editedAfter how s i to
-          ≡ turned (eqb (getD s i 0) 255 && concerns how (getD s (i + 1) 0)) (how .insert) (getD s (i + 1) 0) (editedAfter how s (i + 1) to)
-      unfolding edited
-      edited-next = ap (edited how (eqb (getD s i 0) 255)) (slice-next (i + 1) to s lt le)
-
       module _ (f : Bool) (e : f ≡ (eqb (getD s i 0) 255 && concerns how (getD s (i + 1) 0))) where
-        told : (g : Bool) → how .insert ≡ g → editedAfter how s i to ≡ turned f g (getD s (i + 1) 0) (editedAfter how s (i + 1) to)
-        told g h =
-            edited-next
-            ∙ ap (λ (f′ : Bool). turned f′ (how .insert) (getD s (i + 1) 0) (editedAfter how s (i + 1) to)) (sym e)
-            ∙ ap (λ (g′ : Bool). turned f g′ (getD s (i + 1) 0) (editedAfter how s (i + 1) to)) h
+        further : (g : Bool) → how .insert ≡ g → editedAfter how s i to ≡ turned f g (getD s (i + 1) 0) (editedAfter how s (i + 1) to)
+        further g h =
+            ap (edited how (eqb (getD s i 0) 255)) (slice-next (i + 1) to s lt le)
+            ∙ edited-next (eqb (getD s i 0) 255) (getD s (i + 1) 0) (slice (i + 1 + 1) to s) f g e h
 
         pub goes : how .insert ≡ false → editedAfter how s i to ≡ pick f (editedAfter how s (i + 1) to) (getD s (i + 1) 0 ∷ editedAfter how s (i + 1) to)
-        goes h = told false h
+        goes h = further false h
 
         pub comes : how .insert ≡ true
             → editedAfter how s i to ≡ pick f (0 ∷ getD s (i + 1) 0 ∷ editedAfter how s (i + 1) to) (getD s (i + 1) 0 ∷ editedAfter how s (i + 1) to)
-        comes h = told true h
+        comes h = further true h
 
         pub counts : hitsAfter how s i to ≡ cond f 1 0 + hitsAfter how s (i + 1) to
         unfolding hits
@@ -177,10 +191,10 @@ module _ (how : How) where
     parted (suc n) i m to e lt le =
         let f : Bool = eqb (getD s i 0) 255 && concerns how (getD s (i + 1) 0) in
         let x : ℕ = getD s (i + 1) 0 in
-        edited-next i to (omega arith) le
+        further i to (omega arith) le f refl (how .insert) refl
         ∙ ap (turned f (how .insert) x) (parted n (i + 1) m to (omega arith) lt le)
         ∙ turned-append f (how .insert) x (editedAfter how s (i + 1) (m + 1)) (editedAfter how s m to)
-        ∙ ap (λ (l : List ℕ). l ++ editedAfter how s m to) (sym (edited-next i (m + 1) (omega arith) (omega arith)))
+        ∙ ap (λ (l : List ℕ). l ++ editedAfter how s m to) (sym (further i (m + 1) (omega arith) (omega arith) f refl (how .insert) refl))
 
     pub hits-parted : (n i m to : ℕ) → m ≡ i + n → m < to → to ≤ length s → hitsAfter how s i to ≡ hitsAfter how s i (m + 1) + hitsAfter how s m to
     hits-parted zero i m to e lt le =
@@ -203,12 +217,12 @@ module _ (how : How) where
   unhit : (prev : Bool) (s : List ℕ) → hits how prev s ≡ 0 → edited how prev s ≡ s
   unfolding edited hits
   unhit prev [] h = refl
-  unhit prev (x ∷ s) h = one (prev && concerns how x) (unhit (eqb x 255) s) h
+  unhit prev (x ∷ s) h = next-unhit (prev && concerns how x) (unhit (eqb x 255) s) h
     where
-      one : (g : Bool) → (hits how (eqb x 255) s ≡ 0 → edited how (eqb x 255) s ≡ s) → cond g 1 0 + hits how (eqb x 255) s ≡ 0
+      next-unhit : (g : Bool) → (hits how (eqb x 255) s ≡ 0 → edited how (eqb x 255) s ≡ s) → cond g 1 0 + hits how (eqb x 255) s ≡ 0
           → turned g (how .insert) x (edited how (eqb x 255) s) ≡ x ∷ s
-      one true e z = absurd (omega arith)
-      one false e z = ap (λ (l : List ℕ). x ∷ l) (e (omega arith))
+      next-unhit true e z = absurd (omega arith)
+      next-unhit false e z = ap (λ (l : List ℕ). x ∷ l) (e (omega arith))
 
   pub left-alone : (s : List ℕ) (i to : ℕ) → hitsAfter how s i to ≡ 0 → editedAfter how s i to ≡ slice (i + 1) to s
   left-alone s i to h = unhit (eqb (getD s i 0) 255) (slice (i + 1) to s) h
@@ -247,12 +261,12 @@ module _ (s : List ℕ) (i to : ℕ) (lt : i + 1 < to) (le : to ≤ length s) (f
       let l : List ℕ = editedAfter resyncBy s (i + 1) to in
       let g : Bool = eqb (getD s i 0) 255 && eqb x 0 in
       goes resyncBy s i to lt le g (ap (λ (z : Bool). eqb (getD s i 0) 255 && z) (sym (or-false (eqb x 0)))) refl
-      ∙ other g l (x ∷ l)
+      ∙ pick-not g l (x ∷ l)
       ∙ ap (λ (k : Bool). pick k (x ∷ l) l) (sym e)
     where
-      other : (g : Bool) (l m : List ℕ) → pick g l m ≡ pick (not g) m l
-      other true l m = refl
-      other false l m = refl
+      pick-not : (g : Bool) (l m : List ℕ) → pick g l m ≡ pick (not g) m l
+      pick-not true l m = refl
+      pick-not false l m = refl
 
 -- where a byte goes, the next one stays
 pub next-stays : (s : List ℕ) (i to : ℕ) → i + 2 < to → to ≤ length s → not (eqb (getD s i 0) 255 && eqb (getD s (i + 1) 0) 0) ≡ false
@@ -270,35 +284,38 @@ guardBy top = record { insert = true; zero = true; high = ltb top 0xFF }
 pub above : (high : Bool) (top : ℕ) → top ≡ pick high 0xDF 0xFF → (x : ℕ) → x ≤ 255 → (eqb x 0 || ltb top x) ≡ concerns (guardBy top) x
 above high top t x b =
     ap (λ (k : ℕ). eqb x 0 || ltb k x) t
-    ∙ one high
+    ∙ each-top high
     ∙ ap (λ (k : ℕ). eqb x 0 || (ltb k 0xFF && leb 0xE0 x)) (sym t)
   where
-    one : (h : Bool) → (eqb x 0 || ltb (pick h 0xDF 0xFF) x) ≡ (eqb x 0 || (ltb (pick h 0xDF 0xFF) 0xFF && leb 0xE0 x))
-    one true = refl
-    one false = ap (λ (g : Bool). eqb x 0 || g) (le-ltb _ _ b)
+    each-top : (h : Bool) → (eqb x 0 || ltb (pick h 0xDF 0xFF) x) ≡ (eqb x 0 || (ltb (pick h 0xDF 0xFF) 0xFF && leb 0xE0 x))
+    each-top true = refl
+    each-top false = ap (λ (g : Bool). eqb x 0 || g) (le-ltb _ _ b)
 
 -- an edit that inserts, before 00 too, is one of these
 pub guards-by : (how : How) (top : ℕ) → how .insert ≡ true → how .zero ≡ true → top ≡ pick (how .high) 0xDF 0xFF → how ≡ guardBy top
 guards-by how top i z t =
-    let h : how .high ≡ ltb top 0xFF = one (how .high) ∙ ap (λ (k : ℕ). ltb k 0xFF) (sym t) in
+    let h : how .high ≡ ltb top 0xFF = high-by-top (how .high) ∙ ap (λ (k : ℕ). ltb k 0xFF) (sym t) in
     λ j. record { insert = i j; zero = z j; high = h j }
   where
-    one : (h : Bool) → h ≡ ltb (pick h 0xDF 0xFF) 0xFF
-    one true = refl
-    one false = refl
+    high-by-top : (h : Bool) → h ≡ ltb (pick h 0xDF 0xFF) 0xFF
+    high-by-top true = refl
+    high-by-top false = refl
 
 -- an edit that concerns no byte leaves all as they are
 module _ (how : How) (z : how .zero ≡ false) (h : how .high ≡ false) where
-  none : (prev : Bool) (l : List ℕ) → hits how prev l ≡ 0
+  no-hits : (prev : Bool) (l : List ℕ) → hits how prev l ≡ 0
   unfolding hits
-  none prev [] = refl
-  none prev (x ∷ l) =
+  no-hits prev [] = refl
+  no-hits prev (x ∷ l) =
       ap {B = ℕ} (λ (g : Bool). cond (prev && ((g && eqb x 0) || (how .high && leb 0xE0 x))) 1 0 + hits how (eqb x 255) l) z
       ∙ ap {B = ℕ} (λ (g : Bool). cond (prev && (g && leb 0xE0 x)) 1 0 + hits how (eqb x 255) l) h
-      ∙ omega (arith, ap {B = ℕ} (λ (g : Bool). cond g 1 0) (and-false prev), none (eqb x 255) l)
+      ∙ omega (arith, ap {B = ℕ} (λ (g : Bool). cond g 1 0) (and-false prev), no-hits (eqb x 255) l)
+
+  pub none-after : (s : List ℕ) (i to : ℕ) → hitsAfter how s i to ≡ 0
+  none-after s i to = no-hits (eqb (getD s i 0) 255) (slice (i + 1) to s)
 
   pub unchanged : (s : List ℕ) (i to : ℕ) → editedAfter how s i to ≡ slice (i + 1) to s
-  unchanged s i to = left-alone how s i to (none (eqb (getD s i 0) 255) (slice (i + 1) to s))
+  unchanged s i to = left-alone how s i to (none-after s i to)
 
 -- the edits that there are
 pub known-resync : (how : How) → how ≡ resyncBy → Known how

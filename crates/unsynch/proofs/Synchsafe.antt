@@ -40,13 +40,13 @@ module _ (j k hi lo : ℕ) (fits : hi < 2 ^ j) (below : lo < 2 ^ k) where
 spread : (a b c d : ℕ) → a < 128 → b < 128 → c < 128 → d < 128
     → widened 8 23 (widened 16 15 (widened 24 7 (((a * 128 + b) * 128 + c) * 128 + d))) ≡ ((a * 256 + b) * 256 + c) * 256 + d
 spread a b c d ha hb hc hd =
-    let one : widened 24 7 (((a * 128 + b) * 128 + c) * 128 + d) ≡ (a * 128 + b) * 2 ^ 15 + (c * 256 + d) =
+    let first-mask : widened 24 7 (((a * 128 + b) * 128 + c) * 128 + d) ≡ (a * 128 + b) * 2 ^ 15 + (c * 256 + d) =
     widen 24 7 ((a * 128 + b) * 128 + c) d (omega arith) (omega arith) ∙ omega arith in
-    let two : widened 16 15 ((a * 128 + b) * 2 ^ 15 + (c * 256 + d)) ≡ a * 2 ^ 23 + (b * 2 ^ 16 + c * 256 + d) =
+    let second-mask : widened 16 15 ((a * 128 + b) * 2 ^ 15 + (c * 256 + d)) ≡ a * 2 ^ 23 + (b * 2 ^ 16 + c * 256 + d) =
     widen 16 15 (a * 128 + b) (c * 256 + d) (omega arith) (omega arith) ∙ omega arith in
-    let three : widened 8 23 (a * 2 ^ 23 + (b * 2 ^ 16 + c * 256 + d)) ≡ ((a * 256 + b) * 256 + c) * 256 + d =
+    let third-mask : widened 8 23 (a * 2 ^ 23 + (b * 2 ^ 16 + c * 256 + d)) ≡ ((a * 256 + b) * 256 + c) * 256 + d =
     widen 8 23 a (b * 2 ^ 16 + c * 256 + d) (omega arith) (omega arith) ∙ omega arith in
-    ap (λ (x : ℕ). widened 8 23 (widened 16 15 x)) one ∙ ap (widened 8 23) two ∙ three
+    ap (λ (x : ℕ). widened 8 23 (widened 16 15 x)) first-mask ∙ ap (widened 8 23) second-mask ∙ third-mask
 
 pub encoded : (n : ℕ) → n < 2 ^ 28 → widened 8 23 (widened 16 15 (widened 24 7 n)) ≡ number (synchsafe n)
 unfolding digits onto

@@ -1,17 +1,17 @@
 -- One turn of the loops that store: x is the byte, behind which l is left. Assumes nothing.
 use mathlib.Core.Path.{_≡_, refl, sym, ap, _∙_}
 use Prim.Native.Nat.{ℕ, suc, _+_, _-_, _≤_, _<_}
-use native.Mathlib.Numerals.{add-one}
 use native.Mathlib.Omega.{arith}
 use mathlib.Core.Bool.{Bool, true, false, cond}
-use mathlib.Core.List.{List, [], _∷_}
-use lib.ListN.{length, take, set, length-set, length-append}
+use mathlib.Core.List.{List, _∷_}
+use lib.ListN.{length, getD, take, set, length-set, length-append}
 use lib.Seq.{slice, length-slice, sets, set-set}
-use Rattle.lists.proofs.Stores.{take-sets, Storing, lies, same-list, same-buffer, same-place, put, puts, over}
+use Rattle.lists.proofs.Bools.{false-not-true}
+use Rattle.lists.proofs.Stores.{take-sets, Storing, begin, lies, same-list, same-buffer, same-place, put, puts, over}
 use Rattle.format.specs.Bytes.{pick}
 use Rattle.unsynch.specs.declared.loops.How.{How}
-use Rattle.unsynch.specs.Edits.{editedAfter, hitsAfter, stored}
-use Rattle.unsynch.proofs.Edits.{parted, left-alone, same-front}
+use Rattle.unsynch.specs.Edits.{edited, editedAfter, hitsAfter, stored}
+use Rattle.unsynch.proofs.Edits.{edited-first, parted, left-alone, same-front}
 
 -- a byte that lies where the next one will be stored does not matter
 under : {o₀ : List ℕ} {p₀ : ℕ} {l₀ o : List ℕ} {p y : ℕ} {l : List ℕ} (x : ℕ) → Storing o₀ p₀ l₀ o p (y ∷ l) → Storing o₀ p₀ l₀ (set o p x) p (y ∷ l)
@@ -83,10 +83,9 @@ module _ (how : How) (s : List ℕ) (i n to : ℕ) (lt : i + n < to) (le : to �
       let u = piece how s i (i + n) to (omega arith) lt le t in
       (omega (arith, u .0, ap length same, length-slice (i + 1) (i + n + 1) s (omega arith)), λ r o′ g. u .1 r o′ (g ∙ sym (ap (λ (l : List ℕ). stored l p o) same)) .1)
 
--- a byte, and behind it what is left
-pub stored-first : (x at : ℕ) (l u o : List ℕ) → u ≡ x ∷ l → stored l (at + 1) (set o at x) ≡ stored u at o
-stored-first x at l u o e =
-    let f : at + 1 + length l ≡ at + suc (length l) = omega arith in
-    ap {B = ℕ × List ℕ} (λ (k : ℕ). (at + 1 + length l, sets (set o at x) k l)) (add-one at)
-    ∙ ap {B = ℕ × List ℕ} (λ (k : ℕ). (k, sets (set o at x) (suc at) l)) f
-    ∙ ap (λ (m : List ℕ). stored m at o) (sym e)
+-- the first byte stays as it is, where the byte before it was not FF
+pub first-stored : (how : How) (s : List ℕ) (from to at : ℕ) (o : List ℕ) → from < to → to ≤ length s → at + length (edited how false (slice from to s)) ≤ length o
+    → (at < length o) × Storing o at (edited how false (slice from to s)) (set o at (getD s from 0)) (at + 1) (editedAfter how s from to)
+first-stored how s from to at o lt le room =
+    let t = same-list (edited-first how s false from to lt le false refl (λ e. absurd (false-not-true e))) (begin o at (edited how false (slice from to s)) room) in
+    (omega (arith, lies t), put t)

@@ -15,7 +15,7 @@ pub(crate) fn any_ff(s: &[u8], i: usize, n: usize) -> bool
     let mut any = false;
     let mut k: usize = 0;
     while k < n {
-        any = any | (s[i + k] == 255);
+        any = any | (s[i + k] == 0xFF);
         k += 1;
     }
     any
@@ -29,7 +29,7 @@ fn count(s: &[u8], i: usize, how: How) -> u8
     let mut n: u8 = 0;
     let mut k: usize = 0;
     while k < 64 {
-        n += loops::hit(how, s[i + k], s[i + k + 1]) as u8;
+        n += loops::hit(how, s[i + k] == 0xFF, s[i + k + 1]) as u8;
         k += 1;
     }
     n

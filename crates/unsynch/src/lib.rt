@@ -6,15 +6,16 @@ use format::Mode;
 use format::refusals::NO_ROOM;
 use format::refusals::TOO_LONG;
 use format::refusals::WORK_TOO_SMALL;
+use format::small::least;
 use loops::How;
 ghost use mathlib.Core.Path.{_≡_};
 ghost use lib.ListN.{length};
 ghost use lib.Seq.{slice};
 ghost use Rattle.format.specs.Numbers.{bytesOf, fromSynchsafe};
-ghost use Rattle.format.specs.Unsynch.{resynchronised, unsynchronised};
+ghost use Rattle.format.specs.Unsynch.{resynchronised, guards, unsync};
 ghost use Rattle.unsynch.specs.Puts.{encodedOf, putOf, intoOf, inAreaOf, placedOf};
 ghost use Rattle.unsynch.specs.Edits.{Known, edited};
-ghost use mathlib.Core.Bool.{false};
+ghost use mathlib.Core.Bool.{true, _&&_};
 
 // A synchsafe number as one word, or a refusal.
 pub enum Encoded {
@@ -48,32 +49,54 @@ pub fn decode_u32(n: u32) -> u32
     ((n & 0xFF00_0000) >> 3) | ((n & 0xFF_0000) >> 2) | ((n & 0xFF00) >> 1) | n & 0xFF
 }
 
-// How many bytes s[from..to] has when it is resynchronised.
-pub fn resync_len(s: &[u8], from: usize, to: usize) -> usize
-    ensures { λ r. ⌜ r ≡ length (resynchronised (slice from to (now (s .entry)))) ⌝ }
+// Whether a 00 goes in before b; prev says that the byte before it was FF.
+pub fn is_guarded(mode: Mode, prev: bool, b: u8) -> bool
+    ensures { λ r. ⌜ r ≡ (prev && guards mode b) ⌝ }
 {
-    part_len(s, from, to, loops::resync_by())
+    loops::hit(loops::unsync_by(mode), prev, b)
 }
 
-// How many bytes s[from..to] has when it is unsynchronised.
-pub fn unsync_len(s: &[u8], from: usize, to: usize, mode: Mode) -> usize
-    ensures { λ r. ⌜ r ≡ length (unsynchronised mode (slice from to (now (s .entry)))) ⌝ }
+// How many bytes s[from..to] has when it is unsynchronised; prev says that the byte before it was FF.
+pub fn unsync_len(s: &[u8], from: usize, to: usize, prev: bool, mode: Mode) -> usize
+    ensures { λ r. ⌜ r ≡ length (unsync (guards mode) prev (slice from to (now (s .entry)))) ⌝ }
 {
-    part_len(s, from, to, loops::unsync_by(mode))
+    let how = loops::unsync_by(mode);
+    let end = least(to, s.len());
+    if end <= from {
+        return 0;
+    }
+    loops::edited_len(s, from, end, prev, how)
 }
 
 // Resynchronises s[from..to] to the front of a room. One that is too small is left as it was.
 pub fn resync_into(room: &mut [u8], s: &[u8], from: usize, to: usize) -> Put
     ensures { λ r. ⌜ (r, now (room .exit)) ≡ intoOf (resynchronised (slice from to (now (s .entry)))) (now (room .entry)) ⌝ }
 {
-    put_part(room, 0, s, from, to, loops::resync_by(), WORK_TOO_SMALL)
+    put_part(
+        room,
+        0,
+        s,
+        from,
+        to,
+        false,
+        loops::resync_by(),
+        WORK_TOO_SMALL,
+    )
 }
 
-// Unsynchronises s[from..to] to the place `at` of a buffer. One that is too small is left as it was.
-pub fn unsync_into(out: &mut [u8], at: usize, s: &[u8], from: usize, to: usize, mode: Mode) -> Put
-    ensures { λ r. ⌜ (r, now (out .exit)) ≡ placedOf (unsynchronised mode (slice from to (now (s .entry)))) at (now (out .entry)) ⌝ }
+// Unsynchronises s[from..to] to the place `at` of a buffer; prev says that the byte before it was FF. A buffer that is too small is left as it was.
+pub fn unsync_into(
+    out: &mut [u8],
+    at: usize,
+    s: &[u8],
+    from: usize,
+    to: usize,
+    prev: bool,
+    mode: Mode,
+) -> Put
+    ensures { λ r. ⌜ (r, now (out .exit)) ≡ placedOf (unsync (guards mode) prev (slice from to (now (s .entry)))) at (now (out .entry)) ⌝ }
 {
-    put_part(out, at, s, from, to, loops::unsync_by(mode), NO_ROOM)
+    put_part(out, at, s, from, to, prev, loops::unsync_by(mode), NO_ROOM)
 }
 
 // Resynchronises area[from..to], of what lies before split, to the front of what lies from split on.
@@ -81,43 +104,42 @@ pub fn unsync_into(out: &mut [u8], at: usize, s: &[u8], from: usize, to: usize, 
 pub fn resync_in(area: &mut [u8], from: usize, to: usize, split: usize) -> Put
     ensures { λ r. ⌜ (r, now (area .exit)) ≡ inAreaOf from to split (now (area .entry)) ⌝ }
 {
-    let mid = loops::least(split, area.len());
-    let end = loops::least(to, mid);
+    let mid = least(split, area.len());
+    let end = least(to, mid);
     if end <= from {
         return Put::Bytes(0);
     }
     let how = loops::resync_by();
-    if loops::fits(&area[..], from, end, how, area.len() - mid) {
+    if loops::fits(&area[..], from, end, false, how, area.len() - mid) {
         return Put::Bytes(loops::edit_in(area, mid, from, end, how) - mid);
     }
     Put::Refused(WORK_TOO_SMALL)
 }
 
-// How many bytes s[from..to] has after the edit.
-fn part_len(s: &[u8], from: usize, to: usize, how: How) -> usize
-    ensures { λ r. ⌜ r ≡ length (edited how false (slice from to (now (s .entry)))) ⌝ }
-{
-    let end = loops::least(to, s.len());
-    if end <= from {
-        return 0;
-    }
-    loops::edited_len(s, from, end, how)
-}
-
-// Puts s[from..to], edited, at the place `at` of a buffer. One that is too small is left as it was, and the answer is the refusal k.
-fn put_part(buf: &mut [u8], at: usize, s: &[u8], from: usize, to: usize, how: How, k: u8) -> Put
-    requires { ⌜ Known how ⌝ }
-    ensures { λ r. ⌜ (r, now (buf .exit)) ≡ putOf k (edited how false (slice from to (now (s .entry)))) at (now (buf .entry)) ⌝ }
+// Puts s[from..to], edited, at the place `at` of a buffer; prev says that the byte before it was FF, which only an edit that inserts is asked.
+// A buffer that is too small is left as it was, and the answer is the refusal k.
+fn put_part(
+    buf: &mut [u8],
+    at: usize,
+    s: &[u8],
+    from: usize,
+    to: usize,
+    prev: bool,
+    how: How,
+    k: u8,
+) -> Put
+    requires { ⌜ Known how × (prev ≡ true → how .insert ≡ true) ⌝ }
+    ensures { λ r. ⌜ (r, now (buf .exit)) ≡ putOf k (edited how prev (slice from to (now (s .entry)))) at (now (buf .entry)) ⌝ }
 {
     if buf.len() < at {
         return Put::Refused(k);
     }
-    let end = loops::least(to, s.len());
+    let end = least(to, s.len());
     if end <= from {
         return Put::Bytes(0);
     }
-    if loops::fits(s, from, end, how, buf.len() - at) {
-        return Put::Bytes(loops::edit(buf, at, s, from, end, how) - at);
+    if loops::fits(s, from, end, prev, how, buf.len() - at) {
+        return Put::Bytes(loops::edit(buf, at, s, from, end, prev, how) - at);
     }
     Put::Refused(k)
 }

@@ -1,9 +1,10 @@
 // The loops behind resynchronising and unsynchronising: both are one edit of the bytes directly after an FF.
 use crate::blocks;
 use format::Mode;
+use format::small::least;
 ghost use mathlib.Core.Path.{_≡_};
 ghost use mathlib.Core.Bool.{Bool, true, false, cond, not, _&&_, _||_};
-ghost use Prim.Native.Nat.{_+_, _-_, _*_, _^_, _≤_, _<_, min};
+ghost use Prim.Native.Nat.{_+_, _-_, _*_, _^_, _≤_, _<_};
 ghost use lib.ListN.{length, take, getD};
 ghost use lib.Seq.{slice, sets};
 ghost use lib.Dec.{eqb, leb, ltb};
@@ -52,13 +53,6 @@ pub(crate) fn unsync_by(mode: Mode) -> How
     }
 }
 
-// The smaller number.
-pub(crate) fn least(a: usize, b: usize) -> usize
-    ensures { λ r. ⌜ r ≡ min a b ⌝ }
-{
-    if a < b { a } else { b }
-}
-
 // 1 for true, 0 for false.
 fn bit(x: bool) -> usize
     ensures { λ r. ⌜ (r ≡ cond x 1 0) × (r ≤ 1) ⌝ }
@@ -73,32 +67,35 @@ fn either(x: bool, a: u8, b: u8) -> u8
     if x { a } else { b }
 }
 
-// Whether the edit concerns b directly after the byte last.
-pub(crate) fn hit(how: How, last: u8, b: u8) -> bool
-    ensures { λ r. ⌜ r ≡ (eqb last 255 && concerns how b) ⌝ }
+// Whether the edit concerns b; prev says that the byte before it was FF.
+pub(crate) fn hit(how: How, prev: bool, b: u8) -> bool
+    ensures { λ r. ⌜ r ≡ (prev && concerns how b) ⌝ }
 {
-    (last == 255) & ((how.zero & (b == 0)) | (how.high & (b >= 0xE0)))
+    prev & ((how.zero & (b == 0)) | (how.high & (b >= 0xE0)))
 }
 
 // Whether b stays when it is resynchronised directly after the byte last.
 fn stays(last: u8, b: u8) -> bool
     ensures { λ r. ⌜ r ≡ not (eqb last 255 && eqb b 0) ⌝ }
 {
-    !((last == 255) & (b == 0))
+    !((last == 0xFF) & (b == 0))
 }
 
 // Whether b gets a 00 before it directly after the byte last: after FF, where it is 00 or above top.
 fn guarded(last: u8, b: u8, top: u8) -> bool
     ensures { λ r. ⌜ r ≡ (eqb last 255 && (eqb b 0 || ltb top b)) ⌝ }
 {
-    (last == 255) & ((b == 0) | (b > top))
+    (last == 0xFF) & ((b == 0) | (b > top))
 }
 
-// How many bytes of s behind place from, up to place to, the edit concerns.
+// How many bytes of s behind place from, up to place to, the edit concerns. One that concerns no byte looks at none.
 fn hits_after(s: &[u8], from: usize, to: usize, how: How) -> usize
     requires { ⌜ (from < to) × (to ≤ length (now s)) ⌝ }
     ensures { λ r. ⌜ r ≡ hitsAfter how (now (s .entry)) from to ⌝ }
 {
+    if !(how.zero | how.high) {
+        return 0;
+    }
     let mut n: usize = 0;
     let mut i = from;
     while i + 64 < to {
@@ -116,18 +113,18 @@ fn hits_by_byte(s: &[u8], from: usize, to: usize, how: How) -> usize
     let mut n: usize = 0;
     let mut k = from;
     while k + 1 < to {
-        n += bit(hit(how, s[k], s[k + 1]));
+        n += bit(hit(how, s[k] == 0xFF, s[k + 1]));
         k += 1;
     }
     n
 }
 
-// How many bytes s[from..to] has after the edit.
-pub(crate) fn edited_len(s: &[u8], from: usize, to: usize, how: How) -> usize
+// How many bytes s[from..to] has after the edit; prev says that the byte before them was FF.
+pub(crate) fn edited_len(s: &[u8], from: usize, to: usize, prev: bool, how: How) -> usize
     requires { ⌜ (from < to) × (to ≤ length (now s)) ⌝ }
-    ensures { λ r. ⌜ r ≡ length (edited how false (slice from to (now (s .entry)))) ⌝ }
+    ensures { λ r. ⌜ r ≡ length (edited how prev (slice from to (now (s .entry)))) ⌝ }
 {
-    let n = hits_after(s, from, to, how);
+    let n = bit(hit(how, prev, s[from])) + hits_after(s, from, to, how);
     if how.insert {
         to - from + n
     } else {
@@ -136,22 +133,22 @@ pub(crate) fn edited_len(s: &[u8], from: usize, to: usize, how: How) -> usize
 }
 
 // Whether s[from..to] has at most `room` bytes after the edit. They are counted only where it depends on them.
-pub(crate) fn fits(s: &[u8], from: usize, to: usize, how: How, room: usize) -> bool
+pub(crate) fn fits(s: &[u8], from: usize, to: usize, prev: bool, how: How, room: usize) -> bool
     requires { ⌜ (from < to) × (to ≤ length (now s)) ⌝ }
-    ensures { λ r. ⌜ r ≡ leb (length (edited how false (slice from to (now (s .entry))))) room ⌝ }
+    ensures { λ r. ⌜ r ≡ leb (length (edited how prev (slice from to (now (s .entry))))) room ⌝ }
 {
     if most(to - from, how) <= room {
         return true;
     }
-    edited_len(s, from, to, how) <= room
+    edited_len(s, from, to, prev, how) <= room
 }
 
-// How many bytes n bytes, at least one, have at most after the edit.
+// How many bytes n bytes have at most after the edit.
 fn most(n: usize, how: How) -> usize
-    requires { ⌜ (1 ≤ n) × (n < 2 ^ 63) ⌝ }
-    ensures { λ r. ⌜ r ≡ pick (how .insert) (n + n - 1) n ⌝ }
+    requires { ⌜ n < 2 ^ 63 ⌝ }
+    ensures { λ r. ⌜ r ≡ pick (how .insert) (n + n) n ⌝ }
 {
-    if how.insert { n + n - 1 } else { n }
+    if how.insert { n + n } else { n }
 }
 
 // Stores what resynchronising makes of the bytes of s behind place from, up to place to. Each turn stores: where a byte goes,
@@ -273,15 +270,31 @@ fn edit_by_byte(buf: &mut [u8], at: usize, s: &[u8], from: usize, to: usize, how
     drop_words(buf, at, s, from, to)
 }
 
-// Stores s[from..to], edited, from `at` on. The answer is the place behind what is stored.
-pub(crate) fn edit(buf: &mut [u8], at: usize, s: &[u8], from: usize, to: usize, how: How) -> usize
+// Stores s[from..to], edited, from `at` on; prev says that the byte before them was FF, which only an edit that inserts is asked.
+// The answer is the place behind what is stored. An edit that concerns no byte is one copy.
+pub(crate) fn edit(
+    buf: &mut [u8],
+    at: usize,
+    s: &[u8],
+    from: usize,
+    to: usize,
+    prev: bool,
+    how: How,
+) -> usize
     requires { ⌜ (from < to) × (to ≤ length (now s)) ⌝ }
-    requires { ⌜ at + length (edited how false (slice from to (now s))) ≤ length (now buf) ⌝ }
-    requires { ⌜ Known how ⌝ }
-    ensures { λ r. ⌜ (r, now (buf .exit)) ≡ stored (edited how false (slice from to (now (s .entry)))) at (now (buf .entry)) ⌝ }
+    requires { ⌜ at + length (edited how prev (slice from to (now s))) ≤ length (now buf) ⌝ }
+    requires { ⌜ Known how × (prev ≡ true → how .insert ≡ true) ⌝ }
+    ensures { λ r. ⌜ (r, now (buf .exit)) ≡ stored (edited how prev (slice from to (now (s .entry)))) at (now (buf .entry)) ⌝ }
 {
-    buf[at] = s[from];
-    edit_after(buf, at + 1, s, from, to, how)
+    let b = s[from];
+    let first = at + bit(hit(how, prev, b));
+    buf[at] = 0;
+    buf[first] = b;
+    let behind = first + 1;
+    if how.zero {
+        return edit_after(buf, behind, s, from, to, how);
+    }
+    edit_by_byte(buf, behind, s, from, to, how)
 }
 
 // The same in one area: area[from..to], edited, is stored from `at` on, behind it.

@@ -12,8 +12,6 @@ use Rattle.format.specs.Bytes.{pick, first}
 use Rattle.format.specs.Frame.{headLen}
 use Rattle.format.specs.Record.{Rec}
 use Rattle.format.specs.Encode.{recordChecks, sizeChecks, isLost, refusalOf, bodyBytes, storedOf, encode}
-use Rattle.format.specs.declared.Version.{Version}
-use Rattle.format.specs.declared.Version.the-variants.{Id3v22, Id3v23, Id3v24}
 use Rattle.format.proofs.Encoded.{encode-length}
 use Rattle.writer.specs.Writer.{Adding, appendOf, addOf}
 use Rattle.writer.specs.declared.Writer.{Writer}
@@ -59,11 +57,6 @@ module _ (w : Writer) (r : Rec) (b : List ℕ) where
       declined k (sym (with-size (w .version) (w .mode) (w .altered) r ∙ rw (← e) (refused k _ ne))) ne
 
 -- ---- the room
-
-pub head-small : (v : Version) → headLen v ≤ 10
-head-small Id3v22 = omega arith
-head-small Id3v23 = omega arith
-head-small Id3v24 = omega arith
 
 -- a header and a stored body of these lengths, and whether the buffer is too short for them
 module _ (w : Writer) (r : Rec) (b : List ℕ) {head size : ℕ} {full : Bool} (eh : head ≡ headLen (w .version))

@@ -1,17 +1,20 @@
--- Laws of digits that the code makes by shifts, and of a counter's bytes. Assumes nothing.
+-- Laws of bytes that the code makes by shifts, of synchsafe words, and of a counter's bytes. Assumes nothing.
 use mathlib.Core.Path.{_≡_, refl, sym, ap, _∙_, subst}
 use Prim.Native.Nat.{ℕ, zero, suc, _+_, _-_, _*_, _/_, _%_, _^_, _≤_, _<_}
-use native.Mathlib.Nat.{pow-zero, pow-suc, pow-succ', mul-zero, mul-suc, mul-assoc, mul-le-mul, mod-lt, mod-eq-of-lt, div-eq-of-lt, div-one, div-add-mod', zero-div, mul-add-div-right, mul-add-mod-self-right, div-div-eq-div-mul, one-le-pow, lt-of-lt-of-le, le-trans, le-div-iff-mul-le, div-lt-iff-lt-mul}
+use native.Mathlib.Nat.{pow-zero, pow-suc, pow-succ', mul-zero, mul-suc, mul-assoc, div-eq-of-lt, zero-div, mul-add-div-right, mul-add-mod-self-right, div-div-eq-div-mul, one-le-pow, le-div-iff-mul-le, div-lt-iff-lt-mul}
 use native.Mathlib.Omega.{arith}
+use borrow.Author.Tests.{lt-ltb}
 use mathlib.Core.List.{List, [], _∷_, _++_}
 use lib.ListN.{length}
-use lib.Pow.{pow-pos, pow-add, pow-mono}
+use lib.Pow.{pow-add, pow-mono}
 use lib.Count.{leadingZeros, leading-le, leading-length}
-use Rattle.format.specs.Numbers.{digits, bytesOf}
+use Rattle.format.specs.Numbers.{digits, bytesOf, number, synchsafe}
 use Rattle.format.specs.Popularimeter.{stripped, counterBytes}
-use Rattle.format.proofs.Numbers.{length-digits}
+use Rattle.format.proofs.Numbers.{length-digits, digits-onto, synchsafe-below}
+use Rattle.unsynch.specs.Puts.{encodedOf}
+use Rattle.unsynch.specs.declared.Encoded.{Encoded}
 
--- ---- digits of b bits, by shifts
+-- ---- bytes, by shifts
 
 pub pow-pow : (b k : ℕ) → (2 ^ b) ^ k ≡ 2 ^ (b * k)
 pow-pow b zero = pow-zero (2 ^ b) ∙ ap (λ (j : ℕ). 2 ^ j) (sym (mul-zero b))
@@ -19,34 +22,34 @@ pow-pow b (suc k) =
     let e : b * k + b ≡ b * suc k = omega (arith, mul-suc b k) in
     pow-suc (2 ^ b) k ∙ ap (λ (x : ℕ). x * 2 ^ b) (pow-pow b k) ∙ sym (pow-add 2 (b * k) b) ∙ ap (λ (j : ℕ). 2 ^ j) e
 
-pub digits-first : (b k n : ℕ) → 0 < k → digits (2 ^ b) k n ≡ n / 2 ^ (b * (k - 1)) % 2 ^ b ∷ digits (2 ^ b) (k - 1) n
+pub bytes-first : (k n : ℕ) → 0 < k → bytesOf k n ≡ n / 2 ^ (8 * (k - 1)) % 256 ∷ bytesOf (k - 1) n
 unfolding digits
-digits-first b zero n h = absurd (omega arith)
-digits-first b (suc k) n h = let e : suc k - 1 ≡ k = omega arith in rw (e, pow-pow)
+bytes-first zero n h = absurd (omega arith)
+bytes-first (suc k) n h = let e : suc k - 1 ≡ k = omega arith in rw (e, ← pow-pow 8 k)
 
-pub digits-none : (base k n : ℕ) → k ≡ 0 → digits base k n ≡ []
+pub bytes-none : (k n : ℕ) → k ≡ 0 → bytesOf k n ≡ []
 unfolding digits
-digits-none base zero n h = refl
-digits-none base (suc k) n h = absurd (omega arith)
+bytes-none zero n h = refl
+bytes-none (suc k) n h = absurd (omega arith)
 
--- the base, as the code makes it
-module _ (b : ℕ) (h : b ≤ 8) where
-  pub base-small : 2 ^ b ≤ 256
-  base-small = pow-mono {i = b} {j = 8} h
+-- ---- the word of a synchsafe number, as it was encoded
 
-  pub base-made : 1 * 2 ^ b % 2 ^ 64 ≡ 2 ^ b
-  base-made =
-      let e : 1 * 2 ^ b ≡ 2 ^ b = omega arith in
-      ap (λ (x : ℕ). x % 2 ^ 64) e ∙ mod-eq-of-lt (omega (arith, base-small))
+module _ (n : ℕ) (h : n < 2 ^ 28) {r : Encoded} (e : r ≡ encodedOf n) where
+  encoded : r ≡ Encoded.Word (number (synchsafe n))
+  encoded = e ∙ rw (lt-ltb n (2 ^ 28) h)
 
-  pub base-pos : 0 < 1 * 2 ^ b % 2 ^ 64
-  base-pos = rw base-made (pow-pos b)
+  pub word-bytes : {w : ℕ} → r ≡ Encoded.Word w → bytesOf 4 w ≡ synchsafe n
+  word-bytes {w} is =
+      let g : Encoded.Word w ≡ Encoded.Word (number (synchsafe n)) = sym is ∙ encoded in
+      let f : w ≡ number (synchsafe n) = cc in
+      ap (bytesOf 4) f
+      ∙ ap (λ (k : ℕ). bytesOf k (number (synchsafe n))) (sym (length-digits 128 4 n))
+      ∙ digits-onto 256 (omega arith) 0 (synchsafe n) (λ i. omega (arith, synchsafe-below n i))
 
-  pub digit-small : (x : ℕ) → x % (1 * 2 ^ b % 2 ^ 64) < 256
-  digit-small x = rw base-made (lt-of-lt-of-le (mod-lt x (pow-pos b)) base-small)
-
-  pub shift-small : (k : ℕ) → k < 8 → b * k ≤ 56
-  shift-small k l = let g : k ≤ 7 = omega arith in mul-le-mul h g
+  pub word-given : {k : ℕ} → r ≡ Encoded.Refused k → ⊥
+  word-given {k} is =
+      let g : Encoded.Refused k ≡ Encoded.Word (number (synchsafe n)) = sym is ∙ encoded in
+      (let z : _≡_ {A = ℕ} 0 1 = cc in omega arith)
 
 -- ---- parts of a number's digits
 

@@ -10,8 +10,9 @@ use lib.Dec.{ltb, leb}
 use borrow.Author.Tests.{le-leb, lt-leb, leb-true, leb-false, lt-ltb, le-ltb, ltb-true, ltb-false}
 use Rattle.lists.proofs.Stores.{Storing, begin, same-list, same-place, put, next-lies, all-done, sets-append}
 use Rattle.format.specs.Bytes.{pick, zeros, ascii}
-use Rattle.format.specs.Numbers.{digits, bytesOf}
+use Rattle.format.specs.Numbers.{digits, bytesOf, synchsafe}
 use Rattle.format.specs.Unsynch.{unsync, unsynchronised}
+use Rattle.format.specs.Numbered.{versionNumber}
 use Rattle.format.specs.Encode.{wholeOf, editionByte, flagsByte, regionBytes, tagOf}
 use Rattle.format.specs.declared.Version.{Version}
 use Rattle.format.specs.declared.Version.the-variants.{Id3v22, Id3v23, Id3v24}
@@ -134,7 +135,7 @@ letters-are : bytesOf 3 0x494433 ≡ ascii "ID3"
 unfolding digits
 letters-are = refl
 
-edition-is : (v : Version) → bytesOf 1 (editionByte v) ≡ editionByte v ∷ []
+edition-is : (v : Version) → bytesOf 1 (versionNumber v) ≡ editionByte v ∷ []
 unfolding digits
 edition-is Id3v22 = refl
 edition-is Id3v23 = refl
@@ -147,7 +148,7 @@ flags-is Crate = refl
 flags-is Standard = refl
 
 pub header-is : (v : Version) (m : Mode) (size : ℕ)
-    → bytesOf 3 0x494433 ++ (bytesOf 1 (editionByte v) ++ (bytesOf 2 (flagsByte m) ++ digits (2 ^ 7) 4 size)) ≡ headerBytes v m size
+    → bytesOf 3 0x494433 ++ (bytesOf 1 (versionNumber v) ++ (bytesOf 2 (flagsByte m) ++ synchsafe size)) ≡ headerBytes v m size
 header-is v m size = rw (letters-are, edition-is v, flags-is m)
 
 -- ---- the tag

@@ -1,6 +1,6 @@
 -- A frame is its header and its stored body, put one after the other. Assumes nothing.
 use mathlib.Core.Path.{_≡_, refl, sym, ap, _∙_}
-use Prim.Native.Nat.{ℕ, _+_, _^_, _≤_}
+use Prim.Native.Nat.{ℕ, _+_, _≤_}
 use native.Mathlib.Omega.{arith}
 use mathlib.Core.Bool.{false}
 use mathlib.Core.List.{List, [], _∷_, _++_}
@@ -8,7 +8,7 @@ use lib.ListN.{length}
 use lib.Seq.{sets, length-sets}
 use Rattle.lists.proofs.Stores.{sets-append}
 use Rattle.format.specs.Bytes.{pick}
-use Rattle.format.specs.Numbers.{digits, bytesOf}
+use Rattle.format.specs.Numbers.{digits, bytesOf, synchsafe}
 use Rattle.format.specs.Unsynch.{isOn, guards, unsync}
 use Rattle.format.specs.Frame.{headLen}
 use Rattle.format.specs.Record.{Rec}
@@ -26,20 +26,20 @@ use Rattle.writer.specs.declared.pens.Pen.{Pen}
 
 -- ---- the header
 
--- digits, then more
-pub digits-put : {o₁ o₂ : List ℕ} {p : ℕ} (o : List ℕ) (at base k n : ℕ) (l : List ℕ) → o₁ ≡ sets o at (digits base k n) → o₂ ≡ sets o₁ p l → p ≡ at + k
-    → o₂ ≡ sets o at (digits base k n ++ l)
-digits-put o at base k n l e₁ e₂ ep =
-    let d = digits base k n in
-    e₂ ∙ rw (ep, e₁) (ap (λ (j : ℕ). sets (sets o at d) (at + j) l) (sym (length-digits base k n)) ∙ sym (sets-append o at d l))
+-- the bytes of a number, then more
+pub bytes-put : {o₁ o₂ : List ℕ} {p : ℕ} (o : List ℕ) (at k n : ℕ) (l : List ℕ) → o₁ ≡ sets o at (bytesOf k n) → o₂ ≡ sets o₁ p l → p ≡ at + k
+    → o₂ ≡ sets o at (bytesOf k n ++ l)
+bytes-put o at k n l e₁ e₂ ep =
+    let d = bytesOf k n in
+    e₂ ∙ rw (ep, e₁) (ap (λ (j : ℕ). sets (sets o at d) (at + j) l) (sym (length-digits 256 k n)) ∙ sym (sets-append o at d l))
 
-pub long-head : (m : Mode) (id size : ℕ) → bytesOf 4 id ++ (digits (2 ^ 7) 4 size ++ bytesOf 2 (pick (isOn m) 2 0)) ≡ headBytes Id3v24 m id size
+pub long-head : (m : Mode) (id size : ℕ) → bytesOf 4 id ++ (synchsafe size ++ bytesOf 2 (pick (isOn m) 2 0)) ≡ headBytes Id3v24 m id size
 unfolding digits
 long-head Off id size = refl
 long-head Crate id size = refl
 long-head Standard id size = refl
 
-pub plain-head : (m : Mode) (id size : ℕ) → bytesOf 4 id ++ (digits (2 ^ 8) 4 size ++ bytesOf 2 0) ≡ headBytes Id3v23 m id size
+pub plain-head : (m : Mode) (id size : ℕ) → bytesOf 4 id ++ (bytesOf 4 size ++ bytesOf 2 0) ≡ headBytes Id3v23 m id size
 unfolding digits
 plain-head m id size = refl
 

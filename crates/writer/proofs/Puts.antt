@@ -1,21 +1,23 @@
 -- Laws of putting bytes at a pen and of measuring them. Assumes nothing.
 use mathlib.Core.Path.{_≡_, refl, sym, ap, _∙_, subst}
 use mathlib.Core.Logic.{inl, inr, ⊎-elim}
-use Prim.Native.Nat.{ℕ, suc, _+_, _-_, _^_, _≤_, _<_}
-use native.Mathlib.Numerals.{add-one}
+use Prim.Native.Nat.{ℕ, suc, _+_, _-_, _*_, _^_, _≤_}
 use native.Mathlib.Omega.{arith}
 use mathlib.Core.Bool.{Bool, true, false, _&&_}
 use mathlib.Core.List.{List, [], _∷_, _++_}
-use lib.ListN.{length, getD, set, length-append, length-set}
-use lib.Seq.{sets, length-sets}
+use lib.ListN.{length, getD, length-append}
+use lib.Seq.{slice, sets, length-sets, take-length}
 use lib.Dec.{eqb}
+use borrow.Author.Tests.{le-ltb}
 use Rattle.lists.proofs.Stores.{sets-append}
 use Rattle.format.specs.Bytes.{pick, onlyIf}
 use Rattle.format.specs.Unsynch.{guards, unsync, endsFF}
 use Rattle.format.specs.declared.Mode.{Mode}
 use Rattle.format.specs.declared.Mode.the-variants.{Off}
-use Rattle.format.proofs.Unsynch.{unsync-append, unsync-off}
-use Rattle.writer.specs.Pens.{penAfter, Putting, putOf, Placed, placed, Near, Sized, Paced}
+use Rattle.format.proofs.Unsynch.{unsync-append, unsync-off, doubled}
+use Rattle.unsynch.specs.Puts.{Out, placedOf}
+use Rattle.unsynch.specs.declared.Put.{Put}
+use Rattle.writer.specs.Pens.{penAfter, Putting, putOf, Near, Sized, Paced}
 use Rattle.writer.specs.declared.pens.Pen.{Pen}
 
 -- ---- one piece after another
@@ -70,52 +72,61 @@ module _ (m : Mode) (pen : Pen) (a b : List ℕ) where
 pub off-bytes : {m : Mode} → m ≡ Off → (prev : Bool) (s : List ℕ) → unsync (guards m) prev s ≡ s
 off-bytes e prev s = rw e (unsync-off prev s)
 
--- ---- one byte, with a 00 before it or not
+-- ---- bytes that were put
 
+-- by the place behind them and the buffer, and whether the last of them is FF
+pub pen-put : (m : Mode) (pen : Pen) (s o : List ℕ) {n : ℕ} {p : Bool} {o′ : List ℕ}
+    → _≡_ {A = ℕ × List ℕ} (n, o′) (pen .at + length (unsync (guards m) (pen .prev) s), sets o (pen .at) (unsync (guards m) (pen .prev) s))
+    → p ≡ endsFF (pen .prev) s → _≡_ {A = Putting} (record { at = n; prev = p }, o′) (putOf m pen s o)
+pen-put m pen s o e f = λ i. (record { at = e i .0; prev = f i }, e i .1)
+
+-- one byte: f says that a 00 goes in before it
 module _ (m : Mode) (pen : Pen) (x : ℕ) (f : Bool) (is : f ≡ (pen .prev && guards m x)) where
-  -- what goes in
   pub byte-bytes : unsync (guards m) (pen .prev) (x ∷ []) ≡ pick f (0 ∷ x ∷ []) (x ∷ [])
   unfolding unsync
-  byte-bytes = rw (← is) (by f)
+  byte-bytes = rw (← is) (cases f)
     where
-      by : (t : Bool) → onlyIf t 0 (x ∷ []) ≡ pick t (0 ∷ x ∷ []) (x ∷ [])
-      by true = refl
-      by false = refl
+      cases : (t : Bool) → onlyIf t 0 (x ∷ []) ≡ pick t (0 ∷ x ∷ []) (x ∷ [])
+      cases true = refl
+      cases false = refl
 
   pub byte-pen : penAfter m pen (x ∷ []) ≡ record { at = pen .at + pick f 2 1; prev = eqb x 255 }
   unfolding endsFF
-  byte-pen = pen-is (rw byte-bytes (by f)) refl
+  byte-pen = pen-is (rw byte-bytes (cases f)) refl
     where
-      by : (t : Bool) → pen .at + length (pick t (0 ∷ x ∷ []) (x ∷ [])) ≡ pen .at + pick t 2 1
-      by true = refl
-      by false = refl
+      cases : (t : Bool) → pen .at + length (pick t (0 ∷ x ∷ []) (x ∷ [])) ≡ pen .at + pick t 2 1
+      cases true = refl
+      cases false = refl
 
-  module _ (o : List ℕ) (room : penAfter m pen (x ∷ []) .at ≤ length o) where
-    pub byte-room : pen .at < length o
-    byte-room = by f (ap (λ (z : Pen). z .at) byte-pen)
-      where
-        by : (t : Bool) → penAfter m pen (x ∷ []) .at ≡ pen .at + pick t 2 1 → pen .at < length o
-        by true e = omega arith
-        by false e = omega arith
+-- many bytes, put by the crate `unsynch`: there is room, so it does not refuse
+module _ (m : Mode) (pen : Pen) (s o : List ℕ) (room : penAfter m pen s .at ≤ length o) {r : Put} {o′ : List ℕ}
+    (e : _≡_ {A = Out} (r, o′) (placedOf (unsync (guards m) (pen .prev) (slice 0 (length s) s)) (pen .at) o)) where
+  abbrev u : List ℕ
+  u = unsync (guards m) (pen .prev) s
 
-    pub byte-lies : {z : Placed} → z ≡ placed f (pen .at) o → z .0 < length (z .1)
-    byte-lies {z} e = rw e (by f (ap (λ (q : Pen). q .at) byte-pen))
-      where
-        by : (t : Bool) → penAfter m pen (x ∷ []) .at ≡ pen .at + pick t 2 1 → placed t (pen .at) o .0 < length (placed t (pen .at) o .1)
-        by true e = simp length-set (omega arith)
-        by false e = omega arith
+  all-put : _≡_ {A = Out} (r, o′) (Put.Bytes (length u), sets o (pen .at) u)
+  all-put = e ∙ rw (take-length s, le-ltb (length o) (pen .at + length u) room)
 
-  pub byte-put : {z : Placed} (o : List ℕ) → z ≡ placed f (pen .at) o
-      → _≡_ {A = Putting} (record { at = z .0 + 1; prev = eqb x 255 }, set (z .1) (z .0) x) (putOf m pen (x ∷ []) o)
-  byte-put {z} o e = rw (e, byte-pen, byte-bytes) (by f)
-    where
-      by : (t : Bool) → _≡_ {A = Putting} (record { at = placed t (pen .at) o .0 + 1; prev = eqb x 255 }, set (placed t (pen .at) o .1) (placed t (pen .at) o .0) x)
-          (record { at = pen .at + pick t 2 1; prev = eqb x 255 }, sets o (pen .at) (pick t (0 ∷ x ∷ []) (x ∷ [])))
-      by true =
-          let n : pen .at + 1 + 1 ≡ pen .at + 2 = omega arith in
-          let k : pen .at + 1 ≡ suc (pen .at) = add-one (pen .at) in
-          λ i. (record { at = n i; prev = eqb x 255 }, set (set o (pen .at) 0) (k i) x)
-      by false = refl
+  pub count-put : {n : ℕ} → r ≡ Put.Bytes n → n ≡ length (unsync (guards m) (pen .prev) s)
+  count-put {n} is = let g : Put.Bytes n ≡ Put.Bytes (length u) = sym is ∙ ap (λ (z : Out). z .0) all-put in cc
+
+  pub bytes-put : {n : ℕ} {p : Bool} → r ≡ Put.Bytes n → p ≡ endsFF (pen .prev) s → _≡_ {A = Putting} (record { at = pen .at + n; prev = p }, o′) (putOf m pen s o)
+  bytes-put {n} is f =
+      let k : pen .at + n ≡ pen .at + length u = ap (λ (j : ℕ). pen .at + j) (count-put is) in
+      let l : o′ ≡ sets o (pen .at) u = ap (λ (z : Out). z .1) all-put in
+      pen-put m pen s o (λ i. (k i, l i)) f
+
+  pub not-refused : {k : ℕ} → r ≡ Put.Refused k → ⊥
+  not-refused {k} is =
+      let g : Put.Refused k ≡ Put.Bytes (length u) = sym is ∙ ap (λ (z : Out). z .0) all-put in
+      (let z : _≡_ {A = ℕ} 0 1 = cc in omega arith)
+
+-- and measured by it
+pub count-all : (m : Mode) (prev : Bool) (s : List ℕ) {n : ℕ} → n ≡ length (unsync (guards m) prev (slice 0 (length s) s))
+    → (n ≡ length (unsync (guards m) prev s)) × (n ≤ 2 * length s)
+count-all m prev s {n} e =
+    let f : n ≡ length (unsync (guards m) prev s) = e ∙ rw (take-length s) in
+    (f, omega (arith, doubled (guards m) prev s))
 
 -- ---- many bytes, in a loop
 
@@ -134,8 +145,8 @@ begin m pen l o h = record { same = refl; long = refl; room = h }
 
 module _ {m : Mode} {pen₀ : Pen} {l₀ o₀ : List ℕ} {pen : Pen} {o : List ℕ} where
   -- the same list in other words
-  pub by : {l l′ : List ℕ} → l ≡ l′ → Writing m pen₀ l₀ o₀ pen l o → Writing m pen₀ l₀ o₀ pen l′ o
-  by e w = subst (λ (z : List ℕ). Writing m pen₀ l₀ o₀ pen z o) e w
+  pub same-list : {l l′ : List ℕ} → l ≡ l′ → Writing m pen₀ l₀ o₀ pen l o → Writing m pen₀ l₀ o₀ pen l′ o
+  same-list e w = subst (λ (z : List ℕ). Writing m pen₀ l₀ o₀ pen z o) e w
 
   -- a piece has its place, and is put
   pub piece-lies : (a b : List ℕ) → Writing m pen₀ l₀ o₀ pen (a ++ b) o → penAfter m pen a .at ≤ length o
@@ -196,15 +207,6 @@ ends-last prev (x ∷ []) h = refl
 ends-last prev (x ∷ y ∷ s) h =
     let e : suc (suc (length s)) - 1 ≡ suc (suc (length s) - 1) = omega arith in
     rw e (ends-last (eqb x 255) (y ∷ s) (λ z. absurd (omega arith)))
-
-pub guards-turn : (guard : ℕ → Bool) (prev f : Bool) (x : ℕ) (s : List ℕ) → f ≡ (prev && guard x)
-    → length (unsync guard prev (x ∷ s)) ≡ pick f 2 1 + length (unsync guard (eqb x 255) s)
-unfolding unsync
-guards-turn guard prev f x s is = rw (← is) (by f)
-  where
-    by : (t : Bool) → length (onlyIf t 0 (x ∷ unsync guard (eqb x 255) s)) ≡ pick t 2 1 + length (unsync guard (eqb x 255) s)
-    by true = omega arith
-    by false = omega arith
 
 -- ---- what a size that was measured says
 

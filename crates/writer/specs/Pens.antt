@@ -2,11 +2,9 @@
 use mathlib.Core.Path.{_≡_}
 use mathlib.Core.Logic.{_⊎_}
 use Prim.Native.Nat.{ℕ, _+_, _^_, _≤_}
-use mathlib.Core.Bool.{Bool}
 use mathlib.Core.List.{List}
-use lib.ListN.{length, set}
+use lib.ListN.{length}
 use lib.Seq.{sets}
-use Rattle.format.specs.Bytes.{pick}
 use Rattle.format.specs.Unsynch.{guards, unsync, endsFF}
 use Rattle.format.specs.declared.Mode.{Mode}
 use Rattle.writer.specs.declared.pens.Pen.{Pen}
@@ -21,13 +19,6 @@ Putting = Pen × List ℕ
 -- the bytes s are put at a pen: the pen behind them, and the buffer
 abbrev pub putOf : Mode → Pen → List ℕ → List ℕ → Putting
 putOf m pen s buffer = (penAfter m pen s, sets buffer (pen .at) (unsync (guards m) (pen .prev) s))
-
-abbrev pub Placed : Type 0
-Placed = ℕ × List ℕ
-
--- a 00 is put or not
-abbrev pub placed : Bool → ℕ → List ℕ → Placed
-placed stuffs at buffer = pick stuffs (at + 1, set buffer at 0) (at, buffer)
 
 -- ---- measuring: the number itself, or, where that is 2^28 or more, any number from 2^28 on
 

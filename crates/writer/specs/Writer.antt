@@ -7,12 +7,9 @@ use lib.Seq.{sets}
 use lib.Dec.{ltb, leb, eqb}
 use Rattle.format.specs.Bytes.{pick}
 use Rattle.format.specs.Header.{versionOf}
-use Rattle.format.specs.Numbered.{isMode, isVersion}
+use Rattle.format.specs.Numbered.{modeOf, isMode, isVersion}
 use Rattle.format.specs.Record.{Rec}
 use Rattle.format.specs.Encode.{isLost, refusalOf, encode, regionBytes, tagOf}
-use Rattle.format.specs.declared.Version.{Version}
-use Rattle.format.specs.declared.Mode.{Mode}
-use Rattle.format.specs.declared.Mode.the-variants.{Off, Crate, Standard}
 use Rattle.writer.specs.declared.Writer.{Writer}
 use Rattle.writer.specs.declared.Begun.{Begun}
 use Rattle.writer.specs.declared.Added.{Added}

@@ -7,28 +7,16 @@ use checks::ids::is_lost;
 use checks::record::record_check;
 use checks::sizes::size_check;
 use format::Heading;
-use format::Version;
+use format::numbered::head_len;
 use format::refusals::NO_ROOM;
 ghost use mathlib.Core.Path.{_≡_};
 ghost use Prim.Native.Nat.{_+_, _^_, _<_};
 ghost use lib.ListN.{length};
 ghost use lib.Dec.{ltb};
-ghost use Rattle.format.specs.Frame.{headLen};
 ghost use Rattle.format.specs.Record.{Fits, contentOf, recOf};
 ghost use Rattle.format.specs.Encode.{bodyBytes, storedOf, encode};
 ghost use Rattle.writer.specs.Layouts.{Puttable};
 ghost use Rattle.writer.specs.Writer.{appendOf, addOf};
-
-// How many bytes a frame has before its body.
-fn head_len(version: Version) -> usize
-    ensures { λ r. ⌜ r ≡ headLen version ⌝ }
-{
-    match version {
-        Version::Id3v22 => 6,
-        Version::Id3v23 => 10,
-        Version::Id3v24 => 10,
-    }
-}
 
 // Whether a buffer is too short for n bytes behind those used.
 fn is_full(len: usize, used: usize, n: usize) -> bool

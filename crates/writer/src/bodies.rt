@@ -7,6 +7,7 @@ use crate::pens::put_bytes;
 use crate::small::small_of;
 use format::Fields;
 use format::Mode;
+use format::small::zeros_in;
 ghost use mathlib.Core.Path.{_≡_};
 ghost use Prim.Native.Nat.{ℕ, _≤_};
 ghost use mathlib.Core.List.{List, [], _++_};
@@ -19,10 +20,10 @@ ghost use Rattle.writer.specs.Layouts.{layoutOf, Puttable, usedOf, packe
 ghost use Rattle.writer.specs.Plans.{Planned};
 
 // How many bytes of each given slice a kind has.
-pub struct Used {
-    pub name: usize,
-    pub names: usize,
-    pub rest: usize,
+struct Used {
+    name: usize,
+    names: usize,
+    rest: usize,
 }
 
 // The same of slices as long as that.
@@ -80,21 +81,6 @@ fn used_of(fields: Fields, name: usize, names: usize, rest: usize) -> Used
     }
 }
 
-// How many zeros there are: of names each closed by one, how many names.
-fn zeros_in(s: &[u8]) -> usize
-    ensures { λ r. ⌜ r ≡ zerosIn (now (s .entry)) ⌝ }
-{
-    let mut n: usize = 0;
-    let mut i: usize = 0;
-    while i < s.len() {
-        if s[i] == 0 {
-            n += 1;
-        }
-        i += 1;
-    }
-    n
-}
-
 // Puts the references at the pen, where the kind has them.
 fn put_references(
     buffer: &mut [u8],
@@ -146,12 +132,12 @@ fn measure_references(pen: Pen, mode: Mode, fields: Fields, deviations: &[u32]) 
 }
 
 // What a body has of the given slices, and the bytes made of its numbers.
-pub struct Plan {
-    pub name: usize,
-    pub names: usize,
-    pub rest: usize,
-    pub bytes: [u8; 17],
-    pub len: usize,
+struct Plan {
+    name: usize,
+    names: usize,
+    rest: usize,
+    bytes: [u8; 17],
+    len: usize,
 }
 
 // The pieces of a body.

@@ -19,6 +19,6 @@ pub(crate) fn put_counter(buffer: &mut [u8], at: usize, counter: u64) -> usize
     ensures { λ r. ⌜ (r ≡ length (counterBytes counter)) × (now (buffer .exit) ≡ sets (now (buffer .entry)) at (counterBytes counter)) ⌝ }
 {
     let count = width(counter);
-    put_digits(buffer, at, 8, count, counter);
+    put_digits(buffer, at, count, counter);
     count as usize
 }

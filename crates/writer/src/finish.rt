@@ -2,21 +2,23 @@
 use crate::Finished;
 use crate::Writer;
 use crate::numbers::put_digits;
+use crate::numbers::synchsafe_word;
 use crate::pens::LIMIT;
 use format::Mode;
 use format::Version;
+use format::numbered::version_number;
 use format::refusals::NO_ROOM;
 use format::refusals::TOO_LONG;
 use unsynch::Put;
 use unsynch::unsync_into;
 use unsynch::unsync_len;
 ghost use mathlib.Core.Path.{_≡_};
-ghost use Prim.Native.Nat.{_+_, _^_, _≤_};
+ghost use Prim.Native.Nat.{_+_, _^_, _≤_, _<_};
 ghost use lib.ListN.{length, take};
 ghost use lib.Seq.{sets};
 ghost use lib.Dec.{leb};
 ghost use Rattle.format.specs.Bytes.{zeros};
-ghost use Rattle.format.specs.Encode.{wholeOf, editionByte, flagsByte, regionBytes, tagOf};
+ghost use Rattle.format.specs.Encode.{wholeOf, flagsByte, regionBytes, tagOf};
 ghost use Rattle.unsynch.specs.Puts.{placedOf};
 ghost use Rattle.writer.specs.Writer.{finishOf};
 ghost use Rattle.writer.specs.Finishes.{wholeMode, headerBytes, framesPut};
@@ -32,17 +34,6 @@ fn whole_mode(version: Version, mode: Mode) -> Mode
         Version::Id3v22 => mode,
         Version::Id3v23 => mode,
         Version::Id3v24 => Mode::Off,
-    }
-}
-
-// The number of an edition in the header.
-fn edition_byte(version: Version) -> u64
-    ensures { λ r. ⌜ r ≡ editionByte version ⌝ }
-{
-    match version {
-        Version::Id3v22 => 2,
-        Version::Id3v23 => 3,
-        Version::Id3v24 => 4,
     }
 }
 
@@ -68,7 +59,7 @@ fn is_too_long(buffer: &[u8], used: usize, version: Version, mode: Mode, padding
     if used <= left / 2 {
         return false;
     }
-    unsync_len(buffer, 0, used, whole_mode(version, mode)) >= left
+    unsync_len(buffer, 0, used, false, whole_mode(version, mode)) >= left
 }
 
 // Puts the frames behind the place of the header, where that leaves room for the padding.
@@ -87,7 +78,7 @@ fn put_frames(
     }
     let room = output.len() - padding;
     let by = whole_mode(version, mode);
-    unsync_into(&mut output[..room], 10, buffer, 0, used, by)
+    unsync_into(&mut output[..room], 10, buffer, 0, used, false, by)
 }
 
 // Puts n zeros from `at` on.
@@ -104,13 +95,13 @@ fn put_zeros(output: &mut [u8], at: usize, n: usize)
 
 // Puts the ten bytes of a header before a region of `size` bytes.
 fn put_header(output: &mut [u8], version: Version, mode: Mode, size: usize)
-    requires { ⌜ 10 ≤ length (now output) ⌝ }
+    requires { ⌜ (10 ≤ length (now output)) × (size < 2 ^ 28) ⌝ }
     ensures { λ _. ⌜ now (output .exit) ≡ sets (now (output .entry)) 0 (headerBytes version mode size) ⌝ }
 {
-    put_digits(output, 0, 8, 3, ID3);
-    put_digits(output, 3, 8, 1, edition_byte(version));
-    put_digits(output, 4, 8, 2, flags_byte(mode));
-    put_digits(output, 6, 7, 4, size as u64);
+    put_digits(output, 0, 3, ID3);
+    put_digits(output, 3, 1, version_number(version) as u64);
+    put_digits(output, 4, 2, flags_byte(mode));
+    put_digits(output, 6, 4, synchsafe_word(size));
 }
 
 // Puts a tag at the front of the output. One that is too small is left as it was.
@@ -122,6 +113,7 @@ fn put_tag(
     mode: Mode,
     padding: usize,
 ) -> Put
+    requires { ⌜ length (regionBytes version mode padding (take used (now buffer))) < 2 ^ 28 ⌝ }
     ensures { λ r. ⌜ (r, now (output .exit)) ≡ placedOf (tagOf version mode padding (take used (now (buffer .entry)))) 0 (now (output .entry)) ⌝ }
 {
     let put = put_frames(output, buffer, used, version, mode, padding);

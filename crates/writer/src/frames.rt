@@ -2,17 +2,18 @@
 use crate::bodies::measure_body;
 use crate::bodies::put_body;
 use crate::numbers::put_digits;
+use crate::numbers::synchsafe_word;
 use crate::pens::Pen;
 use format::Heading;
 use format::Mode;
 use format::Version;
 ghost use mathlib.Core.Path.{_≡_};
-ghost use Prim.Native.Nat.{_+_, _^_, _≤_};
+ghost use Prim.Native.Nat.{_+_, _^_, _≤_, _<_};
 ghost use mathlib.Core.List.{_++_};
 ghost use lib.ListN.{length};
 ghost use lib.Seq.{sets};
 ghost use Rattle.format.specs.Bytes.{pick};
-ghost use Rattle.format.specs.Numbers.{digits, bytesOf};
+ghost use Rattle.format.specs.Numbers.{bytesOf};
 ghost use Rattle.format.specs.Unsynch.{isOn};
 ghost use Rattle.format.specs.Frame.{headLen};
 ghost use Rattle.format.specs.Record.{contentOf, recOf};
@@ -42,14 +43,14 @@ fn frame_flags(mode: Mode) -> u64
     }
 }
 
-// Puts the ten bytes of a header from 2.3 on: id, size in digits of `bits` bits, flags.
-fn put_long(buffer: &mut [u8], at: usize, bits: u64, id: u32, size: usize, flags: u64)
-    requires { ⌜ (bits ≤ 8) × (at + 10 ≤ length (now buffer)) ⌝ }
-    ensures { λ _. ⌜ now (buffer .exit) ≡ sets (now (buffer .entry)) at (bytesOf 4 id ++ (digits (2 ^ bits) 4 size ++ bytesOf 2 flags)) ⌝ }
+// Puts the ten bytes of a header from 2.3 on: id, size, flags.
+fn put_long(buffer: &mut [u8], at: usize, id: u32, size: u64, flags: u64)
+    requires { ⌜ at + 10 ≤ length (now buffer) ⌝ }
+    ensures { λ _. ⌜ now (buffer .exit) ≡ sets (now (buffer .entry)) at (bytesOf 4 id ++ (bytesOf 4 size ++ bytesOf 2 flags)) ⌝ }
 {
-    put_digits(buffer, at, 8, 4, id as u64);
-    put_digits(buffer, at + 4, bits, 4, size as u64);
-    put_digits(buffer, at + 8, 8, 2, flags);
+    put_digits(buffer, at, 4, id as u64);
+    put_digits(buffer, at + 4, 4, size);
+    put_digits(buffer, at + 8, 2, flags);
 }
 
 // Puts the six bytes of a 2.2 header: id, size.
@@ -57,8 +58,8 @@ fn put_short(buffer: &mut [u8], at: usize, id: u32, size: usize)
     requires { ⌜ at + 6 ≤ length (now buffer) ⌝ }
     ensures { λ _. ⌜ now (buffer .exit) ≡ sets (now (buffer .entry)) at (bytesOf 3 id ++ bytesOf 3 size) ⌝ }
 {
-    put_digits(buffer, at, 8, 3, id as u64);
-    put_digits(buffer, at + 3, 8, 3, size as u64);
+    put_digits(buffer, at, 3, id as u64);
+    put_digits(buffer, at + 3, 3, size as u64);
 }
 
 // Puts a frame's header, and answers the place behind it.
@@ -70,7 +71,7 @@ fn put_head(
     id: u32,
     size: usize,
 ) -> usize
-    requires { ⌜ at + headLen version ≤ length (now buffer) ⌝ }
+    requires { ⌜ (at + headLen version ≤ length (now buffer)) × (size < 2 ^ 28) ⌝ }
     ensures { λ r. ⌜ (r ≡ at + headLen version) × (now (buffer .exit) ≡ sets (now (buffer .entry)) at (headBytes version mode id size)) ⌝ }
 {
     match version {
@@ -79,11 +80,11 @@ fn put_head(
             at + 6
         }
         Version::Id3v23 => {
-            put_long(buffer, at, 8, id, size, 0);
+            put_long(buffer, at, id, size as u64, 0);
             at + 10
         }
         Version::Id3v24 => {
-            put_long(buffer, at, 7, id, size, frame_flags(mode));
+            put_long(buffer, at, id, synchsafe_word(size), frame_flags(mode));
             at + 10
         }
     }
@@ -129,7 +130,7 @@ pub(crate) fn put_frame(
     size: usize,
 ) -> usize
     requires { ⌜ Puttable (contentOf (heading .fields) (now name) (now names) (now rest) (now deviations)) ⌝ }
-    requires { ⌜ size ≡ length (storedOf version mode (bodyBytes (contentOf (heading .fields) (now name) (now names) (now rest) (now deviations)))) ⌝ }
+    requires { ⌜ (size ≡ length (storedOf version mode (bodyBytes (contentOf (heading .fields) (now name) (now names) (now rest) (now deviations))))) × (size < 2 ^ 28) ⌝ }
     requires { ⌜ at + length (encode version mode (recOf heading (now name) (now names) (now rest) (now deviations))) ≤ length (now buffer) ⌝ }
     ensures { λ r. ⌜ r ≡ at + length (encode version mode (recOf heading (now (name .entry)) (now (names .entry)) (now (rest .entry)) (now (deviations .entry)))) ⌝ }
     ensures { λ _. ⌜ now (buffer .exit) ≡ sets (now (buffer .entry)) at (encode version mode (recOf heading (now (name .entry)) (now (names .entry)) (now (rest .entry)) (now (deviations .entry)))) ⌝ }

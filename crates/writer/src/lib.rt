@@ -1,9 +1,9 @@
 // Writing a metered tag: the writer's state and its answers. What they mean stands in specs/.
-pub mod add;
+mod add;
 pub mod begin;
 mod bodies;
 mod counter;
-pub mod finish;
+mod finish;
 mod frames;
 mod numbers;
 mod pack;

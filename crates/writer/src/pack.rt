@@ -4,6 +4,7 @@ use crate::pens::Pen;
 use crate::pens::measure_byte;
 use crate::pens::put_byte;
 use format::Mode;
+use format::small::half;
 ghost use mathlib.Core.Path.{_≡_};
 ghost use Prim.Native.Nat.{_%_, _≤_, _<_};
 ghost use mathlib.Core.Bool.{true};
@@ -14,24 +15,18 @@ ghost use Rattle.writer.specs.Pens.{penAfter, putOf, Paced, Sized};
 ghost use Rattle.writer.specs.Packs.{left, Ready, Packable};
 
 // Bits that wait: the lowest `have` of acc, and behind them the deviations from `i` on, of a and b bits by turns.
-pub struct Bits {
-    pub acc: u64,
-    pub have: u64,
-    pub i: usize,
-    pub a: u64,
-    pub b: u64,
+struct Bits {
+    acc: u64,
+    have: u64,
+    i: usize,
+    a: u64,
+    b: u64,
 }
 
 // A byte, and the bits behind it.
-pub struct Next {
-    pub byte: u8,
-    pub bits: Bits,
-}
-
-fn wide(x: u32) -> u64
-    ensures { λ r. ⌜ r ≡ x ⌝ }
-{
-    x as u64
+struct Next {
+    byte: u8,
+    bits: Bits,
 }
 
 // The same bits, with a whole byte of them in acc: the last is filled with 0 bits.
@@ -54,7 +49,7 @@ fn fetched(ds: &[u32], bits: Bits) -> Bits
                 b: b,
             };
         }
-        acc = (acc << a) | wide(ds[i]);
+        acc = (acc << a) | half(ds[i]);
         have += a;
         let t = a;
         a = b;

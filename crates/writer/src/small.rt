@@ -15,9 +15,9 @@ ghost use Rattle.writer.specs.Layouts.{layoutOf};
 ghost use Rattle.writer.specs.Smalls.{Holds};
 
 // At most 17 bytes: the first `len`.
-pub struct Small {
-    pub bytes: [u8; 17],
-    pub len: usize,
+pub(crate) struct Small {
+    pub(crate) bytes: [u8; 17],
+    pub(crate) len: usize,
 }
 
 // A text's encoding.
@@ -50,9 +50,9 @@ fn table(frames: u16, step: u32, millis: u32, v: u8, w: u8) -> Small
     ensures { λ r. ⌜ Holds r (bytesOf 2 frames ++ (bytesOf 3 step ++ (bytesOf 3 millis ++ (v ∷ w ∷ [])))) ⌝ }
 {
     let mut bytes = [0u8; 17];
-    put_digits(&mut bytes, 0, 8, 2, frames as u64);
-    put_digits(&mut bytes, 2, 8, 3, step as u64);
-    put_digits(&mut bytes, 5, 8, 3, millis as u64);
+    put_digits(&mut bytes, 0, 2, frames as u64);
+    put_digits(&mut bytes, 2, 3, step as u64);
+    put_digits(&mut bytes, 5, 3, millis as u64);
     bytes[8] = v;
     bytes[9] = w;
     Small {
@@ -66,10 +66,10 @@ fn chapter(start_time: u32, end_time: u32, start_offset: u32, end_offset: u32) -
     ensures { λ r. ⌜ Holds r (0 ∷ bytesOf 4 «start_time» ++ (bytesOf 4 «end_time» ++ (bytesOf 4 «start_offset» ++ bytesOf 4 «end_offset»))) ⌝ }
 {
     let mut bytes = [0u8; 17];
-    put_digits(&mut bytes, 1, 8, 4, start_time as u64);
-    put_digits(&mut bytes, 5, 8, 4, end_time as u64);
-    put_digits(&mut bytes, 9, 8, 4, start_offset as u64);
-    put_digits(&mut bytes, 13, 8, 4, end_offset as u64);
+    put_digits(&mut bytes, 1, 4, start_time as u64);
+    put_digits(&mut bytes, 5, 4, end_time as u64);
+    put_digits(&mut bytes, 9, 4, start_offset as u64);
+    put_digits(&mut bytes, 13, 4, end_offset as u64);
     Small {
         bytes: bytes,
         len: 17,

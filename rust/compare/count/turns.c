@@ -1,14 +1,16 @@
 /*
- * Reads the tag that a box leaves again and again, from opening to the end, by the meter or by a reader's steps: a loop whose instructions are counted.
+ * Reads the tag that a box leaves again and again, from opening to the end, by the meter or by a reader's steps; or adds a 2.4 frame with a raw body of
+ * 1 MiB: a loop whose instructions are counted.
  *
  *     turns meter|steps EDITION MODE TURNS
+ *     turns add clean|random|dense MODE TURNS
  */
 #include "streamvault.h"
 
 #include <stdlib.h>
 #include <string.h>
 
-static uint8_t frames[1024], tag[1024], work[1024];
+static uint8_t frames[1024], tag[1024], work[1024], body[1 << 20], stored[2 * sizeof body + 10];
 
 /* Adds a frame; its id by its letters, in 2.2 three of them. */
 static void add(uint64_t *writer, uint64_t kind, const char *letters, const char *name, const uint8_t *rest, size_t rest_len, uint64_t counter)
@@ -66,10 +68,39 @@ static uint64_t by_steps(size_t len)
     return sum;
 }
 
+/* A body without an FF, one with every byte equally often, or FF E0 FF 00 over and over. */
+static void fill(const char *kind)
+{
+    static const uint8_t dense[] = {0xFF, 0xE0, 0xFF, 0x00};
+    uint64_t state = 1;
+    for (size_t i = 0; i < sizeof body; i++) {
+        state = state * 6364136223846793005 + 1442695040888963407;
+        body[i] = strcmp(kind, "clean") == 0 ? (uint8_t)(i % 251) : strcmp(kind, "random") == 0 ? (uint8_t)(state >> 56) : dense[i % 4];
+    }
+}
+
+static int by_adding(const char *kind, uint64_t mode, uint64_t turns)
+{
+    uint64_t record[SV_RECORD_WORDS] = {SV_KIND_RAW}, count[SV_COUNT_WORDS];
+    record[SV_RECORD_ID] = 0x50524956; /* PRIV */
+    fill(kind);
+    for (uint64_t i = 0; i < turns; i++) {
+        uint64_t writer[SV_WRITER_WORDS];
+        if (sv_begin(4, mode, 0, writer, SV_WRITER_WORDS) != 0)
+            return 1;
+        if (sv_add(record, SV_RECORD_WORDS, NULL, 0, NULL, 0, body, sizeof body, NULL, 0, stored, sizeof stored, writer, SV_WRITER_WORDS, count,
+                   SV_COUNT_WORDS) != 0)
+            return 1;
+    }
+    return 0;
+}
+
 int main(int argc, char **argv)
 {
     if (argc != 5)
         return 2;
+    if (strcmp(argv[1], "add") == 0)
+        return by_adding(argv[2], strtoull(argv[3], NULL, 10), strtoull(argv[4], NULL, 10));
     size_t len = box_tag(strtoull(argv[2], NULL, 10), strtoull(argv[3], NULL, 10));
     uint64_t (*read)(size_t) = strcmp(argv[1], "meter") == 0 ? by_meter : by_steps;
     uint64_t turns = strtoull(argv[4], NULL, 10), sum = 0;

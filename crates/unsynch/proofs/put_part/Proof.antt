@@ -1,8 +1,11 @@
 -- `unsynch::put_part` meets its contract. Assumes nothing.
-use mathlib.Core.Path.{ap}
-use mathlib.Core.Bool.{false}
+use mathlib.Core.Path.{_≡_, ap}
+use Prim.Native.Nat.{ℕ, _-_, _≤_}
+use mathlib.Core.List.{List}
 use lib.Seq.{slice}
 use Rattle.lists.proofs.Slices.{slice-cut, slice-cut-none}
+use Rattle.unsynch.specs.declared.Put.{Put}
+use Rattle.unsynch.specs.Puts.{Out, putOf}
 use Rattle.unsynch.specs.Edits.{edited}
 use Rattle.unsynch.proofs.Answers.{refused-place, put-none, put-fits, put-refused, put-all}
 use borrow.Author.Needs.{needs}
@@ -10,10 +13,15 @@ use native.Mathlib.Omega.{arith}
 use Rattle.unsynch.proofs.put_part.Statement.{statement}
 use Rattle.unsynch.proofs.put_part.Tie as tie
 
+-- what is put
+abbrev whole : tie.Start → List ℕ
+whole s = let a = s .args in edited (a .how) (a .prev) (slice (a .from) (a .to) (a .s .now))
+
 returns : tie.Need-returns
 returns c =
-    let a = c .before .before .before .args in
-    refused-place (a .k) (edited (a .how) false (slice (a .from) (a .to) (a .s .now))) (a .at) (a .buf .now) (c .if1 .taken)
+    let at-start = c .before .before .before in
+    let a = at-start .args in
+    refused-place (a .k) (whole at-start) (a .at) (a .buf .now) (c .if1 .taken)
 
 least-requires : tie.Need-least-requires
 least-requires c κs = search needs
@@ -21,9 +29,18 @@ least-requires c κs = search needs
 returns-2 : tie.Need-returns-2
 unfolding edited
 returns-2 c =
-    let a = c .before .before .before .before .before .args in
-    put-none (a .k) _ (a .at) (a .buf .now) (omega arith)
-    (ap (edited (a .how) false) (slice-cut-none (a .from) (a .to) _ (a .s .now) (c .before .least .ensures) (c .if2 .taken)))
+    let at-end = c .before in
+    let at-start = at-end .before .before .before .before in
+    let a = at-start .args in
+    put-none (a .k) (whole at-start) (a .at) (a .buf .now) (omega arith)
+    (ap (edited (a .how) (a .prev)) (slice-cut-none (a .from) (a .to) _ (a .s .now) (at-end .least .ensures) (c .if2 .taken)))
+
+-- where there are bytes: the arguments, and that what is there of them makes the whole
+abbrev start : tie.Else2 → tie.Start
+start c = let at-end = c .before in at-end .before .before .before .before
+
+cut : (c : tie.Else2) → let a = start c .args in edited (a .how) (a .prev) (slice (a .from) (c .before .least .result) (a .s .now)) ≡ whole (start c)
+cut c = let a = start c .args in ap (edited (a .how) (a .prev)) (slice-cut (a .from) (a .to) _ (a .s .now) (c .before .least .ensures))
 
 sub-fits : tie.Need-sub-fits
 sub-fits c = search needs
@@ -33,26 +50,42 @@ fits-requires c κs = search needs
 
 edit-requires : tie.Need-edit-requires
 edit-requires c κs =
-    let a = c .before .before .before .before .before .before .before .before .args in
-    (omega arith, (put-fits (a .k) (edited (a .how) false (slice (a .from) (a .to) (a .s .now))) (a .at) (a .buf .now) (omega arith) _ (ap (edited (a .how) false) (slice-cut (a .from) (a .to) _ (a .s .now) (c .before .before .before .before .least .ensures))) (c .before .before .fits2 .result) (c .before .before .fits2 .ensures) (c .before .if3 .taken), c .before .before .before .before .before .before .before .before .pre))
+    let at-fits = c .before .before in
+    let at-start = start (at-fits .before) in
+    let a = at-start .args in
+    let room = put-fits (a .k) (whole at-start) (a .at) (a .buf .now) (omega arith) _ (cut (at-fits .before)) (at-fits .fits2 .result) (at-fits .fits2 .ensures) (c .before .if3 .taken) in
+    (omega arith, (room, at-start .pre))
 
-sub-t16 : tie.Need-sub-t16
-sub-t16 c =
-    let a = c .before .before .before .before .before .before .before .before .before .before .before .args in
-    put-all (a .k) (edited (a .how) false (slice (a .from) (a .to) (a .s .now))) (a .at) (a .buf .now) (omega arith) _ (ap (edited (a .how) false) (slice-cut (a .from) (a .to) _ (a .s .now) (c .before .before .before .before .before .before .before .least .ensures))) (c .before .before .before .before .before .fits2 .result) (c .before .before .before .before .before .fits2 .ensures) (c .before .before .before .before .if3 .taken) (c .before .before .edit .result) (c .before .before .edit .last .0) (c .before .before .edit .ensures) .0
+-- all is stored
+stored-all : (c : tie.After-slice-known2) →
+    let at-edit = c .before .before in
+    let at-start = start (at-edit .before .before .before .before) in
+    let a = at-start .args in
+    (a .at ≤ at-edit .edit .result)
+    × _≡_ {A = Out} (Put.Bytes (at-edit .edit .result - a .at), at-edit .edit .last .0) (putOf (a .k) (whole at-start) (a .at) (a .buf .now))
+stored-all c =
+    let at-edit = c .before .before in
+    let at-fits = at-edit .before .before .before in
+    let at-start = start (at-fits .before) in
+    let a = at-start .args in
+    put-all (a .k) (whole at-start) (a .at) (a .buf .now) (omega arith) _ (cut (at-fits .before)) (at-fits .fits2 .result) (at-fits .fits2 .ensures)
+    (at-edit .before .before .if3 .taken) (at-edit .edit .result) (at-edit .edit .last .0) (at-edit .edit .ensures)
+
+sub-t17 : tie.Need-sub-t17
+sub-t17 c = stored-all c .0
 
 same-length : tie.Need-same-length
 same-length c = search needs
 
 returns-3 : tie.Need-returns-3
-returns-3 c =
-    let a = c .before .before .before .before .before .before .before .before .before .before .before .args in
-    put-all (a .k) (edited (a .how) false (slice (a .from) (a .to) (a .s .now))) (a .at) (a .buf .now) (omega arith) _ (ap (edited (a .how) false) (slice-cut (a .from) (a .to) _ (a .s .now) (c .before .before .before .before .before .before .before .least .ensures))) (c .before .before .before .before .before .fits2 .result) (c .before .before .before .before .before .fits2 .ensures) (c .before .before .before .before .if3 .taken) (c .before .before .edit .result) (c .before .before .edit .last .0) (c .before .before .edit .ensures) .1
+returns-3 c = stored-all c .1
 
 returns-4 : tie.Need-returns-4
 returns-4 c =
-    let a = c .before .before .before .before .before .before .before .args in
-    put-refused (a .k) (edited (a .how) false (slice (a .from) (a .to) (a .s .now))) (a .at) (a .buf .now) (omega arith) _ (ap (edited (a .how) false) (slice-cut (a .from) (a .to) _ (a .s .now) (c .before .before .before .least .ensures))) (c .before .fits2 .result) (c .before .fits2 .ensures) (c .if3 .left)
+    let at-fits = c .before in
+    let at-start = start (at-fits .before) in
+    let a = at-start .args in
+    put-refused (a .k) (whole at-start) (a .at) (a .buf .now) (omega arith) _ (cut (at-fits .before)) (at-fits .fits2 .result) (at-fits .fits2 .ensures) (c .if3 .left)
 
 pub put-part-spec : {M : Type 1} → statement M
 put-part-spec =
@@ -64,7 +97,7 @@ put-part-spec =
     sub-fits
     fits-requires
     edit-requires
-    sub-t16
+    sub-t17
     same-length
     returns-3
     returns-4)

@@ -5,6 +5,7 @@ use mathlib.Core.Bool.{false}
 use mathlib.Core.List.{List}
 use lib.ListN.{length}
 use lib.Seq.{slice}
+use Rattle.lists.proofs.Bools.{false-not-true}
 use Rattle.format.specs.Unsynch.{resynchronised}
 use Rattle.unsynch.specs.declared.loops.How.{How}
 use Rattle.unsynch.specs.Puts.{putOf}
@@ -20,18 +21,19 @@ resync-by-requires : tie.Need-resync-by-requires
 resync-by-requires c κs = search needs
 
 put-part-requires : tie.Need-put-part-requires
-put-part-requires c κs = known-resync _ (c .resync-by .ensures)
+put-part-requires c κs = (known-resync _ (c .resync-by .ensures), λ e. absurd (false-not-true e))
 
 same-length : tie.Need-same-length
 same-length c = search needs
 
 returns : tie.Need-returns
 returns c =
-    let a = c .before .before .before .before .before .before .before .args in
+    let at-how = c .before .before .before in
+    let a = at-how .before .before .before .before .args in
     let part = slice (a .from) (a .to) (a .s .now) in
     let e : 0 ≡ min 0 (length (a .room .now)) = omega arith in
     c .before .before .put-part .ensures
-    ∙ ap (λ (how : How). putOf 14 (edited how false part) 0 (a .room .now)) (c .before .before .before .resync-by .ensures)
+    ∙ ap (λ (how : How). putOf 14 (edited how false part) 0 (a .room .now)) (at-how .resync-by .ensures)
     ∙ ap (λ (u : List ℕ). putOf 14 u 0 (a .room .now)) (resyncs false part)
     ∙ in-room (resynchronised part) 0 0 (a .room .now) e
 

@@ -1,10 +1,8 @@
 -- `unsynch::unsync_into` meets its contract. Assumes nothing.
 use mathlib.Core.Path.{ap, _∙_}
 use Prim.Native.Nat.{ℕ}
-use mathlib.Core.Bool.{false}
 use mathlib.Core.List.{List}
 use lib.Seq.{slice}
-use Rattle.format.specs.Unsynch.{unsynchronised}
 use Rattle.unsynch.specs.declared.loops.How.{How}
 use Rattle.unsynch.specs.Puts.{putOf}
 use Rattle.unsynch.specs.Edits.{edited}
@@ -17,18 +15,20 @@ unsync-by-requires : tie.Need-unsync-by-requires
 unsync-by-requires c κs = search needs
 
 put-part-requires : tie.Need-put-part-requires
-put-part-requires c κs = known-unsync _ (c .before .before .before .before .args .mode) (c .unsync-by .ensures)
+put-part-requires c κs =
+    (known-unsync _ (c .before .before .before .before .args .mode) (c .unsync-by .ensures), λ _. ap (λ (how : How). how .insert) (c .unsync-by .ensures))
 
 same-length : tie.Need-same-length
 same-length c = search needs
 
 returns : tie.Need-returns
 returns c =
-    let a = c .before .before .before .before .before .before .before .args in
+    let at-how = c .before .before .before in
+    let a = at-how .before .before .before .before .args in
     let part = slice (a .from) (a .to) (a .s .now) in
     c .before .before .put-part .ensures
-    ∙ ap (λ (how : How). putOf 20 (edited how false part) (a .at) (a .out .now)) (c .before .before .before .unsync-by .ensures)
-    ∙ ap (λ (u : List ℕ). putOf 20 u (a .at) (a .out .now)) (unsyncs (a .mode) false part)
+    ∙ ap (λ (how : How). putOf 20 (edited how (a .prev) part) (a .at) (a .out .now)) (at-how .unsync-by .ensures)
+    ∙ ap (λ (u : List ℕ). putOf 20 u (a .at) (a .out .now)) (unsyncs (a .mode) (a .prev) part)
 
 pub unsync-into-spec : {M : Type 1} → statement M
 unsync-into-spec = tie.close (tie.spec unsync-by-requires put-part-requires same-length returns)

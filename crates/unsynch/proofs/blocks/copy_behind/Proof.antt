@@ -39,11 +39,13 @@ same-length c = search needs
 
 returns : tie.Need-returns
 returns c =
-    let a = c .before .before .before .before .before .before .before .before .before .before .args in
+    let at-stored = c .before .before in
+    let at-copy = at-stored .before .before .before .before in
+    let a = at-copy .before .before .before .before .args in
     let part : List ℕ = slice (a .i + 1) (a .i + a .n + 1) (a .s .now) in
-    let block = slice-copy (a .s .now) (replicate 64 0) _ (a .i + 1) (a .i + a .n + 1) (a .n) (omega arith) (omega arith) (omega arith) (c .before .before .before .before .before .before .copy .ensures) in
+    let block = slice-copy (a .s .now) (replicate 64 0) _ (a .i + 1) (a .i + a .n + 1) (a .n) (omega arith) (omega arith) (omega arith) (at-copy .copy .ensures) in
     let n : a .at + a .n ≡ a .at + length part = omega (arith, length-slice (a .i + 1) (a .i + a .n + 1) (a .s .now) (omega arith)) in
-    λ j. (n j, (c .before .before .copy2 .ensures ∙ ap (sets (a .buf .now) (a .at)) block) j)
+    λ j. (n j, (at-stored .copy2 .ensures ∙ ap (sets (a .buf .now) (a .at)) block) j)
 
 pub copy-behind-spec : {M : Type 1} → statement M
 copy-behind-spec =

@@ -59,8 +59,9 @@ loop-less c = omega arith
 
 loop-again : tie.Need-loop-again Inv-loop μ-loop
 loop-again c =
-    let a = c .before .before .before .before .before .before .args in
-    let L = c .before .before .before .before .loop in
+    let at-loop = c .before .before .before .before in
+    let a = at-loop .before .before .args in
+    let L = at-loop .loop in
     let here : a .i + L .k + 1 ≡ a .i + (L .k + 1) = omega arith in
     let one = counts (a .how) (a .s .now) (a .i + L .k) (a .i + 64 + 1) (omega arith) (omega arith) (c .hit .result) (c .hit .ensures) in
     let same = ap (λ (j : ℕ). hitsAfter (a .how) (a .s .now) j (a .i + 64 + 1)) here in

@@ -22,14 +22,16 @@ abbrev μ-loop : tie.MeasureT-loop
 
 -- the store lies in the buffer, and leaves what is to be left: f says that the byte stays
 turn : (c : tie.After-shared-slice-known2 Inv-loop μ-loop)
-    → let a = c .before .before .before .before .before .args in
-    let L = c .before .before .loop in
+    → let at-loop = c .before .before in
+    let a = at-loop .before .before .before .args in
+    let L = at-loop .loop in
     (f : Bool) (q : ℕ) → f ≡ not (eqb (getD (a .s .now) (L .i) 0) 255 && eqb (getD (a .s .now) (L .i + 1) 0) 0) → q ≡ L .o + cond f 1 0
     → (L .o < length (L .buf))
     × Storing (a .buf .now) (a .at) (editedAfter resyncBy (a .s .now) (a .from) (a .to)) (set (L .buf) (L .o) (getD (a .s .now) (L .i + 1) 0)) q (editedAfter resyncBy (a .s .now) (L .i + 1) (a .to))
 turn c f q e is =
-    let a = c .before .before .before .before .before .args in
-    let L = c .before .before .loop in
+    let at-loop = c .before .before in
+    let a = at-loop .before .before .before .args in
+    let L = at-loop .loop in
     drop-turn (L .inv .2) (getD (a .s .now) (L .i + 1) 0) (editedAfter resyncBy (a .s .now) (L .i + 1) (a .to)) f q _ _
     (stays (a .s .now) (L .i) (a .to) (omega arith) (omega arith) f e)
     (λ z. next-stays (a .s .now) (L .i) (a .to) (omega arith) (omega arith) (sym e ∙ z))
@@ -63,7 +65,9 @@ bit-requires : tie.Need-bit-requires Inv-loop μ-loop
 bit-requires c κs = search needs
 
 add-o : tie.Need-add-o Inv-loop μ-loop
-add-o c = omega (arith, turn (c .before .before .before) _ _ refl refl .0, c .bit .ensures .1, c .before .before .before .before .before .loop .inv .2 .long)
+add-o c =
+    let at-byte = c .before .before .before in
+    omega (arith, turn at-byte _ _ refl refl .0, c .bit .ensures .1, at-byte .before .before .loop .inv .2 .long)
 
 add-i : tie.Need-add-i Inv-loop μ-loop
 add-i c = omega arith
@@ -73,17 +77,22 @@ loop-less c = omega arith
 
 loop-again : tie.Need-loop-again Inv-loop μ-loop
 loop-again c =
-    let L = c .before .before .before .before .before .loop in
-    (omega arith, omega arith, turn (c .before .before .before) (c .before .stays .result) _ (c .before .stays .ensures) (ap (λ (k : ℕ). L .o + k) (c .bit .ensures .0)) .1)
+    let at-byte = c .before .before .before in
+    let L = at-byte .before .before .loop in
+    (omega arith, omega arith, turn at-byte (c .before .stays .result) _ (c .before .stays .ensures) (ap (λ (k : ℕ). L .o + k) (c .bit .ensures .0)) .1)
 
 drop-last-requires : tie.Need-drop-last-requires Inv-loop μ-loop
 drop-last-requires c κs = (omega arith, lies (c .before .before .loop .inv .2))
 
 same-length : tie.Need-same-length Inv-loop μ-loop
-same-length c = c .before .before .drop-last .kept .0 ∙ c .before .before .before .before .before .loop .inv .2 .long
+same-length c =
+    let at-last = c .before .before in
+    at-last .drop-last .kept .0 ∙ at-last .before .before .before .loop .inv .2 .long
 
 returns : tie.Need-returns Inv-loop μ-loop
-returns c = c .before .before .drop-last .ensures ∙ rest (c .before .before .before .before .before .loop .inv .2)
+returns c =
+    let at-last = c .before .before in
+    at-last .drop-last .ensures ∙ rest (at-last .before .before .before .loop .inv .2)
 
 pub drop-bytes-spec : {M : Type 1} → statement M
 drop-bytes-spec =

@@ -12,12 +12,18 @@ use native.Mathlib.Omega.{arith}
 use Rattle.unsynch.proofs.loops.drop_last.Statement.{statement}
 use Rattle.unsynch.proofs.loops.drop_last.Tie as tie
 
--- the byte that is left to store where it stays
-left : (c : tie.Then2)
-    → let a = c .before .before .before .before .before .before .before .args in
+-- the byte is looked at: the arguments
+abbrev start : tie.Then2 → tie.Start
+start c =
+    let at-test = c .before .before .before .before in
+    at-test .before .before .before
+
+-- where it stays, it is left to store
+byte-left : (c : tie.Then2)
+    → let a = start c .args in
     Storing (a .buf .now) (a .at) (editedAfter resyncBy (a .s .now) (a .from) (a .to)) (a .buf .now) (a .at) (getD (a .s .now) (a .from + 1) 0 ∷ editedAfter resyncBy (a .s .now) (a .from + 1) (a .to))
-left c =
-    let a = c .before .before .before .before .before .before .before .args in
+byte-left c =
+    let a = start c .args in
     same-list (stays (a .s .now) (a .from) (a .to) (omega arith) (omega arith) true (sym (c .if2 .taken) ∙ c .before .stays .ensures)) (begin _ _ _ (omega arith))
 
 add-if1 : tie.Need-add-if1
@@ -36,7 +42,7 @@ stays-requires : tie.Need-stays-requires
 stays-requires c κs = search needs
 
 slice-write-buf : tie.Need-slice-write-buf
-slice-write-buf c = omega (arith, lies (left c))
+slice-write-buf c = omega (arith, lies (byte-left c))
 
 add-result : tie.Need-add-result
 add-result c = search needs
@@ -46,12 +52,13 @@ same-length c = search needs
 
 returns : tie.Need-returns
 returns c =
-    let a = c .before .before .before .before .before .before .before .args in
-    done (edited-end resyncBy (a .s .now) (a .from + 1) (a .to) (omega arith)) (put (left c))
+    let a = start c .args in
+    done (edited-end resyncBy (a .s .now) (a .from + 1) (a .to) (omega arith)) (put (byte-left c))
 
 returns-2 : tie.Need-returns-2
 returns-2 c =
-    let a = c .before .before .before .before .before .before .before .args in
+    let at-test = c .before .before .before .before in
+    let a = at-test .before .before .before .args in
     let goes = stays (a .s .now) (a .from) (a .to) (omega arith) (omega arith) false (sym (c .if2 .left) ∙ c .before .stays .ensures) in
     done (goes ∙ edited-end resyncBy (a .s .now) (a .from + 1) (a .to) (omega arith)) (begin _ _ _ (omega arith))
 

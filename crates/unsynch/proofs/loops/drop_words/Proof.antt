@@ -19,8 +19,9 @@ abbrev μ-loop : tie.MeasureT-loop
 
 -- where no FF was found, the eight bytes are left alone
 alone : (c : tie.After-any-ff Inv-loop μ-loop) → c .any-ff .result ≡ false
-    → let L = c .before .before .loop in
-    hitsAfter resyncBy (c .before .before .before .before .before .args .s .now) (L .i) (L .i + 8 + 1) ≡ 0
+    → let at-loop = c .before .before in
+    let L = at-loop .loop in
+    hitsAfter resyncBy (at-loop .before .before .before .args .s .now) (L .i) (L .i + 8 + 1) ≡ 0
 alone c e =
     let L = c .before .before .loop in
     no-ff resyncBy _ 8 (L .i) (L .i + 8) (omega arith) (omega arith) (sym (c .any-ff .ensures) ∙ e)
@@ -59,8 +60,10 @@ loop-less c = omega arith
 
 loop-again : tie.Need-loop-again Inv-loop μ-loop
 loop-again c =
-    let stores = c .before .before .drop-bytes in
-    let at-loop = c .before .before .before .before .before .before .before in
+    let at-store = c .before .before in
+    let stores = at-store .drop-bytes in
+    let at-test = at-store .before .before in
+    let at-loop = at-test .before .before .before in
     let a = at-loop .before .before .before .args in
     let L = at-loop .loop in
     let t = piece resyncBy (a .s .now) (L .i) (L .i + 8) (a .to) (omega arith) (omega arith) (omega arith) (L .inv .2) .1 (stores .result) (stores .last .0) (stores .ensures) in
@@ -71,22 +74,27 @@ loop-less-2 c = omega arith
 
 loop-again-2 : tie.Need-loop-again-2 Inv-loop μ-loop
 loop-again-2 c =
-    let stores = c .before .before .copy-behind in
-    let at-if = c .before .before .before .before in
-    let at-loop = at-if .before .before .before in
+    let at-store = c .before .before in
+    let stores = at-store .copy-behind in
+    let at-test = at-store .before .before in
+    let at-loop = at-test .before .before .before in
     let a = at-loop .before .before .before .args in
     let L = at-loop .loop in
-    let t = block resyncBy (a .s .now) (L .i) 8 (a .to) (omega arith) (omega arith) (alone (at-if .before) (at-if .if1 .left)) (L .inv .2) .1 (stores .result) (stores .last .0) (stores .ensures) in
+    let t = block resyncBy (a .s .now) (L .i) 8 (a .to) (omega arith) (omega arith) (alone (at-test .before) (at-test .if1 .left)) (L .inv .2) .1 (stores .result) (stores .last .0) (stores .ensures) in
     (omega arith, omega arith, t)
 
 drop-bytes-requires-2 : tie.Need-drop-bytes-requires-2 Inv-loop μ-loop
 drop-bytes-requires-2 c κs = (omega arith, lies (c .before .before .loop .inv .2))
 
 same-length : tie.Need-same-length Inv-loop μ-loop
-same-length c = c .before .before .drop-bytes2 .kept .0 ∙ c .before .before .before .before .before .loop .inv .2 .long
+same-length c =
+    let at-last = c .before .before in
+    at-last .drop-bytes2 .kept .0 ∙ at-last .before .before .before .loop .inv .2 .long
 
 returns : tie.Need-returns Inv-loop μ-loop
-returns c = c .before .before .drop-bytes2 .ensures ∙ rest (c .before .before .before .before .before .loop .inv .2)
+returns c =
+    let at-last = c .before .before in
+    at-last .drop-bytes2 .ensures ∙ rest (at-last .before .before .before .loop .inv .2)
 
 pub drop-words-spec : {M : Type 1} → statement M
 drop-words-spec =

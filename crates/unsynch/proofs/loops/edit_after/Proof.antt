@@ -27,8 +27,9 @@ hits-requires c κs = omega arith
 
 copy-behind-requires : tie.Need-copy-behind-requires Inv-loop μ-loop
 copy-behind-requires c κs =
-    let a = c .before .before .before .before .before .before .before .args in
-    let L = c .before .before .before .before .loop in
+    let at-loop = c .before .before .before .before in
+    let a = at-loop .before .before .before .args in
+    let L = at-loop .loop in
     let alone = sym (c .before .before .hits .ensures) ∙ c .before .if1 .taken in
     (omega arith, omega arith, block (a .how) (a .s .now) (L .i) 64 (a .to) (omega arith) (omega arith) alone (L .inv .4) .0)
 
@@ -40,9 +41,12 @@ loop-less c = omega arith
 
 loop-again : tie.Need-loop-again Inv-loop μ-loop
 loop-again c =
-    let a = c .before .before .before .before .before .before .before .before .before .before .args in
-    let L = c .before .before .before .before .before .before .before .loop in
-    let alone = sym (c .before .before .before .before .before .hits .ensures) ∙ c .before .before .before .before .if1 .taken in
+    let at-test = c .before .before .before .before in
+    let at-hits = at-test .before in
+    let at-loop = at-hits .before .before in
+    let a = at-loop .before .before .before .args in
+    let L = at-loop .loop in
+    let alone = sym (at-hits .hits .ensures) ∙ at-test .if1 .taken in
     let stores = c .before .before .copy-behind in
     let t = block (a .how) (a .s .now) (L .i) 64 (a .to) (omega arith) (omega arith) alone (L .inv .4) .1 (stores .result) (stores .last .0) (stores .ensures) in
     (omega arith, omega arith, omega arith, omega arith, t)
@@ -64,10 +68,13 @@ add-edit-by-byte c = omega arith
 
 edit-by-byte-requires : tie.Need-edit-by-byte-requires Inv-loop μ-loop
 edit-by-byte-requires c κs =
-    let a = c .before .before .before .before .before .before .before .before .args in
-    let L = c .before .before .before .before .before .loop in
-    let last = L .i + c .before .least .result in
-    (omega arith, (piece (a .how) (a .s .now) (L .i) last (a .to) (omega arith) (omega arith) (omega arith) (L .inv .4) .0, c .before .before .before .before .before .before .before .before .pre .1 .1))
+    let at-least = c .before in
+    let at-loop = at-least .before .before .before .before in
+    let at-start = at-loop .before .before .before in
+    let a = at-start .args in
+    let L = at-loop .loop in
+    let last = L .i + at-least .least .result in
+    (omega arith, (piece (a .how) (a .s .now) (L .i) last (a .to) (omega arith) (omega arith) (omega arith) (L .inv .4) .0, at-start .pre .1 .1))
 
 add-least : tie.Need-add-least Inv-loop μ-loop
 add-least c = omega arith
@@ -80,21 +87,30 @@ loop-less-2 c = omega arith
 
 loop-again-2 : tie.Need-loop-again-2 Inv-loop μ-loop
 loop-again-2 c =
-    let a = c .before .before .before .before .before .before .before .before .before .before .before .before .args in
-    let L = c .before .before .before .before .before .before .before .before .before .loop in
-    let last = L .i + c .before .before .before .before .before .least .result in
-    let stores = c .before .before .before .edit-by-byte in
+    let at-store = c .before .before .before in
+    let at-least = at-store .before .before in
+    let at-loop = at-least .before .before .before .before in
+    let a = at-loop .before .before .before .args in
+    let L = at-loop .loop in
+    let last = L .i + at-least .least .result in
+    let stores = at-store .edit-by-byte in
     let t = piece (a .how) (a .s .now) (L .i) last (a .to) (omega arith) (omega arith) (omega arith) (L .inv .4) .1 (stores .result) (stores .last .0) (stores .ensures) in
     (omega arith, omega arith, omega arith, omega arith, t .1)
 
 edit-by-byte-requires-2 : tie.Need-edit-by-byte-requires-2 Inv-loop μ-loop
-edit-by-byte-requires-2 c κs = (omega arith, (lies (c .before .before .loop .inv .4), c .before .before .before .before .before .pre .1 .1))
+edit-by-byte-requires-2 c κs =
+    let at-loop = c .before .before in
+    (omega arith, (lies (at-loop .loop .inv .4), at-loop .before .before .before .pre .1 .1))
 
 same-length : tie.Need-same-length Inv-loop μ-loop
-same-length c = c .before .before .edit-by-byte2 .kept .0 ∙ c .before .before .before .before .before .loop .inv .4 .long
+same-length c =
+    let at-last = c .before .before in
+    at-last .edit-by-byte2 .kept .0 ∙ at-last .before .before .before .loop .inv .4 .long
 
 returns : tie.Need-returns Inv-loop μ-loop
-returns c = c .before .before .edit-by-byte2 .ensures ∙ rest (c .before .before .before .before .before .loop .inv .4)
+returns c =
+    let at-last = c .before .before in
+    at-last .edit-by-byte2 .ensures ∙ rest (at-last .before .before .before .loop .inv .4)
 
 pub edit-after-spec : {M : Type 1} → statement M
 edit-after-spec =

@@ -25,8 +25,11 @@ add-copy c = search needs
 
 copy-requires : tie.Need-copy-requires
 copy-requires c κs =
-    let a = c .before .before .before .before .before .args in
-    let e = unchanged (a .how) (c .before .if2 .left) (c .before .before .before .before .before .pre .1 .1 .inserts (c .before .if2 .left)) (a .s .now) (a .from) (a .to) in
+    let at-test = c .before in
+    let at-start = at-test .before .before .before .before in
+    let a = at-start .args in
+    let off = at-test .if2 .left in
+    let e = unchanged (a .how) off (at-start .pre .1 .1 .inserts off) (a .s .now) (a .from) (a .to) in
     omega (arith, ap length e, length-slice (a .from + 1) (a .to) (a .s .now) (omega arith))
 
 sub-result : tie.Need-sub-result
@@ -43,26 +46,31 @@ same-length-2 c = search needs
 
 returns-2 : tie.Need-returns-2
 returns-2 c =
-    let a = c .before .before .before .before .before .before .before .before .args in
-    let z = c .before .before .before .before .if2 .left in
-    let e = unchanged (a .how) z (c .before .before .before .before .before .before .before .before .pre .1 .1 .inserts z) (a .s .now) (a .from) (a .to) in
+    let at-test = c .before .before .before .before in
+    let at-start = at-test .before .before .before .before in
+    let a = at-start .args in
+    let off = at-test .if2 .left in
+    let e = unchanged (a .how) off (at-start .pre .1 .1 .inserts off) (a .s .now) (a .from) (a .to) in
     let n : a .at + (a .to - a .from - 1) ≡ a .at + length (editedAfter (a .how) (a .s .now) (a .from) (a .to)) =
     omega (arith, ap length e, length-slice (a .from + 1) (a .to) (a .s .now) (omega arith)) in
     λ j. (n j, (c .before .before .copy .ensures ∙ ap (sets (a .buf .now) (a .at)) (sym e)) j)
 
 drop-words-requires : tie.Need-drop-words-requires
 drop-words-requires c κs =
-    let a = c .before .before .before .before .args in
-    omega (arith, ap (λ (how : How). length (editedAfter how (a .s .now) (a .from) (a .to))) (c .before .before .before .before .pre .1 .1 .drops (c .before .if1 .left)))
+    let at-start = c .before .before .before .before in
+    let a = at-start .args in
+    omega (arith, ap (λ (how : How). length (editedAfter how (a .s .now) (a .from) (a .to))) (at-start .pre .1 .1 .drops (c .before .if1 .left)))
 
 same-length-3 : tie.Need-same-length-3
 same-length-3 c = search needs
 
 returns-3 : tie.Need-returns-3
 returns-3 c =
-    let a = c .before .before .before .before .before .before .before .args in
+    let at-test = c .before .before .before .before in
+    let at-start = at-test .before .before .before in
+    let a = at-start .args in
     c .before .before .drop-words .ensures
-    ∙ ap (λ (how : How). stored (editedAfter how (a .s .now) (a .from) (a .to)) (a .at) (a .buf .now)) (sym (c .before .before .before .before .before .before .before .pre .1 .1 .drops (c .before .before .before .before .if1 .left)))
+    ∙ ap (λ (how : How). stored (editedAfter how (a .s .now) (a .from) (a .to)) (a .at) (a .buf .now)) (sym (at-start .pre .1 .1 .drops (at-test .if1 .left)))
 
 pub edit-by-byte-spec : {M : Type 1} → statement M
 edit-by-byte-spec =

@@ -24,18 +24,22 @@ sub-edit-after c = search needs
 
 edit-after-requires : tie.Need-edit-after-requires
 edit-after-requires c κs =
-    let a = c .before .before .before .before .before .before .before .args in
-    let e = in-copy (a .how) (a .area .now) (replicate 1025 0) (c .before .before .before .copy .last .0) (a .from) (a .to) (omega arith) (omega arith) (omega arith) (c .before .before .before .copy .ensures) in
-    (omega arith, (omega (arith, ap length (e .1)), c .before .before .before .before .before .before .before .pre .1 .1))
+    let at-copy = c .before .before .before in
+    let at-start = at-copy .before .before .before .before in
+    let a = at-start .args in
+    let e = in-copy (a .how) (a .area .now) (replicate 1025 0) (at-copy .copy .last .0) (a .from) (a .to) (omega arith) (omega arith) (omega arith) (at-copy .copy .ensures) in
+    (omega arith, (omega (arith, ap length (e .1)), at-start .pre .1 .1))
 
 same-length : tie.Need-same-length
 same-length c = search needs
 
 returns : tie.Need-returns
 returns c =
-    let a = c .before .before .before .before .before .before .before .before .before .before .args in
-    let e = in-copy (a .how) (a .area .now) (replicate 1025 0) (c .before .before .before .before .before .before .copy .last .0) (a .from) (a .to) (omega arith) (omega arith) (omega arith) (c .before .before .before .before .before .before .copy .ensures) in
-    c .before .before .edit-after .ensures ∙ ap (λ (l : List ℕ). stored l (a .at) (a .area .now)) (e .1)
+    let at-edit = c .before .before in
+    let at-copy = at-edit .before .before .before .before in
+    let a = at-copy .before .before .before .before .args in
+    let e = in-copy (a .how) (a .area .now) (replicate 1025 0) (at-copy .copy .last .0) (a .from) (a .to) (omega arith) (omega arith) (omega arith) (at-copy .copy .ensures) in
+    at-edit .edit-after .ensures ∙ ap (λ (l : List ℕ). stored l (a .at) (a .area .now)) (e .1)
 
 pub edit-chunk-spec : {M : Type 1} → statement M
 edit-chunk-spec =

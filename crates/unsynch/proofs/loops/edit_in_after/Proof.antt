@@ -42,18 +42,22 @@ add-edit-chunk c = omega arith
 
 edit-chunk-requires : tie.Need-edit-chunk-requires Inv-loop μ-loop
 edit-chunk-requires c κs =
-    let a = c .before .before .before .before .before .args in
-    let L = c .before .before .before .loop in
-    (omega (arith, L .inv .4 .long), (piece-in (a .how) (a .area .now) (L .i) (L .i + c .before .least .result) (a .to) (omega arith) (omega arith) (omega arith) (a .at) (omega arith) (omega arith) (L .inv .2) (L .inv .4 .long) (L .inv .3) (L .inv .4) .0, c .before .before .before .before .before .pre .1 .1))
+    let at-loop = c .before .before .before in
+    let at-start = at-loop .before .before in
+    let a = at-start .args in
+    let L = at-loop .loop in
+    (omega (arith, L .inv .4 .long), (piece-in (a .how) (a .area .now) (L .i) (L .i + c .before .least .result) (a .to) (omega arith) (omega arith) (omega arith) (a .at) (omega arith) (omega arith) (L .inv .2) (L .inv .4 .long) (L .inv .3) (L .inv .4) .0, at-start .pre .1 .1))
 
 loop-less : tie.Need-loop-less Inv-loop μ-loop
 loop-less c = omega arith
 
 loop-again : tie.Need-loop-again Inv-loop μ-loop
 loop-again c =
-    let a = c .before .before .before .before .before .before .before .before .args in
-    let L = c .before .before .before .before .before .before .loop in
-    let t = piece-in (a .how) (a .area .now) (L .i) (L .i + c .before .before .before .before .least .result) (a .to) (omega arith) (omega arith) (omega arith) (a .at) (omega arith) (omega arith) (L .inv .2) (L .inv .4 .long) (L .inv .3) (L .inv .4) .1 (c .before .before .edit-chunk .result) (c .before .before .edit-chunk .last .0) (c .before .before .edit-chunk .ensures) in
+    let at-least = c .before .before .before .before in
+    let at-loop = at-least .before .before in
+    let a = at-loop .before .before .args in
+    let L = at-loop .loop in
+    let t = piece-in (a .how) (a .area .now) (L .i) (L .i + at-least .least .result) (a .to) (omega arith) (omega arith) (omega arith) (a .at) (omega arith) (omega arith) (L .inv .2) (L .inv .4 .long) (L .inv .3) (L .inv .4) .1 (c .before .before .edit-chunk .result) (c .before .before .edit-chunk .last .0) (c .before .before .edit-chunk .ensures) in
     (omega arith, omega arith, omega arith, t .1, t .2)
 
 same-length : tie.Need-same-length Inv-loop μ-loop

@@ -46,9 +46,11 @@ loop-less c = omega arith
 
 loop-again : tie.Need-loop-again Inv-loop μ-loop
 loop-again c =
-    let a = c .before .before .before .before .before .before .before .args in
-    let L = c .before .before .before .before .before .loop in
-    omega (arith, counts (a .how) (a .s .now) (L .k) (a .to) (omega arith) (omega arith) (c .before .hit .result) (c .before .hit .ensures))
+    let at-hit = c .before in
+    let at-loop = at-hit .before .before .before .before in
+    let a = at-loop .before .before .args in
+    let L = at-loop .loop in
+    omega (arith, counts (a .how) (a .s .now) (L .k) (a .to) (omega arith) (omega arith) (at-hit .hit .result) (at-hit .hit .ensures))
 
 returns : tie.Need-returns Inv-loop μ-loop
 returns c =

@@ -23,25 +23,33 @@ abbrev μ-loop : tie.MeasureT-loop
 
 -- the edit in terms of top
 same : (c : tie.After-either Inv-loop μ-loop) → c .before .before .before .args .how ≡ guardBy (c .either .result)
-same c = guards-by _ _ (c .before .before .before .pre .0 .2) (c .before .before .before .pre .0 .3) (c .either .ensures)
+same c =
+    let at-start = c .before .before .before in
+    guards-by _ _ (at-start .pre .0 .2) (at-start .pre .0 .3) (c .either .ensures)
 
 -- the stores lie in the buffer, and leave what is to be left
 turn : (c : tie.After-bit Inv-loop μ-loop)
-    → let a = c .before .before .before .before .before .before .before .before .before .args in
-    let L = c .before .before .before .before .before .loop in
-    let how = guardBy (c .before .before .before .before .before .before .either .result) in
+    → let at-byte = c .before .before .before in
+    let at-loop = at-byte .before .before in
+    let at-either = at-loop .before in
+    let a = at-either .before .before .before .args in
+    let L = at-loop .loop in
+    let how = guardBy (at-either .either .result) in
     let q = L .o + c .bit .result in
     (L .o ≤ q)
     × (q < length (L .buf))
     × Storing (a .buf .now) (a .at) (editedAfter how (a .s .now) (a .from) (a .to))
     (set (set (L .buf) (L .o) 0) q (getD (a .s .now) (L .i + 1) 0)) (q + 1) (editedAfter how (a .s .now) (L .i + 1) (a .to))
 turn c =
-    let a = c .before .before .before .before .before .before .before .before .before .args in
-    let L = c .before .before .before .before .before .loop in
-    let top = c .before .before .before .before .before .before .either in
+    let at-byte = c .before .before .before in
+    let at-loop = at-byte .before .before in
+    let at-either = at-loop .before in
+    let a = at-either .before .before .before .args in
+    let L = at-loop .loop in
+    let top = at-either .either in
     let x = getD (a .s .now) (L .i + 1) 0 in
     let f = c .before .guarded in
-    let e = f .ensures ∙ ap (λ (g : Bool). eqb (getD (a .s .now) (L .i) 0) 255 && g) (above (a .how .high) (top .result) (top .ensures) x (omega (arith, c .before .before .before .shared-slice-known2 .given (L .i + 1)))) in
+    let e = f .ensures ∙ ap (λ (g : Bool). eqb (getD (a .s .now) (L .i) 0) 255 && g) (above (a .how .high) (top .result) (top .ensures) x (omega (arith, at-byte .shared-slice-known2 .given (L .i + 1)))) in
     insert-turn (L .inv .2) x (editedAfter (guardBy (top .result)) (a .s .now) (L .i + 1) (a .to)) (f .result) (L .o + c .bit .result)
     (comes (guardBy (top .result)) (a .s .now) (L .i) (a .to) (omega arith) (omega arith) (f .result) e refl)
     (ap (λ (k : ℕ). L .o + k) (c .bit .ensures .0))
@@ -73,7 +81,9 @@ bit-requires : tie.Need-bit-requires Inv-loop μ-loop
 bit-requires c κs = search needs
 
 add-p : tie.Need-add-p Inv-loop μ-loop
-add-p c = omega (arith, turn c .1, c .before .before .before .before .before .loop .inv .2 .long)
+add-p c =
+    let at-byte = c .before .before .before in
+    omega (arith, turn c .1, at-byte .before .before .loop .inv .2 .long)
 
 slice-write-buf : tie.Need-slice-write-buf Inv-loop μ-loop
 slice-write-buf c = omega (arith, turn c .0, turn c .1)
@@ -82,7 +92,9 @@ slice-write-buf-2 : tie.Need-slice-write-buf-2 Inv-loop μ-loop
 slice-write-buf-2 c = simp length-set (turn c .1)
 
 add-o : tie.Need-add-o Inv-loop μ-loop
-add-o c = omega (arith, turn c .1, c .before .before .before .before .before .loop .inv .2 .long)
+add-o c =
+    let at-byte = c .before .before .before in
+    omega (arith, turn c .1, at-byte .before .before .loop .inv .2 .long)
 
 add-i : tie.Need-add-i Inv-loop μ-loop
 add-i c = omega arith
@@ -98,10 +110,11 @@ same-length c = c .before .loop .inv .2 .long
 
 returns : tie.Need-returns Inv-loop μ-loop
 returns c =
-    let a = c .before .before .before .before .before .args in
+    let at-either = c .before .before in
+    let a = at-either .before .before .before .args in
     let L = c .before .loop in
-    done (edited-end (guardBy (c .before .before .either .result)) (a .s .now) (L .i) (a .to) (omega arith)) (L .inv .2)
-    ∙ ap (λ (how : How). stored (editedAfter how (a .s .now) (a .from) (a .to)) (a .at) (a .buf .now)) (sym (same (c .before .before)))
+    done (edited-end (guardBy (at-either .either .result)) (a .s .now) (L .i) (a .to) (omega arith)) (L .inv .2)
+    ∙ ap (λ (how : How). stored (editedAfter how (a .s .now) (a .from) (a .to)) (a .at) (a .buf .now)) (sym (same at-either))
 
 pub insert-bytes-spec : {M : Type 1} → statement M
 insert-bytes-spec =

@@ -6,9 +6,6 @@ use Rattle.unsynch.proofs.loops.most.Tie as tie
 add-result : tie.Need-add-result
 add-result c = search needs
 
-sub-result : tie.Need-sub-result
-sub-result c = search needs
-
 returns : tie.Need-returns
 returns c = rw (c .if1 .taken)
 
@@ -16,4 +13,4 @@ returns-2 : tie.Need-returns-2
 returns-2 c = rw (c .if1 .left)
 
 pub most-spec : {M : Type 1} → statement M
-most-spec = tie.close (tie.spec add-result sub-result returns returns-2)
+most-spec = tie.close (tie.spec add-result returns returns-2)

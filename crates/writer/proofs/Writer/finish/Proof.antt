@@ -1,6 +1,7 @@
 -- `writer::Writer::finish` meets its contract. Assumes nothing.
 use mathlib.Core.Path.{sym, _∙_}
 use Rattle.writer.proofs.Finishes.{finish-long, finish-missing, finish-done, finish-full}
+use borrow.Author.Tests.{leb-false}
 use borrow.Author.Needs.{needs}
 use Rattle.writer.proofs.Writer.finish.Statement.{statement}
 use Rattle.writer.proofs.Writer.finish.Tie as tie
@@ -19,7 +20,9 @@ returns-2 c =
     finish-missing (a .self) (a .padding) (a .buffer .now) (a .output .now) (sym (c .before .before .is-too-long .ensures) ∙ c .before .if1 .left) (c .if2 .taken)
 
 put-tag-requires : tie.Need-put-tag-requires
-put-tag-requires c κs = search needs
+put-tag-requires c κs =
+    let p = c .before in
+    leb-false _ _ (sym (p .before .before .is-too-long .ensures) ∙ p .before .if1 .left)
 
 enum-known-put : tie.Need-enum-known-put
 enum-known-put c = search needs

@@ -1,7 +1,7 @@
 -- `writer::add::append` meets its contract. Assumes nothing.
 use native.Mathlib.Omega.{arith}
 use Rattle.format.specs.Record.{Rec, recOf}
-use Rattle.writer.proofs.Adds.{head-small, no-room, room, put-behind}
+use Rattle.writer.proofs.Adds.{no-room, room, put-behind}
 use borrow.Author.Needs.{needs}
 use Rattle.writer.proofs.add.append.Statement.{statement}
 use Rattle.writer.proofs.add.append.Tie as tie
@@ -16,7 +16,7 @@ head-len-requires c κs = search needs
 add-n : tie.Need-add-n
 add-n c =
     let s = c .before .before .before .before .before .before in
-    record { fits = omega (arith, c .head-len .ensures, head-small (s .args .writer .version), s .pre .1 .1) }
+    record { fits = omega (arith, c .head-len .ensures .1, s .pre .1 .1) }
 
 is-full-requires : tie.Need-is-full-requires
 is-full-requires c κs = search needs
@@ -24,13 +24,13 @@ is-full-requires c κs = search needs
 returns : tie.Need-returns
 returns c =
     let s = c .before .before .before .before .before .before .before .before in
-    no-room (s .args .writer) (given s) (s .args .buffer .now) (c .before .before .head-len .ensures) (s .pre .1 .0) (c .before .is-full .ensures) (c .if1 .taken)
+    no-room (s .args .writer) (given s) (s .args .buffer .now) (c .before .before .head-len .ensures .0) (s .pre .1 .0) (c .before .is-full .ensures) (c .if1 .taken)
 
 put-frame-requires : tie.Need-put-frame-requires
 put-frame-requires c κs =
     let s = c .before .before .before .before .before .before .before .before .before in
-    let h = c .before .before .before .head-len .ensures in
-    (s .pre .0, (s .pre .1 .0, room (s .args .writer) (given s) (s .args .buffer .now) h (s .pre .1 .0) (c .before .before .is-full .ensures) (c .before .if1 .left)))
+    let h = c .before .before .before .head-len .ensures .0 in
+    (s .pre .0, ((s .pre .1 .0, s .pre .1 .1), room (s .args .writer) (given s) (s .args .buffer .now) h (s .pre .1 .0) (c .before .before .is-full .ensures) (c .before .if1 .left)))
 
 same-length : tie.Need-same-length
 same-length c = search needs
@@ -38,7 +38,7 @@ same-length c = search needs
 returns-2 : tie.Need-returns-2
 returns-2 c =
     let s = c .before .before .before .before .before .before .before .before .before .before .before .before in
-    let h = c .before .before .before .before .before .before .head-len .ensures in
+    let h = c .before .before .before .before .before .before .head-len .ensures .0 in
     let e = c .before .before .put-frame .ensures in
     put-behind (s .args .writer) (given s) (s .args .buffer .now) h (s .pre .1 .0) (c .before .before .before .before .before .is-full .ensures) (c .before .before .before .before .if1 .left) (e .0) (e .1)
 

@@ -7,7 +7,7 @@ use lib.Seq.{length-take-le}
 use Rattle.format.specs.Record.{contentOf}
 use Rattle.format.specs.Encode.{bodyBytes}
 use Rattle.writer.specs.Layouts.{packedOf}
-use Rattle.writer.proofs.Puts.{Writing, begin, by, piece-lies, piece-put, rest-lies, rest-put}
+use Rattle.writer.proofs.Puts.{Writing, begin, same-list, piece-lies, piece-put, rest-lies, rest-put}
 use Rattle.writer.proofs.Layouts.{few-names, references-puttable}
 use borrow.Author.Needs.{needs}
 use Rattle.writer.proofs.bodies.put_body.Statement.{statement}
@@ -28,7 +28,7 @@ all c =
     let s = c .before .before .before .before .before .before in
     let a = s .args in
     let body = bodyBytes (contentOf (a .fields) (a .name .now) (a .names .now) (a .rest .now) (a .deviations .now)) in
-    by (c .plan-of .ensures .body (a .deviations .now)) (begin (a .mode) (a .pen) body (a .buffer .now) (s .pre .1))
+    same-list (c .plan-of .ensures .body (a .deviations .now)) (begin (a .mode) (a .pen) body (a .buffer .now) (s .pre .1))
 
 -- and behind them
 last : (c : tie.After-put-pieces) → let a = c .before .before .before .before .before .before .before .before .before .before .before .before .before .args in

@@ -1,10 +1,9 @@
 -- `writer::finish::put_header` meets its contract. Assumes nothing.
 use mathlib.Core.Path.{refl, ap, _∙_}
-use Prim.Native.Nat.{_^_}
 use mathlib.Core.List.{_++_}
 use lib.Seq.{sets}
-use Rattle.format.specs.Numbers.{digits, bytesOf}
-use Rattle.writer.proofs.Heads.{digits-put}
+use Rattle.format.specs.Numbers.{bytesOf}
+use Rattle.writer.proofs.Heads.{bytes-put}
 use Rattle.writer.proofs.Finishes.{header-is}
 use borrow.Author.Needs.{needs}
 use Rattle.writer.proofs.finish.put_header.Statement.{statement}
@@ -13,8 +12,11 @@ use Rattle.writer.proofs.finish.put_header.Tie as tie
 put-digits-requires : tie.Need-put-digits-requires
 put-digits-requires c κs = search needs
 
-edition-byte-requires : tie.Need-edition-byte-requires
-edition-byte-requires c κs = search needs
+version-number-requires : tie.Need-version-number-requires
+version-number-requires c κs = search needs
+
+cast-put-digits : tie.Need-cast-put-digits
+cast-put-digits c = search needs
 
 put-digits-requires-2 : tie.Need-put-digits-requires-2
 put-digits-requires-2 c κs = search needs
@@ -25,6 +27,9 @@ flags-byte-requires c κs = search needs
 put-digits-requires-3 : tie.Need-put-digits-requires-3
 put-digits-requires-3 c κs = search needs
 
+synchsafe-word-requires : tie.Need-synchsafe-word-requires
+synchsafe-word-requires c κs = search needs
+
 put-digits-requires-4 : tie.Need-put-digits-requires-4
 put-digits-requires-4 c κs = search needs
 
@@ -33,28 +38,35 @@ same-length c = search needs
 
 returns : tie.Need-returns
 returns c =
-    let flagged = c .before .before .before .before .before .before .before in
-    let versioned = flagged .before .before .before .before .before in
-    let a = versioned .before .before .before .before .before .before .before .args in
-    let e = versioned .edition-byte in
-    let f = flagged .flags-byte in
-    let size = digits (2 ^ 7) 4 (a .size) in
-    digits-put (a .output .now) 0 256 3 0x494433 (bytesOf 1 (e .result) ++ (bytesOf 2 (f .result) ++ size)) (versioned .before .before .before .before .put-digits .ensures)
-    (digits-put _ 3 256 1 (e .result) (bytesOf 2 (f .result) ++ size) (flagged .before .before .before .before .put-digits2 .ensures)
-    (digits-put _ 4 256 2 (f .result) size (c .before .before .before .before .before .before .put-digits3 .ensures) (c .before .before .put-digits4 .ensures) refl)
+    let size-put = c .before .before in
+    let sized = size-put .before in
+    let flags-put = sized .before .before .before .before in
+    let flagged = flags-put .before in
+    let number-put = flagged .before .before .before .before in
+    let numbered = number-put .before in
+    let letters-put = numbered .before .before .before .before in
+    let a = letters-put .before .before .before .args in
+    let number = numbered .version-number in
+    let flags = flagged .flags-byte in
+    let size = bytesOf 4 (sized .synchsafe-word .result) in
+    bytes-put (a .output .now) 0 3 0x494433 (bytesOf 1 (number .result) ++ (bytesOf 2 (flags .result) ++ size)) (letters-put .put-digits .ensures)
+    (bytes-put _ 3 1 (number .result) (bytesOf 2 (flags .result) ++ size) (number-put .put-digits2 .ensures)
+    (bytes-put _ 4 2 (flags .result) size (flags-put .put-digits3 .ensures) (size-put .put-digits4 .ensures) refl)
     refl)
     refl
-    ∙ rw (e .ensures, f .ensures) (ap (sets (a .output .now) 0) (header-is (a .version) (a .mode) (a .size)))
+    ∙ rw (number .ensures, flags .ensures, sized .synchsafe-word .ensures) (ap (sets (a .output .now) 0) (header-is (a .version) (a .mode) (a .size)))
 
 pub put-header-spec : {M : Type 1} → statement M
 put-header-spec =
     tie.close
     (tie.spec
     put-digits-requires
-    edition-byte-requires
+    version-number-requires
+    cast-put-digits
     put-digits-requires-2
     flags-byte-requires
     put-digits-requires-3
+    synchsafe-word-requires
     put-digits-requires-4
     same-length
     returns)

@@ -1,7 +1,7 @@
 -- `writer::finish::put_tag` meets its contract. Assumes nothing.
 use native.Mathlib.Omega.{arith}
 use lib.ListN.{take}
-use Rattle.writer.proofs.Finishes.{Frames, tag-frames, tag-put, tag-refused}
+use Rattle.writer.proofs.Finishes.{region-length, Frames, tag-frames, tag-put, tag-refused}
 use borrow.Author.Needs.{needs}
 use Rattle.writer.proofs.finish.put_tag.Statement.{statement}
 use Rattle.writer.proofs.finish.put_tag.Tie as tie
@@ -30,7 +30,11 @@ add-put-header : tie.Need-add-put-header
 add-put-header c = omega (arith, put-told (c .before .before .before .before))
 
 put-header-requires : tie.Need-put-header-requires
-put-header-requires c κs = omega (arith, put-told (c .before .before .before .before))
+put-header-requires c κs =
+    let frames-put = c .before .before .before .before in
+    let at-start = frames-put .before .before .before .before .before .before .before .before .before .before in
+    let a = at-start .args in
+    omega (arith, put-told frames-put, region-length (a .version) (a .mode) (a .padding) (take (a .used) (a .buffer .now)), at-start .pre)
 
 add-t16 : tie.Need-add-t16
 add-t16 c = omega (arith, put-told (c .before .before .before .before .before .before .before))

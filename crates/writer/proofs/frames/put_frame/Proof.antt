@@ -10,7 +10,7 @@ put-head-requires c κs =
     let s = c .before .before .before .before .before .before in
     let a = s .args in
     let r = recOf (a .heading) (a .name .now) (a .names .now) (a .rest .now) (a .deviations .now) in
-    head-lies (a .version) (a .mode) r (a .buffer .now) (a .at) (s .pre .1 .1)
+    (head-lies (a .version) (a .mode) r (a .buffer .now) (a .at) (s .pre .1 .1), s .pre .1 .0 .1)
 
 body-mode-requires : tie.Need-body-mode-requires
 body-mode-requires c κs = search needs
@@ -21,7 +21,7 @@ put-body-requires c κs =
     let a = s .args in
     let r = recOf (a .heading) (a .name .now) (a .names .now) (a .rest .now) (a .deviations .now) in
     let h = c .before .before .before .before .put-head in
-    (s .pre .0, body-lies (a .version) (a .mode) r (a .buffer .now) (a .at) (s .pre .1 .0) (h .ensures .0) (h .ensures .1) (c .body-mode .ensures) (s .pre .1 .1))
+    (s .pre .0, body-lies (a .version) (a .mode) r (a .buffer .now) (a .at) (s .pre .1 .0 .0) (h .ensures .0) (h .ensures .1) (c .body-mode .ensures) (s .pre .1 .1))
 
 same-length : tie.Need-same-length
 same-length c = search needs
@@ -33,7 +33,7 @@ returns c =
     let r = recOf (a .heading) (a .name .now) (a .names .now) (a .rest .now) (a .deviations .now) in
     let h = c .before .before .before .before .before .before .before .put-head in
     let m = c .before .before .before .body-mode .ensures in
-    frame-put (a .version) (a .mode) r (a .buffer .now) (a .at) (s .pre .1 .0) (h .ensures .0) (h .ensures .1) m (c .before .before .put-body .ensures)
+    frame-put (a .version) (a .mode) r (a .buffer .now) (a .at) (s .pre .1 .0 .0) (h .ensures .0) (h .ensures .1) m (c .before .before .put-body .ensures)
 
 pub put-frame-spec : {M : Type 1} → statement M
 put-frame-spec =

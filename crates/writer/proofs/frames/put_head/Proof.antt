@@ -1,6 +1,5 @@
 -- `writer::frames::put_head` meets its contract. Assumes nothing.
 use mathlib.Core.Path.{refl, ap, _∙_}
-use native.Mathlib.Omega.{arith}
 use lib.Seq.{sets}
 use Rattle.writer.proofs.Heads.{long-head, plain-head}
 use borrow.Author.Needs.{needs}
@@ -11,7 +10,7 @@ enum-told : tie.Need-enum-told
 enum-told c = search needs
 
 put-short-requires : tie.Need-put-short-requires
-put-short-requires c κs = rw (c .before .enum-told .given .1) at (c .before .before .before .before .pre)
+put-short-requires c κs = rw (c .before .enum-told .given .1) at (c .before .before .before .before .pre .0)
 
 add-result : tie.Need-add-result
 add-result c = search needs
@@ -20,7 +19,7 @@ enum-told-2 : tie.Need-enum-told-2
 enum-told-2 c = search needs
 
 put-long-requires : tie.Need-put-long-requires
-put-long-requires c κs = (omega arith, rw (c .before .enum-told2 .given .1) at (c .before .before .before .before .pre))
+put-long-requires c κs = rw (c .before .enum-told2 .given .1) at (c .before .before .before .before .pre .0)
 
 add-result-2 : tie.Need-add-result-2
 add-result-2 c = search needs
@@ -28,11 +27,16 @@ add-result-2 c = search needs
 enum-told-3 : tie.Need-enum-told-3
 enum-told-3 c = search needs
 
+synchsafe-word-requires : tie.Need-synchsafe-word-requires
+synchsafe-word-requires c κs = search needs
+
 frame-flags-requires : tie.Need-frame-flags-requires
 frame-flags-requires c κs = search needs
 
 put-long-requires-2 : tie.Need-put-long-requires-2
-put-long-requires-2 c κs = (omega arith, rw (c .before .before .enum-told3 .given .1) at (c .before .before .before .before .before .pre))
+put-long-requires-2 c κs =
+    let at-edition = c .before .before .before in
+    rw (at-edition .enum-told3 .given .1) at (at-edition .before .before .before .pre .0)
 
 add-result-3 : tie.Need-add-result-3
 add-result-3 c = search needs
@@ -41,24 +45,31 @@ same-length : tie.Need-same-length
 same-length c = search needs
 
 returns : tie.Need-returns
-returns c = rw (c .before .before .before .before .enum-told .given .1) (refl, c .before .before .put-short .ensures)
+returns c =
+    let at-put = c .before .before in
+    rw (at-put .before .before .enum-told .given .1) (refl, at-put .put-short .ensures)
 
 same-length-2 : tie.Need-same-length-2
 same-length-2 c = search needs
 
 returns-2 : tie.Need-returns-2
 returns-2 c =
-    let a = c .before .before .before .before .before .before .before .args in
-    rw (c .before .before .before .before .enum-told2 .given .1) (refl, c .before .before .put-long .ensures ∙ ap (sets (a .buffer .now) (a .at)) (plain-head (a .mode) (a .id) (a .size)))
+    let at-put = c .before .before in
+    let at-edition = at-put .before .before in
+    let a = at-edition .before .before .before .args in
+    rw (at-edition .enum-told2 .given .1) (refl, at-put .put-long .ensures ∙ ap (sets (a .buffer .now) (a .at)) (plain-head (a .mode) (a .id) (a .size)))
 
 same-length-3 : tie.Need-same-length-3
 same-length-3 c = search needs
 
 returns-3 : tie.Need-returns-3
 returns-3 c =
-    let a = c .before .before .before .before .before .before .before .before .args in
-    let f = c .before .before .before .frame-flags .ensures in
-    rw (c .before .before .before .before .before .enum-told3 .given .1) (refl, c .before .before .put-long2 .ensures ∙ rw f (ap (sets (a .buffer .now) (a .at)) (long-head (a .mode) (a .id) (a .size))))
+    let at-put = c .before .before in
+    let at-size = at-put .before .before in
+    let at-edition = at-size .before .before in
+    let a = at-edition .before .before .before .args in
+    rw (at-edition .enum-told3 .given .1)
+    (refl, at-put .put-long2 .ensures ∙ rw (at-size .synchsafe-word .ensures, at-put .before .frame-flags .ensures) (ap (sets (a .buffer .now) (a .at)) (long-head (a .mode) (a .id) (a .size))))
 
 pub put-head-spec : {M : Type 1} → statement M
 put-head-spec =
@@ -71,6 +82,7 @@ put-head-spec =
     put-long-requires
     add-result-2
     enum-told-3
+    synchsafe-word-requires
     frame-flags-requires
     put-long-requires-2
     add-result-3

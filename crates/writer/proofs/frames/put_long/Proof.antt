@@ -1,10 +1,10 @@
 -- `writer::frames::put_long` meets its contract. Assumes nothing.
 use mathlib.Core.Path.{refl}
-use Prim.Native.Nat.{_+_, _^_}
+use Prim.Native.Nat.{_+_}
 use native.Mathlib.Omega.{arith}
 use mathlib.Core.List.{_++_}
-use Rattle.format.specs.Numbers.{digits, bytesOf}
-use Rattle.writer.proofs.Heads.{digits-put}
+use Rattle.format.specs.Numbers.{bytesOf}
+use Rattle.writer.proofs.Heads.{bytes-put}
 use borrow.Author.Needs.{needs}
 use Rattle.writer.proofs.frames.put_long.Statement.{statement}
 use Rattle.writer.proofs.frames.put_long.Tie as tie
@@ -30,8 +30,8 @@ same-length c = search needs
 returns : tie.Need-returns
 returns c =
     let a = c .before .before .before .before .before .before .before .before .before .before .before .before .before .args in
-    digits-put (a .buffer .now) (a .at) 256 4 (a .id) (digits (2 ^ a .bits) 4 (a .size) ++ bytesOf 2 (a .flags)) (c .before .before .before .before .before .before .before .before .before .before .put-digits .ensures)
-    (digits-put _ (a .at + 4) (2 ^ a .bits) 4 (a .size) (bytesOf 2 (a .flags)) (c .before .before .before .before .before .before .put-digits2 .ensures) (c .before .before .put-digits3 .ensures) (omega arith))
+    bytes-put (a .buffer .now) (a .at) 4 (a .id) (bytesOf 4 (a .size) ++ bytesOf 2 (a .flags)) (c .before .before .before .before .before .before .before .before .before .before .put-digits .ensures)
+    (bytes-put _ (a .at + 4) 4 (a .size) (bytesOf 2 (a .flags)) (c .before .before .before .before .before .before .put-digits2 .ensures) (c .before .before .put-digits3 .ensures) (omega arith))
     refl
 
 pub put-long-spec : {M : Type 1} → statement M

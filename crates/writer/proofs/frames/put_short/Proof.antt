@@ -1,7 +1,7 @@
 -- `writer::frames::put_short` meets its contract. Assumes nothing.
 use mathlib.Core.Path.{refl}
 use Rattle.format.specs.Numbers.{bytesOf}
-use Rattle.writer.proofs.Heads.{digits-put}
+use Rattle.writer.proofs.Heads.{bytes-put}
 use borrow.Author.Needs.{needs}
 use Rattle.writer.proofs.frames.put_short.Statement.{statement}
 use Rattle.writer.proofs.frames.put_short.Tie as tie
@@ -21,7 +21,7 @@ same-length c = search needs
 returns : tie.Need-returns
 returns c =
     let a = c .before .before .before .before .before .before .before .before .before .args in
-    digits-put (a .buffer .now) (a .at) 256 3 (a .id) (bytesOf 3 (a .size)) (c .before .before .before .before .before .before .put-digits .ensures) (c .before .before .put-digits2 .ensures) refl
+    bytes-put (a .buffer .now) (a .at) 3 (a .id) (bytesOf 3 (a .size)) (c .before .before .before .before .before .before .put-digits .ensures) (c .before .before .put-digits2 .ensures) refl
 
 pub put-short-spec : {M : Type 1} → statement M
 put-short-spec =

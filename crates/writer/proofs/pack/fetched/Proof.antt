@@ -39,14 +39,14 @@ returns c =
 shl-acc : tie.Need-shl-acc Inv-loop μ-loop
 shl-acc c = search needs
 
-mul-wide : tie.Need-mul-wide Inv-loop μ-loop
-mul-wide c = search needs
+mul-half : tie.Need-mul-half Inv-loop μ-loop
+mul-half c = search needs
 
-shared-slice-read-wide : tie.Need-shared-slice-read-wide Inv-loop μ-loop
-shared-slice-read-wide c = search needs
+shared-slice-read-half : tie.Need-shared-slice-read-half Inv-loop μ-loop
+shared-slice-read-half c = search needs
 
-wide-requires : tie.Need-wide-requires Inv-loop μ-loop
-wide-requires c κs = search needs
+half-requires : tie.Need-half-requires Inv-loop μ-loop
+half-requires c κs = search needs
 
 add-have : tie.Need-add-have Inv-loop μ-loop
 add-have c = search needs
@@ -63,8 +63,8 @@ loop-again c =
     let L = c .before .before .before .before .loop in
     let there = c .before .before .if1 .left in
     let few = c .before .before .before .loop-test .taken in (
-      taken-ready ds (L .acc) (L .have) (L .i) (L .a) (L .b) (c .wide .result) there (c .wide .ensures) few (L .inv .0),
-      taken-left ds (L .acc) (L .have) (L .i) (L .a) (L .b) (c .wide .result) there (c .wide .ensures) few (L .inv .0) ∙ L .inv .1,
+      taken-ready ds (L .acc) (L .have) (L .i) (L .a) (L .b) (c .half .result) there (c .half .ensures .0) few (L .inv .0),
+      taken-left ds (L .acc) (L .have) (L .i) (L .a) (L .b) (c .half .result) there (c .half .ensures .0) few (L .inv .0) ∙ L .inv .1,
     )
 
 returns-2 : tie.Need-returns-2 Inv-loop μ-loop
@@ -81,9 +81,9 @@ fetched-spec =
     shl-t12
     returns
     shl-acc
-    mul-wide
-    shared-slice-read-wide
-    wide-requires
+    mul-half
+    shared-slice-read-half
+    half-requires
     add-have
     add-i
     loop-less

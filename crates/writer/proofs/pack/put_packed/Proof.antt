@@ -7,7 +7,7 @@ use lib.ListN.{length}
 use Rattle.lists.proofs.Pieces.{drop-none}
 use Rattle.format.specs.Table.{pack}
 use Rattle.writer.specs.Packs.{left, Ready}
-use Rattle.writer.proofs.Puts.{Writing, begin, by, lies, put, done}
+use Rattle.writer.proofs.Puts.{Writing, begin, same-list, lies, put, done}
 use Rattle.writer.proofs.Packs.{start-ready, start-left}
 use Rattle.writer.proofs.pack.put_packed.Statement.{statement}
 use Rattle.writer.proofs.pack.put_packed.Tie as tie
@@ -29,14 +29,14 @@ loop-holds c =
     let e = start-left (a .v) (a .w) (a .ds .now) in (
       start-ready (a .v) (a .w) (a .ds .now) (s .pre .0),
       omega (arith, ap length e, c .packed-len .ensures),
-      by (sym e) (begin (a .mode) (a .pen) (pack (a .v) (a .w) (a .ds .now)) (a .buffer .now) (s .pre .1)),
+      same-list (sym e) (begin (a .mode) (a .pen) (pack (a .v) (a .w) (a .ds .now)) (a .buffer .now) (s .pre .1)),
     )
 
 next-byte-requires : tie.Need-next-byte-requires Inv-loop μ-loop
 next-byte-requires c κs = (c .before .loop .inv .0, omega (arith, c .before .loop .inv .1))
 
 put-byte-requires : tie.Need-put-byte-requires Inv-loop μ-loop
-put-byte-requires c κs = lies (by (c .before .next-byte .ensures .1) (c .before .before .before .loop .inv .2))
+put-byte-requires c κs = lies (same-list (c .before .next-byte .ensures .1) (c .before .before .before .loop .inv .2))
 
 add-k : tie.Need-add-k Inv-loop μ-loop
 add-k c = search needs
@@ -48,7 +48,7 @@ loop-again : tie.Need-loop-again Inv-loop μ-loop
 loop-again c =
     let L = c .before .before .before .before .before .before .before .loop in
     let e = c .before .before .before .before .before .next-byte .ensures in
-    (e .0, omega (arith, L .inv .1, ap length (e .1)), put (by (e .1) (L .inv .2)) (c .before .before .before .put-byte .ensures))
+    (e .0, omega (arith, L .inv .1, ap length (e .1)), put (same-list (e .1) (L .inv .2)) (c .before .before .before .put-byte .ensures))
 
 same-length : tie.Need-same-length Inv-loop μ-loop
 same-length c = c .before .loop .inv .2 .long
@@ -56,7 +56,7 @@ same-length c = c .before .loop .inv .2 .long
 returns : tie.Need-returns Inv-loop μ-loop
 returns c =
     let L = c .before .loop in
-    done (by (drop-none (left (L .bits) (c .before .before .before .before .before .args .ds .now)) 0 (omega (arith, L .inv .1))) (L .inv .2))
+    done (same-list (drop-none (left (L .bits) (c .before .before .before .before .before .args .ds .now)) 0 (omega (arith, L .inv .1))) (L .inv .2))
 
 pub put-packed-spec : {M : Type 1} → statement M
 put-packed-spec =

@@ -11,8 +11,8 @@ use Rattle.writer.proofs.pens.measure_byte.Tie as tie
 returns : tie.Need-returns
 returns c = inr (omega arith)
 
-stuffed-requires : tie.Need-stuffed-requires
-stuffed-requires c κs = search needs
+is-guarded-requires : tie.Need-is-guarded-requires
+is-guarded-requires c κs = search needs
 
 add-t8 : tie.Need-add-t8
 add-t8 c = search needs
@@ -23,13 +23,13 @@ add-t10 c = search needs
 returns-2 : tie.Need-returns-2
 returns-2 c =
     let a = c .before .before .before .args in
-    inl (sym (byte-pen (a .mode) (a .pen) (a .b) true (sym (c .if2 .taken) ∙ c .before .stuffed .ensures)))
+    inl (sym (byte-pen (a .mode) (a .pen) (a .b) true (sym (c .if2 .taken) ∙ c .before .is-guarded .ensures)))
 
 returns-3 : tie.Need-returns-3
 returns-3 c =
     let a = c .before .before .before .args in
-    inl (sym (byte-pen (a .mode) (a .pen) (a .b) false (sym (c .if2 .left) ∙ c .before .stuffed .ensures)))
+    inl (sym (byte-pen (a .mode) (a .pen) (a .b) false (sym (c .if2 .left) ∙ c .before .is-guarded .ensures)))
 
 pub measure-byte-spec : {M : Type 1} → statement M
 measure-byte-spec =
-    tie.close (tie.spec returns stuffed-requires add-t8 add-t10 returns-2 returns-3)
+    tie.close (tie.spec returns is-guarded-requires add-t8 add-t10 returns-2 returns-3)

@@ -1,9 +1,11 @@
 -- `writer::pens::measure_bytes` meets its contract. Assumes nothing.
+use mathlib.Core.Path.{ap}
 use mathlib.Core.Logic.{inl, inr}
+use Prim.Native.Nat.{ℕ, _+_}
 use native.Mathlib.Omega.{arith}
 use Rattle.format.specs.Unsynch.{guards}
 use Rattle.format.proofs.Unsynch.{unsync-longer}
-use Rattle.writer.proofs.Puts.{pen-is}
+use Rattle.writer.proofs.Puts.{pen-is, count-all}
 use borrow.Author.Needs.{needs}
 use Rattle.writer.proofs.pens.measure_bytes.Statement.{statement}
 use Rattle.writer.proofs.pens.measure_bytes.Tie as tie
@@ -16,22 +18,24 @@ returns-2 c =
     let a = c .before .before .before .args in
     inr (omega (arith, unsync-longer (guards (a .mode)) (a .pen .prev) (a .s .now)))
 
-guards-in-requires : tie.Need-guards-in-requires
-guards-in-requires c κs = search needs
+unsync-len-requires : tie.Need-unsync-len-requires
+unsync-len-requires c κs = search needs
 
 add-t9 : tie.Need-add-t9
-add-t9 c = search needs
-
-add-t10 : tie.Need-add-t10
-add-t10 c = search needs
+add-t9 c =
+    let a = c .before .before .before .before .args in
+    omega (arith, count-all (a .mode) (a .pen .prev) (a .s .now) (c .unsync-len .ensures) .1)
 
 ends-ff-requires : tie.Need-ends-ff-requires
 ends-ff-requires c κs = search needs
 
 returns-3 : tie.Need-returns-3
-returns-3 c = inl (pen-is (omega (arith, c .before .guards-in .ensures .0)) (c .ends-ff .ensures))
+returns-3 c =
+    let at-len = c .before in
+    let a = at-len .before .before .before .before .args in
+    inl (pen-is (ap (λ (n : ℕ). a .pen .at + n) (count-all (a .mode) (a .pen .prev) (a .s .now) (at-len .unsync-len .ensures) .0)) (c .ends-ff .ensures))
 
 pub measure-bytes-spec : {M : Type 1} → statement M
 measure-bytes-spec =
     tie.close
-    (tie.spec returns returns-2 guards-in-requires add-t9 add-t10 ends-ff-requires returns-3)
+    (tie.spec returns returns-2 unsync-len-requires add-t9 ends-ff-requires returns-3)

@@ -1,37 +1,85 @@
 -- `writer::pens::put_byte` meets its contract. Assumes nothing.
-use native.Mathlib.Omega.{arith}
-use Rattle.writer.proofs.Puts.{byte-room, byte-lies, byte-put}
+use mathlib.Core.Path.{refl, sym, _∙_}
+use mathlib.Core.Bool.{true, false}
+use mathlib.Core.List.{List, [], _∷_}
+use Prim.Native.Nat.{ℕ}
+use Rattle.lists.proofs.Stores.{Storing, begin, same-list, next-lies, put, done}
+use Rattle.format.specs.Unsynch.{guards, unsync, endsFF}
+use Rattle.writer.proofs.Puts.{byte-bytes, pen-put}
 use borrow.Author.Needs.{needs}
 use Rattle.writer.proofs.pens.put_byte.Statement.{statement}
 use Rattle.writer.proofs.pens.put_byte.Tie as tie
 
-stuffed-requires : tie.Need-stuffed-requires
-stuffed-requires c κs = search needs
+-- what goes in is left to store
+abbrev Left : tie.Start → List ℕ → Type 0
+Left s l = let a = s .args in Storing (a .buffer .now) (a .pen .at) (unsync (guards (a .mode)) (a .pen .prev) (a .b ∷ [])) (a .buffer .now) (a .pen .at) l
 
-put-guard-requires : tie.Need-put-guard-requires
-put-guard-requires c κs =
-    let a = c .before .before .before .args in
-    byte-room (a .mode) (a .pen) (a .b) (c .stuffed .result) (c .stuffed .ensures) (a .buffer .now) (c .before .before .before .pre)
+-- a 00 and the byte, or the byte alone
+guarded : (c : tie.Then1) → let s = c .before .before .before in Left s (0 ∷ s .args .b ∷ [])
+guarded c =
+    let at-test = c .before in
+    let at-start = at-test .before .before in
+    let a = at-start .args in
+    same-list (byte-bytes (a .mode) (a .pen) (a .b) true (sym (c .if1 .taken) ∙ at-test .is-guarded .ensures)) (begin _ _ _ (at-start .pre))
+
+plain : (c : tie.Else1) → let s = c .before .before .before in Left s (s .args .b ∷ [])
+plain c =
+    let at-test = c .before in
+    let at-start = at-test .before .before in
+    let a = at-start .args in
+    same-list (byte-bytes (a .mode) (a .pen) (a .b) false (sym (c .if1 .left) ∙ at-test .is-guarded .ensures)) (begin _ _ _ (at-start .pre))
+
+is-guarded-requires : tie.Need-is-guarded-requires
+is-guarded-requires c κs = search needs
 
 slice-write-buffer : tie.Need-slice-write-buffer
-slice-write-buffer c =
-    let a = c .before .before .before .before .before .before .args in
-    let f = c .before .before .before .stuffed in
-    byte-lies (a .mode) (a .pen) (a .b) (f .result) (f .ensures) (a .buffer .now) (c .before .before .before .before .before .before .pre) (c .before .before .put-guard .ensures)
+slice-write-buffer c = next-lies (guarded c)
+
+add-next : tie.Need-add-next
+add-next c = search needs
+
+slice-write-buffer-2 : tie.Need-slice-write-buffer-2
+slice-write-buffer-2 c = next-lies (put (guarded c))
 
 add-t10 : tie.Need-add-t10
-add-t10 c = omega (arith, slice-write-buffer c)
+add-t10 c = search needs
 
 same-length : tie.Need-same-length
 same-length c = search needs
 
 returns : tie.Need-returns
+unfolding endsFF
 returns c =
-    let a = c .before .before .before .before .before .before .args in
-    let f = c .before .before .before .stuffed in
-    byte-put (a .mode) (a .pen) (a .b) (f .result) (f .ensures) (a .buffer .now) (c .before .before .put-guard .ensures)
+    let a = c .before .before .before .args in
+    pen-put (a .mode) (a .pen) (a .b ∷ []) (a .buffer .now) (done refl (put (put (guarded c)))) refl
+
+slice-write-buffer-3 : tie.Need-slice-write-buffer-3
+slice-write-buffer-3 c = next-lies (plain c)
+
+add-t13 : tie.Need-add-t13
+add-t13 c = search needs
+
+same-length-2 : tie.Need-same-length-2
+same-length-2 c = search needs
+
+returns-2 : tie.Need-returns-2
+unfolding endsFF
+returns-2 c =
+    let a = c .before .before .before .args in
+    pen-put (a .mode) (a .pen) (a .b ∷ []) (a .buffer .now) (done refl (put (plain c))) refl
 
 pub put-byte-spec : {M : Type 1} → statement M
 put-byte-spec =
     tie.close
-    (tie.spec stuffed-requires put-guard-requires slice-write-buffer add-t10 same-length returns)
+    (tie.spec
+    is-guarded-requires
+    slice-write-buffer
+    add-next
+    slice-write-buffer-2
+    add-t10
+    same-length
+    returns
+    slice-write-buffer-3
+    add-t13
+    same-length-2
+    returns-2)

@@ -1,76 +1,61 @@
 -- `writer::pens::put_bytes` meets its contract. Assumes nothing.
-use mathlib.Core.Path.{ap}
 use native.Mathlib.Omega.{arith}
-use lib.ListN.{length}
-use Rattle.writer.proofs.Puts.{off-bytes}
+use Rattle.writer.proofs.Puts.{count-put, bytes-put, not-refused}
 use borrow.Author.Needs.{needs}
 use Rattle.writer.proofs.pens.put_bytes.Statement.{statement}
 use Rattle.writer.proofs.pens.put_bytes.Tie as tie
 
-enum-told : tie.Need-enum-told
-enum-told c = search needs
+unsync-into-requires : tie.Need-unsync-into-requires
+unsync-into-requires c κs = search needs
 
-put-plain-requires : tie.Need-put-plain-requires
-put-plain-requires c κs =
-    let a = c .before .before .before .before .before .args in
-    omega (arith, ap length (off-bytes (c .before .enum-told .given .1) (a .pen .prev) (a .s .now)))
+enum-known-put : tie.Need-enum-known-put
+enum-known-put c = search needs
 
-add-t10 : tie.Need-add-t10
-add-t10 c = search needs
+add-t13 : tie.Need-add-t13
+add-t13 c =
+    let at-put = c .before in
+    let at-into = at-put .before .before .before .before in
+    let at-start = at-into .before .before .before .before in
+    let a = at-start .args in
+    omega (arith, count-put (a .mode) (a .pen) (a .s .now) (a .buffer .now) (at-start .pre) (at-into .unsync-into .ensures) (at-put .put .given .1), at-start .pre)
 
 ends-ff-requires : tie.Need-ends-ff-requires
 ends-ff-requires c κs = search needs
 
-enum-told-2 : tie.Need-enum-told-2
-enum-told-2 c = search needs
-
-put-guarded-requires : tie.Need-put-guarded-requires
-put-guarded-requires c κs = search needs
-
-enum-told-3 : tie.Need-enum-told-3
-enum-told-3 c = search needs
-
-put-guarded-requires-2 : tie.Need-put-guarded-requires-2
-put-guarded-requires-2 c κs = search needs
+enum-told : tie.Need-enum-told
+enum-told c = search needs
 
 same-length : tie.Need-same-length
 same-length c = search needs
 
 returns : tie.Need-returns
 returns c =
-    let a = c .before .before .before .before .before .before .before .before .before .before .args in
-    let e = off-bytes (c .before .before .before .before .before .before .enum-told .given .1) (a .pen .prev) (a .s .now) in
-    let f = c .ends-ff .ensures in
-    let g = c .before .before .before .before .put-plain .ensures in
-    cc
+    let at-put = c .before .before in
+    let at-into = at-put .before .before .before .before in
+    let at-start = at-into .before .before .before .before in
+    let a = at-start .args in
+    bytes-put (a .mode) (a .pen) (a .s .now) (a .buffer .now) (at-start .pre) (at-into .unsync-into .ensures) (at-put .put .given .1) (c .ends-ff .ensures)
 
 same-length-2 : tie.Need-same-length-2
 same-length-2 c = search needs
 
 returns-2 : tie.Need-returns-2
-returns-2 c = search needs
-
-same-length-3 : tie.Need-same-length-3
-same-length-3 c = search needs
-
-returns-3 : tie.Need-returns-3
-returns-3 c = search needs
+returns-2 c =
+    let at-into = c .before .before .before .before in
+    let at-start = at-into .before .before .before .before in
+    let a = at-start .args in
+    absurd (not-refused (a .mode) (a .pen) (a .s .now) (a .buffer .now) (at-start .pre) (at-into .unsync-into .ensures) (c .enum-told .given .1))
 
 pub put-bytes-spec : {M : Type 1} → statement M
 put-bytes-spec =
     tie.close
     (tie.spec
-    enum-told
-    put-plain-requires
-    add-t10
+    unsync-into-requires
+    enum-known-put
+    add-t13
     ends-ff-requires
-    enum-told-2
-    put-guarded-requires
-    enum-told-3
-    put-guarded-requires-2
+    enum-told
     same-length
     returns
     same-length-2
-    returns-2
-    same-length-3
-    returns-3)
+    returns-2)

@@ -1,0 +1,25 @@
+-- `unsynch::is_guarded` meets its contract. Assumes nothing.
+use mathlib.Core.Path.{ap, _∙_}
+use mathlib.Core.Bool.{Bool, _&&_}
+use Rattle.unsynch.specs.declared.loops.How.{How}
+use Rattle.unsynch.specs.Edits.{concerns}
+use Rattle.unsynch.proofs.Edits.{guarded}
+use borrow.Author.Needs.{needs}
+use Rattle.unsynch.proofs.is_guarded.Statement.{statement}
+use Rattle.unsynch.proofs.is_guarded.Tie as tie
+
+unsync-by-requires : tie.Need-unsync-by-requires
+unsync-by-requires c κs = search needs
+
+hit-requires : tie.Need-hit-requires
+hit-requires c κs = search needs
+
+returns : tie.Need-returns
+returns c =
+    let a = c .before .before .args in
+    c .hit .ensures
+    ∙ ap (λ (how : How). a .prev && concerns how (a .b)) (c .before .unsync-by .ensures)
+    ∙ ap (λ (g : Bool). a .prev && g) (guarded (a .mode) (a .b))
+
+pub is-guarded-spec : {M : Type 1} → statement M
+is-guarded-spec = tie.close (tie.spec unsync-by-requires hit-requires returns)
