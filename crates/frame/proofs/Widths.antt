@@ -25,7 +25,6 @@ pub record Widths (v w sum : ℕ) : Type 0 where
   pub is : sum ≡ v + w
   pub first-least : 1 ≤ v
   pub first-most : v ≤ 32
-  pub second-least : 1 ≤ w
   pub second-most : w ≤ 32
 
 pub both-widths : (v w : ℕ) → (isWidth v && isWidth w) ≡ true → Widths v w (v + w)
@@ -33,7 +32,7 @@ both-widths v w h =
     let t = and-true (isWidth v) (isWidth w) h in
     let a = width-bounds v (t .0) in
     let b = width-bounds w (t .1) in
-    record { both = h; is = refl; first-least = a .0; first-most = a .1; second-least = b .0; second-most = b .1 }
+    record { both = h; is = refl; first-least = a .0; first-most = a .1; second-most = b .1 }
 
 by-test : (v w sum : ℕ) (t : Bool) → (isWidth v && isWidth w) ≡ t → sum ≡ pick t (v + w) 0 → (sum ≡ 0 → ⊥) → Widths v w sum
 by-test v w sum true h e some = rw e (both-widths v w h)

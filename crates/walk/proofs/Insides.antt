@@ -8,7 +8,7 @@ use mathlib.Core.List.{List}
 use lib.ListN.{length, drop, getD, drop-of-length-le}
 use lib.Seq.{slice}
 use lib.Dec.{eqb}
-use borrow.Author.Tests.{eqb-true, ne-eqb, eq-eqb, le-leb, lt-leb}
+use borrow.Author.Tests.{eqb-true, ne-eqb}
 use Rattle.lists.proofs.Slices.{slice-drop, slice-next}
 use Rattle.format.specs.Bytes.{pick, first}
 use Rattle.format.specs.Record.{bodyRefusal, runOf, partsOf}
@@ -110,20 +110,6 @@ module _ (kind : Kind) (from to place : ℕ) (s : List ℕ) (e : Inside.Run plac
       rw (l .0, r)
 
 -- ---- text
-
-module _ (b : List ℕ) where
-  pub text-empty : length b ≡ 0 → bodyRefusal Kind.Text b ≡ 11
-  unfolding bodyRefusal first
-  text-empty h = rw (eq-eqb (length b) 0 h)
-
-  module _ (some : length b ≡ 0 → ⊥) where
-    pub text-unknown : 4 ≤ getD b 0 0 → bodyRefusal Kind.Text b ≡ 12
-    unfolding bodyRefusal first
-    text-unknown h = rw (ne-eqb (length b) 0 some, le-leb 4 (getD b 0 0) h)
-
-    pub text-known : getD b 0 0 < 4 → bodyRefusal Kind.Text b ≡ 0
-    unfolding bodyRefusal first
-    text-known h = rw (ne-eqb (length b) 0 some, lt-leb 4 (getD b 0 0) h)
 
 -- the first byte of a part
 pub first-byte : (from to : ℕ) (s : List ℕ) → from < to → to ≤ length s → getD (slice from to s) 0 0 ≡ getD s from 0

@@ -1,4 +1,4 @@
--- `writer::ids::are_id_bytes` meets its contract. Assumes nothing.
+-- `checks::ids::are_id_bytes` meets its contract. Assumes nothing.
 use mathlib.Core.Path.{sym, _∙_}
 use borrow.Author.Tests.{not-true, not-false}
 use Rattle.checks.proofs.Headings.{three-bytes}

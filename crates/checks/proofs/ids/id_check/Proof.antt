@@ -1,4 +1,4 @@
--- `writer::ids::id_check` meets its contract: the id, then the kind under it, then the marks. Assumes nothing.
+-- `checks::ids::id_check` meets its contract: the id, then the kind under it, then the marks. Assumes nothing.
 use mathlib.Core.Path.{_≡_, refl, sym, ap, _∙_}
 use mathlib.Core.List.{List, [], _∷_}
 use Prim.Native.Nat.{ℕ}

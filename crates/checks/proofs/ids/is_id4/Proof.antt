@@ -1,4 +1,4 @@
--- `writer::ids::is_id4` meets its contract: every id has four bytes. Assumes nothing.
+-- `checks::ids::is_id4` meets its contract: every id has four bytes. Assumes nothing.
 use mathlib.Core.Path.{_≡_}
 use mathlib.Core.Bool.{true}
 use Prim.Native.Nat.{_^_}

@@ -1,4 +1,4 @@
--- `writer::ids::is_lost` meets its contract: the tables are the definition's lists. Assumes nothing.
+-- `checks::ids::is_lost` meets its contract: the tables are the definition's lists. Assumes nothing.
 use borrow.Author.Tests.{not-true, not-false}
 use borrow.Author.Needs.{needs}
 use Rattle.checks.proofs.ids.is_lost.Statement.{statement}

@@ -1,4 +1,4 @@
--- `writer::checks::record_check` meets its contract: the heading, then the early checks, then the late ones. Assumes nothing.
+-- `checks::checks::record_check` meets its contract: the heading, then the early checks, then the late ones. Assumes nothing.
 use mathlib.Core.Path.{sym, _∙_}
 use Rattle.checks.proofs.Firsts.{refused, passed}
 use Rattle.checks.proofs.Order.{in-steps}

@@ -1,4 +1,4 @@
--- `writer::checks::run_check` meets its contract. Assumes nothing.
+-- `checks::checks::run_check` meets its contract. Assumes nothing.
 use mathlib.Core.Path.{_≡_, sym, ap, _∙_}
 use mathlib.Core.Bool.{true}
 use mathlib.Core.List.{List, []}

@@ -1,4 +1,4 @@
--- `writer::tables::all_fit` meets its contract: whether the rest fits is whether the whole fits. Assumes nothing.
+-- `checks::tables::all_fit` meets its contract: whether the rest fits is whether the whole fits. Assumes nothing.
 use mathlib.Core.Path.{_≡_, refl, sym, _∙_}
 use Prim.Native.Nat.{_-_, _≤_}
 use native.Mathlib.Omega.{arith}

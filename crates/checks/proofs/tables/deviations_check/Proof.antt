@@ -1,4 +1,4 @@
--- `writer::tables::deviations_check` meets its contract: the deviations, then the steps, then 34. Assumes nothing.
+-- `checks::tables::deviations_check` meets its contract: the deviations, then the steps, then 34. Assumes nothing.
 use mathlib.Core.Path.{_≡_, sym, _∙_}
 use mathlib.Core.Bool.{true, _&&_}
 use Prim.Native.Nat.{_%_, _^_}
@@ -52,9 +52,6 @@ returns-4 c =
     let over = sym (c .before .fits3 .ensures) ∙ not-true _ (c .if4 .taken) in
     rw (fitting (c .before .before .before .before), short (c .before .before), over)
 
-sum-of-requires : tie.Need-sum-of-requires
-sum-of-requires c κs = search needs
-
 odd-check-requires : tie.Need-odd-check-requires
 odd-check-requires c κs = search needs
 
@@ -75,6 +72,5 @@ deviations-check-spec =
     returns-3
     fits-requires-2
     returns-4
-    sum-of-requires
     odd-check-requires
     returns-5)

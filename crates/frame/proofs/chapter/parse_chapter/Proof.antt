@@ -24,29 +24,29 @@ returns c v =
     let z = c .before .zero-at in
     refused v Kind.Chapter (a .from) (b .result .now) _ (b .ensures) 10 (chapter-cut (b .result .now) (z .result) (z .ensures) (c .if1 .taken))
 
-add-time : tie.Need-add-time
-add-time c = search needs
+add-read32 : tie.Need-add-read32
+add-read32 c = search needs
 
-time-requires : tie.Need-time-requires
-time-requires c κs = search needs
+read32-requires : tie.Need-read32-requires
+read32-requires c κs = search needs
 
-add-time-2 : tie.Need-add-time-2
-add-time-2 c = search needs
+add-read32-2 : tie.Need-add-read32-2
+add-read32-2 c = search needs
 
-time-requires-2 : tie.Need-time-requires-2
-time-requires-2 c κs = search needs
+read32-requires-2 : tie.Need-read32-requires-2
+read32-requires-2 c κs = search needs
 
-add-time-3 : tie.Need-add-time-3
-add-time-3 c = search needs
+add-read32-3 : tie.Need-add-read32-3
+add-read32-3 c = search needs
 
-time-requires-3 : tie.Need-time-requires-3
-time-requires-3 c κs = search needs
+read32-requires-3 : tie.Need-read32-requires-3
+read32-requires-3 c κs = search needs
 
-add-time-4 : tie.Need-add-time-4
-add-time-4 c = search needs
+add-read32-4 : tie.Need-add-read32-4
+add-read32-4 c = search needs
 
-time-requires-4 : tie.Need-time-requires-4
-time-requires-4 c κs = search needs
+read32-requires-4 : tie.Need-read32-requires-4
+read32-requires-4 c κs = search needs
 
 add-start : tie.Need-add-start
 add-start c =
@@ -70,10 +70,10 @@ returns-2 c v =
     accepted v Kind.Chapter (a .from) (b .result .now) _ (b .ensures) _
     (chapter-whole (b .result .now) (z .result) (z .ensures) (c .before .before .before .before .before .if1 .left))
     (chapter-parts (b .result .now) (z .result) (z .ensures) v (a .from) _ _ _ _ (none .result)
-    (c .before .before .before .before .time .ensures)
-    (c .before .before .before .time2 .ensures)
-    (c .before .before .time3 .ensures)
-    (c .before .time4 .ensures)
+    (c .before .before .before .before .read32 .ensures)
+    (c .before .before .before .read322 .ensures)
+    (c .before .before .read323 .ensures)
+    (c .before .read324 .ensures)
     (none .ensures))
 
 pub parse-chapter-spec : {M : Type 1} → statement M
@@ -84,14 +84,14 @@ parse-chapter-spec =
     zero-at-requires
     add-run
     returns
-    add-time
-    time-requires
-    add-time-2
-    time-requires-2
-    add-time-3
-    time-requires-3
-    add-time-4
-    time-requires-4
+    add-read32
+    read32-requires
+    add-read32-2
+    read32-requires-2
+    add-read32-3
+    read32-requires-3
+    add-read32-4
+    read32-requires-4
     add-start
     sub-left
     nowhere-requires

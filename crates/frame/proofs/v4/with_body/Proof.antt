@@ -28,8 +28,8 @@ add-start c = search needs
 frame-size-requires : tie.Need-frame-size-requires
 frame-size-requires c κs = search needs
 
-less-requires : tie.Need-less-requires
-less-requires c κs = search needs
+beyond-requires : tie.Need-beyond-requires
+beyond-requires c κs = search needs
 
 returns : tie.Need-returns
 returns c depth shallow =
@@ -58,7 +58,7 @@ returns-2 c depth shallow =
     let n = c .before .before .before .before .before .before .before in
     let there = c .before .before .before .before .if1 .left in
     let whole = c .before .before .before .before .before .before .frame-size in
-    let size = c .before .before .before .before .before .less in
+    let size = c .before .before .before .before .before .beyond in
     let id = c .before .read32 in
     let compressed = c .before .before .before .has2 in
     let flagged = c .before .before .has3 in
@@ -75,7 +75,7 @@ with-body-spec =
     length-bytes-requires
     add-start
     frame-size-requires
-    less-requires
+    beyond-requires
     returns
     sub-left
     has-requires-2

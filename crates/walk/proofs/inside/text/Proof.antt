@@ -5,7 +5,8 @@ use native.Mathlib.Omega.{arith}
 use lib.ListN.{length}
 use lib.Seq.{slice, length-slice}
 use Rattle.format.specs.declared.Kind.{Kind}
-use Rattle.walk.proofs.Insides.{refused-inside, runs-inside, text-empty, text-unknown, text-known, first-byte, text-runs}
+use Rattle.frame.proofs.Bodies.{text-empty, text-unknown, text-known}
+use Rattle.walk.proofs.Insides.{refused-inside, runs-inside, first-byte, text-runs}
 use borrow.Author.Needs.{needs}
 use Rattle.walk.proofs.inside.text.Statement.{statement}
 use Rattle.walk.proofs.inside.text.Tie as tie

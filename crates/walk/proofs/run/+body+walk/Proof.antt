@@ -27,7 +27,7 @@ use Rattle.walk.proofs.run.walk.Reads as walk
 use Rattle.walk.proofs.run.walk.Kinds as walk-kinds
 use Rattle.walk.proofs.run.+body+walk.Lts-walk as walk-lts
 use Rattle.unsynch.proofs.resync_into.Reads as resync-into-reads
-use Rattle.walk.proofs.choices.least.Reads as least-reads
+use Rattle.format.proofs.small.least.Reads as least-reads
 use Rattle.walk.proofs.inside.look.Reads as look-reads
 use Rattle.walk.proofs.run.shown_in.Reads as shown-in-reads
 use Rattle.walk.proofs.steps.step_at.Reads as step-at-reads

@@ -31,7 +31,7 @@ use Rattle.walk.proofs.run.walk_in.Reads as walk-in
 use Rattle.walk.proofs.run.walk_in.Kinds as walk-in-kinds
 use Rattle.walk.proofs.run.+body_in+shown_in+walk_in.Lts-walk_in as walk-in-lts
 use Rattle.unsynch.proofs.resync_in.Reads as resync-in-reads
-use Rattle.walk.proofs.choices.least.Reads as least-reads
+use Rattle.format.proofs.small.least.Reads as least-reads
 use Rattle.walk.proofs.inside.look.Reads as look-reads
 use Rattle.walk.proofs.steps.step_at.Reads as step-at-reads
 use Rattle.walk.proofs.run.+body_in+shown_in+walk_in.{statement}
