@@ -52,14 +52,19 @@ returns-4 c =
     let over = sym (c .before .fits3 .ensures) ∙ not-true _ (c .if4 .taken) in
     rw (fitting (c .before .before .before .before), short (c .before .before), over)
 
+add-odd-check : tie.Need-add-odd-check
+add-odd-check c = search needs
+
 odd-check-requires : tie.Need-odd-check-requires
 odd-check-requires c κs = search needs
 
 returns-5 : tie.Need-returns-5
 unfolding first
 returns-5 c =
-    let brief = sym (c .before .before .before .fits3 .ensures) ∙ not-false _ (c .before .before .if4 .left) in
-    rw (fitting (c .before .before .before .before .before .before), short (c .before .before .before .before), brief, ← c .before .sum-of .ensures) (c .odd-check .ensures ∙ sym (only _))
+    let at-brief = c .before in
+    let at-short = at-brief .before .before in
+    let brief = sym (at-brief .before .fits3 .ensures) ∙ not-false _ (at-brief .if4 .left) in
+    rw (fitting (at-short .before .before), short at-short, brief) (c .odd-check .ensures ∙ sym (only _))
 
 pub deviations-check-spec : {M : Type 1} → statement M
 deviations-check-spec =
@@ -72,5 +77,6 @@ deviations-check-spec =
     returns-3
     fits-requires-2
     returns-4
+    add-odd-check
     odd-check-requires
     returns-5)
