@@ -42,11 +42,11 @@ pub widths : (v w sum : ℕ) → sum ≡ sumOf v w → (sum ≡ 0 → ⊥) → W
 widths v w sum e some = by-test v w sum (isWidth v && isWidth w) refl e some
 
 pub no-widths : (v w sum : ℕ) → sum ≡ sumOf v w → sum ≡ 0 → (isWidth v && isWidth w) ≡ false
-no-widths v w sum e none = by (isWidth v && isWidth w) refl (sym e ∙ none)
+no-widths v w sum e none = by-widths (isWidth v && isWidth w) refl (sym e ∙ none)
   where
-    by : (t : Bool) → (isWidth v && isWidth w) ≡ t → pick t (v + w) 0 ≡ 0 → t ≡ false
-    by true h z = let d = both-widths v w h in absurd (omega (arith, d .first-least))
-    by false h z = refl
+    by-widths : (t : Bool) → (isWidth v && isWidth w) ≡ t → pick t (v + w) 0 ≡ 0 → t ≡ false
+    by-widths true h z = let d = both-widths v w h in absurd (omega (arith, d .first-least))
+    by-widths false h z = refl
 
 -- ---- the checks
 

@@ -81,21 +81,21 @@ module _ (kind : Kind) (at : ℕ) (b : List ℕ) where
   -- what an answer says
   pub looked-refused : (k : ℕ) (go : List ℕ → List ℕ → Out) (room : List ℕ) → Inside.Refused k ≡ insideAt kind at b → insideOf go kind b room ≡ (k, room)
   unfolding insideAt insideOf
-  looked-refused k go room e = by (eqb (bodyRefusal kind b) 0) e
+  looked-refused k go room e = on-refusal (eqb (bodyRefusal kind b) 0) e
     where
-      by : (t : Bool) → Inside.Refused k ≡ pick t (Inside.Run (at + runStart kind b)) (Inside.Refused (bodyRefusal kind b))
+      on-refusal : (t : Bool) → Inside.Refused k ≡ pick t (Inside.Run (at + runStart kind b)) (Inside.Refused (bodyRefusal kind b))
           → pick t (go (runOf kind b) room) (bodyRefusal kind b, room) ≡ (k, room)
-      by true h = absurd (let z : _≡_ {A = ℕ} 0 1 = cc in omega arith)
-      by false h = let z : bodyRefusal kind b ≡ k = cc in ap {B = Out} (λ (j : ℕ). (j, room)) z
+      on-refusal true h = absurd (let z : _≡_ {A = ℕ} 0 1 = cc in omega arith)
+      on-refusal false h = let z : bodyRefusal kind b ≡ k = cc in ap {B = Out} (λ (j : ℕ). (j, room)) z
 
   pub looked-run : (place : ℕ) → Inside.Run place ≡ insideAt kind at b → (bodyRefusal kind b ≡ 0) × (place ≡ at + runStart kind b)
   unfolding insideAt
-  looked-run place e = by (eqb (bodyRefusal kind b) 0) refl e
+  looked-run place e = on-refusal (eqb (bodyRefusal kind b) 0) refl e
     where
-      by : (t : Bool) → eqb (bodyRefusal kind b) 0 ≡ t → Inside.Run place ≡ pick t (Inside.Run (at + runStart kind b)) (Inside.Refused (bodyRefusal kind b))
+      on-refusal : (t : Bool) → eqb (bodyRefusal kind b) 0 ≡ t → Inside.Run place ≡ pick t (Inside.Run (at + runStart kind b)) (Inside.Refused (bodyRefusal kind b))
           → (bodyRefusal kind b ≡ 0) × (place ≡ at + runStart kind b)
-      by true f h = (eqb-true _ _ f, cc)
-      by false f h = absurd (let z : _≡_ {A = ℕ} 0 1 = cc in omega arith)
+      on-refusal true f h = (eqb-true _ _ f, cc)
+      on-refusal false f h = absurd (let z : _≡_ {A = ℕ} 0 1 = cc in omega arith)
 
 -- a body in a list: its run is what lies from the answer to the body's end
 module _ (kind : Kind) (from to place : ℕ) (s : List ℕ) (e : Inside.Run place ≡ insideAt kind from (slice from to s)) where

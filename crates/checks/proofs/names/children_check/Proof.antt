@@ -10,16 +10,22 @@ last-byte-requires : tie.Need-last-byte-requires
 last-byte-requires c κs = search needs
 
 returns : tie.Need-returns
-returns c = sym (not-closed (c .before .before .before .args .children .now) (omega arith))
+returns c =
+    let at-start = c .before .before .before in
+    sym (not-closed (at-start .args .children .now) (omega arith))
 
 zeros-in-requires : tie.Need-zeros-in-requires
 zeros-in-requires c κs = search needs
 
 returns-2 : tie.Need-returns-2
-returns-2 c = sym (too-many (c .before .before .before .before .before .args .children .now) (omega arith))
+returns-2 c =
+    let at-start = c .before .before .before .before .before in
+    sym (too-many (at-start .args .children .now) (omega arith))
 
 returns-3 : tie.Need-returns-3
-returns-3 c = sym (all-closed (c .before .before .before .before .before .args .children .now) (omega arith) (omega arith))
+returns-3 c =
+    let at-start = c .before .before .before .before .before in
+    sym (all-closed (at-start .args .children .now) (omega arith) (omega arith))
 
 pub children-check-spec : {M : Type 1} → statement M
 children-check-spec =

@@ -49,8 +49,9 @@ fits-requires-2 c κs = search needs
 returns-4 : tie.Need-returns-4
 unfolding first
 returns-4 c =
+    let at-before = c .before .before .before in
     let over = sym (c .before .fits3 .ensures) ∙ not-true _ (c .if4 .taken) in
-    rw (fitting (c .before .before .before .before), short (c .before .before), over)
+    rw (fitting (at-before .before), short (c .before .before), over)
 
 add-odd-check : tie.Need-add-odd-check
 add-odd-check c = search needs

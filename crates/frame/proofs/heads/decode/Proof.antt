@@ -60,7 +60,8 @@ returns c =
 
 shared-slice-read-if2 : tie.Need-shared-slice-read-if2
 shared-slice-read-if2 c =
-    let at-start = c .before .before .before .before .before in
+    let at-before = c .before .before .before .before in
+    let at-start = at-before .before in
     omega (arith, c .before .before .head-len .ensures .0, head-some (at-start .args .version))
 
 returns-2 : tie.Need-returns-2
@@ -77,7 +78,8 @@ first-refusal-requires c κs = search needs
 
 returns-3 : tie.Need-returns-3
 returns-3 c =
-    let at-part = c .before .before .before .before .before .before in
+    let at-before = c .before .before .before .before .before in
+    let at-part = at-before .before in
     let a = at-part .before .before .args in
     refused-first (checked (c .before)) (c .if3 .taken) ∙ ap (headOf (a .version) (a .depth)) (at-part .part .ensures)
 

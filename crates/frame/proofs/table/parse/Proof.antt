@@ -13,7 +13,8 @@ part-requires c κs = search needs
 
 returns : tie.Need-returns
 returns c v =
-    let a = c .before .before .before .args in
+    let at-start = c .before .before .before in
+    let a = at-start .args in
     let b = c .before .part in
     refused v Kind.Table (a .from) (b .result .now) _ (b .ensures) 10 (table-cut (b .result .now) (c .if1 .taken))
 
@@ -28,11 +29,14 @@ widths-refusal-requires c κs = search needs
 
 returns-2 : tie.Need-returns-2
 returns-2 c v =
-    let a = c .before .before .before .before .before .before .before .args in
-    let b = c .before .before .before .before .before .part in
+    let at-if1 = c .before .before .before .before in
+    let at-part = at-if1 .before in
+    let at-start = at-part .before .before in
+    let a = at-start .args in
+    let b = at-part .part in
     let no = c .before .widths-refusal in
     refused-as v Kind.Table (a .from) (b .result .now) _ (b .ensures) (no .result)
-    (table-checked (b .result .now) (c .before .before .before .before .if1 .left) ∙ sym (no .ensures)) (c .if2 .taken)
+    (table-checked (b .result .now) (at-if1 .if1 .left) ∙ sym (no .ensures)) (c .if2 .taken)
 
 read-few-requires : tie.Need-read-few-requires
 read-few-requires c κs = search needs
@@ -54,7 +58,8 @@ cast-millis c = search needs
 
 add-start : tie.Need-add-start
 add-start c =
-    let at-part = c .before .before .before .before .before .before .before .before in
+    let at-before = c .before .before .before .before .before .before .before in
+    let at-part = at-before .before in
     let a = at-part .before .before .args in
     let b = at-part .part in
     omega (arith, cut-lies (a .from) (a .to) (a .s .now) (b .result .now) (b .ensures) (omega arith))
@@ -67,13 +72,19 @@ nowhere-requires c κs = search needs
 
 returns-3 : tie.Need-returns-3
 returns-3 c v =
-    let a = c .before .before .before .before .before .before .before .before .before .before .before .args in
-    let b = c .before .before .before .before .before .before .before .before .before .part in
-    let no = c .before .before .before .before .before .widths-refusal in
+    let at-read-few = c .before .before .before in
+    let at-if2 = at-read-few .before in
+    let at-widths-refusal = at-if2 .before in
+    let at-if1 = at-widths-refusal .before .before .before in
+    let at-part = at-if1 .before in
+    let at-start = at-part .before .before in
+    let a = at-start .args in
+    let b = at-part .part in
+    let no = at-widths-refusal .widths-refusal in
     accepted v Kind.Table (a .from) (b .result .now) _ (b .ensures) _
-    (table-checked (b .result .now) (c .before .before .before .before .before .before .before .before .if1 .left) ∙ sym (no .ensures) ∙ c .before .before .before .before .if2 .left)
+    (table-checked (b .result .now) (at-if1 .if1 .left) ∙ sym (no .ensures) ∙ at-if2 .if2 .left)
     (table-parts (b .result .now) v (a .from) _ _ _ (c .nowhere .result)
-    (c .before .before .before .read-few .ensures .0)
+    (at-read-few .read-few .ensures .0)
     (c .before .before .read-few2 .ensures .0)
     (c .before .read-few3 .ensures .0)
     (c .nowhere .ensures))

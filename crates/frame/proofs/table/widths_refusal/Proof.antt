@@ -16,14 +16,16 @@ returns c =
 
 returns-2 : tie.Need-returns-2
 returns-2 c =
-    let a = c .before .before .before .args in
+    let at-start = c .before .before .before in
+    let a = at-start .args in
     let s = c .before .before .sum-of in
     let d = widths (a .v) (a .w) (s .result) (s .ensures) (c .before .if1 .left) in
     sym (fours-refused (a .v) (a .w) (s .result) d (c .if2 .taken))
 
 returns-3 : tie.Need-returns-3
 returns-3 c =
-    let a = c .before .before .before .args in
+    let at-start = c .before .before .before in
+    let a = at-start .args in
     let s = c .before .before .sum-of in
     let d = widths (a .v) (a .w) (s .result) (s .ensures) (c .before .if1 .left) in
     sym (widths-taken (a .v) (a .w) (s .result) d (c .if2 .left))

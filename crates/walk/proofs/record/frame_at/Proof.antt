@@ -37,36 +37,51 @@ is-resynced-requires c κs = search needs
 
 add-first : tie.Need-add-first
 add-first c =
-    let a = c .before .before .before .before .before .before .before .before .before .before .before .args in
-    let S = c .before .before .before .before .before .before .before .source .result .now in
-    let last = c .before .before .before .before .before .before .least .result in
-    let h = c .before .before .before .id .given .0 in
-    let e = sym (c .before .before .before .id .given .1) ∙ c .before .before .before .before .before .decode .ensures in
-    let le : last ≤ length S = omega (arith, c .before .before .before .before .before .before .least .ensures) in
+    let at-id = c .before .before .before in
+    let at-decode = at-id .before .before in
+    let at-least = at-decode .before in
+    let at-source = at-least .before in
+    let at-start = at-source .before .before .before .before in
+    let a = at-start .args in
+    let S = at-source .source .result .now in
+    let last = at-least .least .result in
+    let h = at-id .id .given .0 in
+    let e = sym (at-id .id .given .1) ∙ at-decode .decode .ensures in
+    let le : last ≤ length S = omega (arith, at-least .least .ensures) in
     let p = placed (a .version) 1 (a .at) last S le (h .0) (h .1 .0) (h .1 .1 .0) (h .1 .1 .1 .0) (h .1 .1 .1 .1 .0) (h .1 .1 .1 .1 .1 .0) (sym e) in
-    omega (arith, p .within, c .before .before .before .before .before .before .before .before .before .before .before .good)
+    omega (arith, p .within, at-start .good)
 
 add-next : tie.Need-add-next
 add-next c =
-    let a = c .before .before .before .before .before .before .before .before .before .before .before .args in
-    let S = c .before .before .before .before .before .before .before .source .result .now in
-    let last = c .before .before .before .before .before .before .least .result in
-    let h = c .before .before .before .id .given .0 in
-    let e = sym (c .before .before .before .id .given .1) ∙ c .before .before .before .before .before .decode .ensures in
-    let le : last ≤ length S = omega (arith, c .before .before .before .before .before .before .least .ensures) in
+    let at-id = c .before .before .before in
+    let at-decode = at-id .before .before in
+    let at-least = at-decode .before in
+    let at-source = at-least .before in
+    let at-start = at-source .before .before .before .before in
+    let a = at-start .args in
+    let S = at-source .source .result .now in
+    let last = at-least .least .result in
+    let h = at-id .id .given .0 in
+    let e = sym (at-id .id .given .1) ∙ at-decode .decode .ensures in
+    let le : last ≤ length S = omega (arith, at-least .least .ensures) in
     let p = placed (a .version) 1 (a .at) last S le (h .0) (h .1 .0) (h .1 .1 .0) (h .1 .1 .1 .0) (h .1 .1 .1 .1 .0) (h .1 .1 .1 .1 .1 .0) (sym e) in
-    omega (arith, p .within, c .before .before .before .before .before .before .before .before .before .before .before .good)
+    omega (arith, p .within, at-start .good)
 
 enter-requires : tie.Need-enter-requires
 enter-requires c κs =
-    let a = c .before .before .before .before .before .before .before .before .before .before .before .before .args in
-    let S = c .before .before .before .before .before .before .before .before .source .result .now in
-    let last = c .before .before .before .before .before .before .before .least .result in
-    let h = c .before .before .before .before .id .given .0 in
-    let e = sym (c .before .before .before .before .id .given .1) ∙ c .before .before .before .before .before .before .decode .ensures in
-    let le : last ≤ length S = omega (arith, c .before .before .before .before .before .before .before .least .ensures) in
+    let at-id = c .before .before .before .before in
+    let at-decode = at-id .before .before in
+    let at-least = at-decode .before in
+    let at-source = at-least .before in
+    let at-start = at-source .before .before .before .before in
+    let a = at-start .args in
+    let S = at-source .source .result .now in
+    let last = at-least .least .result in
+    let h = at-id .id .given .0 in
+    let e = sym (at-id .id .given .1) ∙ at-decode .decode .ensures in
+    let le : last ≤ length S = omega (arith, at-least .least .ensures) in
     let p = placed (a .version) 1 (a .at) last S le (h .0) (h .1 .0) (h .1 .1 .0) (h .1 .1 .1 .0) (h .1 .1 .1 .1 .0) (h .1 .1 .1 .1 .1 .0) (sym e) in
-    (omega arith, omega (arith, p .within, ap length (c .before .before .before .before .before .before .before .before .source .ensures)))
+    (omega arith, omega (arith, p .within, ap length (at-source .source .ensures)))
 
 enum-known-k-2 : tie.Need-enum-known-k-2
 enum-known-k-2 c = search needs
@@ -88,49 +103,73 @@ same-length c = search needs
 
 returns : tie.Need-returns
 returns c =
-    let a = c .before .before .before .before .before .before .before .before .args in
-    no-frame (a .version) (a .in-work) (a .begin) (a .at) (a .end) (c .before .before .before .least .result) (a .tag .now) (a .work .now) (c .before .before .before .before .source .result .now) (c .before .before .before .before .source .ensures) (c .before .before .before .least .ensures) (sym (c .enum-told .given .1) ∙ c .before .before .decode .ensures)
+    let at-least = c .before .before .before in
+    let at-source = at-least .before in
+    let at-start = at-source .before .before .before .before in
+    let a = at-start .args in
+    no-frame (a .version) (a .in-work) (a .begin) (a .at) (a .end) (at-least .least .result) (a .tag .now) (a .work .now) (at-source .source .result .now) (at-source .source .ensures) (at-least .least .ensures) (sym (c .enum-told .given .1) ∙ c .before .before .decode .ensures)
 
 same-length-2 : tie.Need-same-length-2
 same-length-2 c = search needs
 
 returns-2 : tie.Need-returns-2
 returns-2 c =
-    let a = c .before .before .before .before .before .before .before .before .before .args in
-    head-refused (a .version) (a .in-work) (a .begin) (a .at) (a .end) (c .before .before .before .before .least .result) (a .tag .now) (a .work .now) (c .before .before .before .before .before .source .result .now) (c .before .before .before .before .before .source .ensures) (c .before .before .before .before .least .ensures) (c .before .k .given .0 .0) (sym (c .before .k .given .1) ∙ c .before .before .before .decode .ensures)
+    let at-decode = c .before .before .before in
+    let at-least = at-decode .before in
+    let at-source = at-least .before in
+    let at-start = at-source .before .before .before .before in
+    let a = at-start .args in
+    head-refused (a .version) (a .in-work) (a .begin) (a .at) (a .end) (at-least .least .result) (a .tag .now) (a .work .now) (at-source .source .result .now) (at-source .source .ensures) (at-least .least .ensures) (c .before .k .given .0 .0) (sym (c .before .k .given .1) ∙ at-decode .decode .ensures)
 
 same-length-3 : tie.Need-same-length-3
 same-length-3 c = search needs
 
 returns-3 : tie.Need-returns-3
 returns-3 c =
-    let a = c .before .before .before .before .before .before .before .before .before .before .before .before .before .before .before .before .before .before .args in
-    let S = c .before .before .before .before .before .before .before .before .before .before .before .before .before .before .source .result .now in
-    let last = c .before .before .before .before .before .before .before .before .before .before .before .before .before .least .result in
-    let h = c .before .before .before .before .before .before .before .before .before .before .id .given .0 in
-    let e = sym (c .before .before .before .before .before .before .before .before .before .before .id .given .1) ∙ c .before .before .before .before .before .before .before .before .before .before .before .before .decode .ensures in
-    let le : last ≤ length S = omega (arith, c .before .before .before .before .before .before .before .before .before .before .before .before .before .least .ensures) in
+    let at-enter = c .before .before .before .before .before in
+    let at-is-resynced = at-enter .before .before in
+    let at-shown-kind = at-is-resynced .before in
+    let at-id = at-shown-kind .before .before in
+    let at-decode = at-id .before .before in
+    let at-least = at-decode .before in
+    let at-source = at-least .before in
+    let at-start = at-source .before .before .before .before in
+    let a = at-start .args in
+    let S = at-source .source .result .now in
+    let last = at-least .least .result in
+    let h = at-id .id .given .0 in
+    let e = sym (at-id .id .given .1) ∙ at-decode .decode .ensures in
+    let le : last ≤ length S = omega (arith, at-least .least .ensures) in
     let p = placed (a .version) 1 (a .at) last S le (h .0) (h .1 .0) (h .1 .1 .0) (h .1 .1 .1 .0) (h .1 .1 .1 .1 .0) (h .1 .1 .1 .1 .1 .0) (sym e) in
-    frame-refused (a .version) (a .in-work) (a .begin) (a .at) (a .end) (c .before .before .before .before .before .before .before .before .before .before .before .before .before .least .result) (a .tag .now) (a .work .now) (c .before .before .before .before .before .before .before .before .before .before .before .before .before .before .source .result .now) (c .before .before .before .before .before .before .before .before .before .before .before .before .before .before .source .ensures) (c .before .before .before .before .before .before .before .before .before .before .before .before .before .least .ensures) (h .0) (h .1 .0) (h .1 .1 .0) (h .1 .1 .1 .0) (h .1 .1 .1 .1 .0) (h .1 .1 .1 .1 .1 .0) e
-    (c .before .before .before .before .before .before .before .before .shown-kind .result) (c .before .before .before .before .before .before .before .is-resynced .result) (c .before .before .before .before .before .before .before .before .shown-kind .ensures) (c .before .before .before .before .before .before .before .is-resynced .ensures) (p .body) (c .before .before .before .before .before .enter .last .0) (c .before .k2 .given .0 .0)
-    (ap {B = Opened × List ℕ} (λ (x : Opened). (x, c .before .before .before .before .before .enter .last .0)) (sym (c .before .k2 .given .1)) ∙ c .before .before .before .before .before .enter .ensures)
+    frame-refused (a .version) (a .in-work) (a .begin) (a .at) (a .end) (at-least .least .result) (a .tag .now) (a .work .now) (at-source .source .result .now) (at-source .source .ensures) (at-least .least .ensures) (h .0) (h .1 .0) (h .1 .1 .0) (h .1 .1 .1 .0) (h .1 .1 .1 .1 .0) (h .1 .1 .1 .1 .1 .0) e
+    (at-shown-kind .shown-kind .result) (at-is-resynced .is-resynced .result) (at-shown-kind .shown-kind .ensures) (at-is-resynced .is-resynced .ensures) (p .body) (at-enter .enter .last .0) (c .before .k2 .given .0 .0)
+    (ap {B = Opened × List ℕ} (λ (x : Opened). (x, at-enter .enter .last .0)) (sym (c .before .k2 .given .1)) ∙ at-enter .enter .ensures)
 
 same-length-4 : tie.Need-same-length-4
 same-length-4 c = search needs
 
 returns-4 : tie.Need-returns-4
 returns-4 c =
-    let a = c .before .before .before .before .before .before .before .before .before .before .before .before .before .before .before .before .before .before .before .before .before .args in
-    let S = c .before .before .before .before .before .before .before .before .before .before .before .before .before .before .before .before .before .source .result .now in
-    let last = c .before .before .before .before .before .before .before .before .before .before .before .before .before .before .before .before .least .result in
-    let h = c .before .before .before .before .before .before .before .before .before .before .before .before .before .id .given .0 in
-    let e = sym (c .before .before .before .before .before .before .before .before .before .before .before .before .before .id .given .1) ∙ c .before .before .before .before .before .before .before .before .before .before .before .before .before .before .before .decode .ensures in
-    let le : last ≤ length S = omega (arith, c .before .before .before .before .before .before .before .before .before .before .before .before .before .before .before .before .least .ensures) in
+    let at-body = c .before .before .before .before in
+    let at-enter = at-body .before .before .before .before in
+    let at-is-resynced = at-enter .before .before in
+    let at-shown-kind = at-is-resynced .before in
+    let at-id = at-shown-kind .before .before in
+    let at-decode = at-id .before .before in
+    let at-least = at-decode .before in
+    let at-source = at-least .before in
+    let at-start = at-source .before .before .before .before in
+    let a = at-start .args in
+    let S = at-source .source .result .now in
+    let last = at-least .least .result in
+    let h = at-id .id .given .0 in
+    let e = sym (at-id .id .given .1) ∙ at-decode .decode .ensures in
+    let le : last ≤ length S = omega (arith, at-least .least .ensures) in
     let p = placed (a .version) 1 (a .at) last S le (h .0) (h .1 .0) (h .1 .1 .0) (h .1 .1 .1 .0) (h .1 .1 .1 .1 .0) (h .1 .1 .1 .1 .1 .0) (sym e) in
-    let q = c .before .before .before .before .body .given .0 in
-    frame-shown (a .version) (a .in-work) (a .begin) (a .at) (a .end) (c .before .before .before .before .before .before .before .before .before .before .before .before .before .before .before .before .least .result) (a .tag .now) (a .work .now) (c .before .before .before .before .before .before .before .before .before .before .before .before .before .before .before .before .before .source .result .now) (c .before .before .before .before .before .before .before .before .before .before .before .before .before .before .before .before .before .source .ensures) (c .before .before .before .before .before .before .before .before .before .before .before .before .before .before .before .before .least .ensures) (h .0) (h .1 .0) (h .1 .1 .0) (h .1 .1 .1 .0) (h .1 .1 .1 .1 .0) (h .1 .1 .1 .1 .1 .0) e
-    (c .before .before .before .before .before .before .before .before .before .before .before .shown-kind .result) (c .before .before .before .before .before .before .before .before .before .before .is-resynced .result) (c .before .before .before .before .before .before .before .before .before .before .before .shown-kind .ensures) (c .before .before .before .before .before .before .before .before .before .before .is-resynced .ensures) (p .body) (c .before .before .before .before .before .before .before .before .enter .last .0) (q .0) (q .1 .0)
-    (ap {B = Opened × List ℕ} (λ (x : Opened). (x, c .before .before .before .before .before .before .before .before .enter .last .0)) (sym (c .before .before .before .before .body .given .1)) ∙ c .before .before .before .before .before .before .before .before .enter .ensures)
+    let q = at-body .body .given .0 in
+    frame-shown (a .version) (a .in-work) (a .begin) (a .at) (a .end) (at-least .least .result) (a .tag .now) (a .work .now) (at-source .source .result .now) (at-source .source .ensures) (at-least .least .ensures) (h .0) (h .1 .0) (h .1 .1 .0) (h .1 .1 .1 .0) (h .1 .1 .1 .1 .0) (h .1 .1 .1 .1 .1 .0) e
+    (at-shown-kind .shown-kind .result) (at-is-resynced .is-resynced .result) (at-shown-kind .shown-kind .ensures) (at-is-resynced .is-resynced .ensures) (p .body) (at-enter .enter .last .0) (q .0) (q .1 .0)
+    (ap {B = Opened × List ℕ} (λ (x : Opened). (x, at-enter .enter .last .0)) (sym (at-body .body .given .1)) ∙ at-enter .enter .ensures)
     (c .record-of .result) (c .before .beyond .result) (c .before .before .either .result) (c .before .beyond .ensures) (c .before .before .either .ensures) (c .record-of .ensures)
 
 pub frame-at-spec : {M : Type 1} → statement M

@@ -39,20 +39,26 @@ is-unfit-requires c κs = search needs
 -- src/steps.rt:59:17
 returns : tie.Need-returns
 returns c =
-    let a = c .before .before .before .before .before .before .before .args in
-    let h = c .before .before .before .id .given .0 in
-    let e = sym (c .before .before .before .id .given .1) ∙ c .before .before .before .before .before .decode .ensures in
+    let at-id = c .before .before .before in
+    let at-decode = at-id .before .before in
+    let at-start = at-decode .before .before in
+    let a = at-start .args in
+    let h = at-id .id .given .0 in
+    let e = sym (at-id .id .given .1) ∙ at-decode .decode .ensures in
     step-unfit (a .strict) (a .version) (a .depth) (a .at) (slice (a .at) (a .end) (a .s .now)) (h .0) (h .1 .0) (h .1 .1 .0) (h .1 .1 .1 .0) (h .1 .1 .1 .1 .0) (h .1 .1 .1 .1 .1 .0) e
     (sym (c .before .is-unfit .ensures) ∙ c .if1 .taken)
 
 -- src/steps.rt:61:25
 add-first : tie.Need-add-first
 add-first c =
-    let a = c .before .before .before .before .before .before .before .args in
-    let h = c .before .before .before .id .given .0 in
-    let e = sym (c .before .before .before .id .given .1) ∙ c .before .before .before .before .before .decode .ensures in
-    let p = placed (a .version) (a .depth) (a .at) (a .end) (a .s .now) (c .before .before .before .before .before .before .before .pre) (h .0) (h .1 .0) (h .1 .1 .0) (h .1 .1 .1 .0) (h .1 .1 .1 .1 .0) (h .1 .1 .1 .1 .1 .0) (sym e) in
-    omega (arith, p .within, c .before .before .before .before .before .before .before .fits)
+    let at-id = c .before .before .before in
+    let at-decode = at-id .before .before in
+    let at-start = at-decode .before .before in
+    let a = at-start .args in
+    let h = at-id .id .given .0 in
+    let e = sym (at-id .id .given .1) ∙ at-decode .decode .ensures in
+    let p = placed (a .version) (a .depth) (a .at) (a .end) (a .s .now) (at-start .pre) (h .0) (h .1 .0) (h .1 .1 .0) (h .1 .1 .1 .0) (h .1 .1 .1 .1 .0) (h .1 .1 .1 .1 .1 .0) (sym e) in
+    omega (arith, p .within, at-start .fits)
 
 -- src/steps.rt:63:23
 shown-kind-requires : tie.Need-shown-kind-requires
@@ -65,36 +71,47 @@ is-resynced-requires c κs = search needs
 -- src/steps.rt:66:23
 add-t21 : tie.Need-add-t21
 add-t21 c =
-    let a = c .before .before .before .before .before .before .before .before .before .args in
-    let h = c .before .before .before .before .before .id .given .0 in
-    let e = sym (c .before .before .before .before .before .id .given .1) ∙ c .before .before .before .before .before .before .before .decode .ensures in
-    let p = placed (a .version) (a .depth) (a .at) (a .end) (a .s .now) (c .before .before .before .before .before .before .before .before .before .pre) (h .0) (h .1 .0) (h .1 .1 .0) (h .1 .1 .1 .0) (h .1 .1 .1 .1 .0) (h .1 .1 .1 .1 .1 .0) (sym e) in
-    omega (arith, p .within, c .before .before .before .before .before .before .before .before .before .fits)
+    let at-id = c .before .before .before .before .before in
+    let at-decode = at-id .before .before in
+    let at-start = at-decode .before .before in
+    let a = at-start .args in
+    let h = at-id .id .given .0 in
+    let e = sym (at-id .id .given .1) ∙ at-decode .decode .ensures in
+    let p = placed (a .version) (a .depth) (a .at) (a .end) (a .s .now) (at-start .pre) (h .0) (h .1 .0) (h .1 .1 .0) (h .1 .1 .1 .0) (h .1 .1 .1 .1 .0) (h .1 .1 .1 .1 .1 .0) (sym e) in
+    omega (arith, p .within, at-start .fits)
 
 -- src/steps.rt:43:1
 returns-2 : tie.Need-returns-2
 returns-2 c =
-    let a = c .before .before .before .before .before .args in
+    let at-decode = c .before .before .before in
+    let at-start = at-decode .before .before in
+    let a = at-start .args in
     let b = slice (a .at) (a .end) (a .s .now) in
-    let l : length b ≡ a .end - a .at = length-slice (a .at) (a .end) (a .s .now) (c .before .before .before .before .before .pre) in
-    step-nothing (a .strict) (a .version) (a .depth) (a .at) b (sym (c .before .enum-told .given .1) ∙ c .before .before .before .decode .ensures) (c .left-over .result)
+    let l : length b ≡ a .end - a .at = length-slice (a .at) (a .end) (a .s .now) (at-start .pre) in
+    step-nothing (a .strict) (a .version) (a .depth) (a .at) b (sym (c .before .enum-told .given .1) ∙ at-decode .decode .ensures) (c .left-over .result)
     (c .left-over .ensures ∙ ap (λ (n : ℕ). pick (a .strict && not (eqb n 0)) 29 0) (sym l))
 
 -- src/steps.rt:43:1
 returns-3 : tie.Need-returns-3
 returns-3 c =
-    let a = c .before .before .before .before .before .args in
+    let at-decode = c .before .before .before in
+    let at-start = at-decode .before .before in
+    let a = at-start .args in
     step-refused (a .strict) (a .version) (a .depth) (a .at) (slice (a .at) (a .end) (a .s .now)) (c .before .k .given .0 .0)
-    (sym (c .before .k .given .1) ∙ c .before .before .before .decode .ensures)
+    (sym (c .before .k .given .1) ∙ at-decode .decode .ensures)
 
 -- src/steps.rt:43:1
 returns-4 : tie.Need-returns-4
 returns-4 c =
-    let a = c .before .before .before .before .before .before .before .before .before .args in
-    let h = c .before .before .before .before .before .id .given .0 in
-    let e = sym (c .before .before .before .before .before .id .given .1) ∙ c .before .before .before .before .before .before .before .decode .ensures in
+    let at-is-unfit = c .before .before .before in
+    let at-id = at-is-unfit .before .before in
+    let at-decode = at-id .before .before in
+    let at-start = at-decode .before .before in
+    let a = at-start .args in
+    let h = at-id .id .given .0 in
+    let e = sym (at-id .id .given .1) ∙ at-decode .decode .ensures in
     step-body (a .strict) (a .version) (a .depth) (a .at) (slice (a .at) (a .end) (a .s .now)) (h .0) (h .1 .0) (h .1 .1 .0) (h .1 .1 .1 .0) (h .1 .1 .1 .1 .0) (h .1 .1 .1 .1 .1 .0) e
-    (sym (c .before .before .before .is-unfit .ensures) ∙ c .before .before .if1 .left) (c .before .shown-kind .result) (c .is-resynced .result) (c .before .shown-kind .ensures) (c .is-resynced .ensures)
+    (sym (at-is-unfit .is-unfit .ensures) ∙ c .before .before .if1 .left) (c .before .shown-kind .result) (c .is-resynced .result) (c .before .shown-kind .ensures) (c .is-resynced .ensures)
 
 pub step-at-spec : {M : Type 1} → statement M
 step-at-spec =
