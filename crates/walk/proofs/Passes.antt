@@ -1,16 +1,15 @@
 -- What a meter needs of a frame, by the steps of the code. Assumes nothing.
 use mathlib.Core.Path.{_≡_, refl, sym, ap, _∙_}
-use Prim.Native.Nat.{ℕ, _+_, _-_, _≤_, min}
+use Prim.Native.Nat.{ℕ, _+_, _-_}
 use native.Mathlib.Omega.{arith}
 use mathlib.Core.Bool.{Bool, true, false, _&&_, _||_}
 use mathlib.Core.List.{List, [], _∷_}
-use lib.ListN.{length, take, drop}
+use lib.ListN.{length, drop}
 use lib.Seq.{slice}
 use lib.Dec.{ltb, eqb}
 use borrow.Author.Tests.{eqb-true, ne-eqb, le-ltb}
 use denote.Enum.Declared.{tagOf}
 use types.Run.{OneOf, miss}
-use Rattle.lists.proofs.Slices.{slice-cut}
 use Rattle.format.proofs.Kind as kinds
 use Rattle.format.proofs.Fields.{the-type}
 use Rattle.format.specs.Bytes.{pick, putFront}
@@ -33,7 +32,7 @@ use Rattle.unsynch.specs.Puts.{intoOf}
 use Rattle.walk.specs.declared.passing.Met.{Met}
 use Rattle.walk.specs.Sources.{frameIn}
 use Rattle.walk.specs.Passing.{isMeterId, passedBy, metBy, metAs, passIn, readAs, frontAs, passOf}
-use Rattle.walk.proofs.Onwards.{placed}
+use Rattle.walk.proofs.Onwards.{Here}
 use Rattle.walk.proofs.Areas.{put-bytes, fitted-front}
 use Rattle.walk.proofs.Openings.{shown-nothing, shown-refused, frame-is}
 use Rattle.walk.proofs.Sources.{walk-none}
@@ -189,24 +188,6 @@ module _ (v : Version) (w : Bool) (begin at : ℕ) (s room : List ℕ) where
 
   pub pass-refused : {k : ℕ} → Head.Refused k ≡ headOf v 1 s → _≡_ {A = Met × List ℕ} (Met.Refused k, room) (passOf v w begin at s room)
   pass-refused {k} e = passes (Shown.Refused k) room (shown-refused v w begin at s room k e)
-
--- one that stands at a place of s, whose frames end at `end`
-pub record Here (v : Version) (at end : ℕ) (s : List ℕ) (id : ℕ) (c f sh : Bool) (start len : ℕ) : Type 0 where
-  pub head : Head.Found id c f sh start len ≡ headOf v 1 (slice at end s)
-  pub within : at + start + len ≤ length s
-  pub body : take len (drop start (slice at end s)) ≡ slice (at + start) (at + start + len) s
-
-pub here : (v : Version) (at end : ℕ) (s : List ℕ) (id : ℕ) (c f sh : Bool) (start len : ℕ) → Head.Found id c f sh start len ≡ headOf v 1 (slice at end s)
-    → Here v at end s id c f sh start len
-here v at end s id c f sh start len e =
-    let last : ℕ = min end (length s) in
-    let cut : slice at last s ≡ slice at end s = slice-cut at end last s refl in
-    let p = placed v 1 at last s (omega arith) id c f sh start len (ap (headOf v 1) cut ∙ sym e) in
-    record {
-      head = e;
-      within = omega (arith, p .within);
-      body = ap (λ (x : List ℕ). take len (drop start x)) (sym cut) ∙ p .body;
-    }
 
 -- ---- a frame that was found
 

@@ -14,7 +14,6 @@ use format::Shown;
 use format::Span;
 use format::Version;
 use format::small::beyond;
-use format::small::least;
 use frame::body::Parsed;
 use frame::body::parse;
 use frame::heads::decode;
@@ -199,8 +198,7 @@ pub fn frame_at(
     ensures { λ r. ⌜ (r, now (work .exit)) ≡ frameIn version «in_work» begin at end (now (tag .entry)) (now (work .entry)) ⌝ }
 {
     let s = source(in_work, &work[..], tag);
-    let last = least(end, s.len());
-    match decode(version, s, at, last, 1) {
+    match decode(version, s, at, end, 1) {
         Head::Nothing => Shown::Nothing,
         Head::Refused(k) => Shown::Refused(k),
         Head::Found {

@@ -9,7 +9,8 @@ use lib.Dec.{eqb}
 use Rattle.format.specs.Unsynch.{resynchronised}
 use Rattle.format.specs.Ids.{kindNumber}
 use Rattle.format.specs.declared.Kind.{Kind}
-use Rattle.walk.proofs.Passes.{Here, here, pass-nothing, pass-refused, pass-body-refused, pass-over, pass-meter, pass-front}
+use Rattle.walk.proofs.Onwards.{Here, here}
+use Rattle.walk.proofs.Passes.{pass-nothing, pass-refused, pass-body-refused, pass-over, pass-meter, pass-front}
 use borrow.Author.Needs.{needs}
 use Rattle.walk.proofs.passing.pass_in.Statement.{statement}
 use Rattle.walk.proofs.passing.pass_in.Tie as tie
