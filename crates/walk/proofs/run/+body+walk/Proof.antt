@@ -16,7 +16,7 @@ use Rattle.walk.specs.Areas.{insideIn}
 use Rattle.walk.specs.Insides.{insideAt}
 use Rattle.walk.specs.declared.inside.Inside.{Inside}
 use Rattle.walk.proofs.Insides.{looked-refused, run-from, run-walked}
-use Rattle.walk.proofs.Onwards.{stopped, onward}
+use Rattle.walk.proofs.Onwards.{Onward, stopped, onward}
 use Rattle.walk.proofs.Areas.{then-on, then-halt, put-bytes, put-refused, put-inside, fitted-room, as-resynced, as-stored}
 use borrow.Fn.Kinds.{In}
 use borrow.Fn.PlainCycle.{Measures, is, falls, and}
@@ -96,7 +96,6 @@ body-shown-in-requires t c κs =
     let a = at-start .args in
     let b = slice (a .from) (a .to) (a .s .now) in
     let room = a .room .now in
-    let go = walked (a .strict) (a .version) (a .depth + 1) in
     let u = resynchronised b in
     let e0 : at-resync-into .resync-into .result ≡ intoOf u room .0 = ap (λ (o : Put × List ℕ). o .0) (at-resync-into .resync-into .ensures) in
     let e1 : at-resync-into .resync-into .last .0 ≡ intoOf u room .1 = ap (λ (o : Put × List ℕ). o .1) (at-resync-into .resync-into .ensures) in
@@ -146,8 +145,6 @@ body-walk-requires t c κs =
     let at-start = at-look .before .before .before .before in
     let a = at-start .args in
     let b = slice (a .from) (a .to) (a .s .now) in
-    let room = a .room .now in
-    let go = walked (a .strict) (a .version) (a .depth + 1) in
     let at = c .before .before .at .given .0 .0 in
     let e : Inside.Run at ≡ insideAt (a .kind) (a .from) b = sym (c .before .before .at .given .1) ∙ at-look .look .ensures in
     let m : 2 * (a .to - a .from) + 1 ≡ t = at-start .pre .0 in
@@ -229,6 +226,18 @@ walk-returns t c =
 walk-enum-known-kind : (t : ℕ) → walk-lts.Need-enum-known-kind (walk-calls t) (walk-at t) walk.Post walk-Inv-loop walk-μ-loop
 walk-enum-known-kind t c = search needs
 
+-- where a step leads
+walk-onward : (t : ℕ) (c : walk-lts.After-kind (walk-calls t) (walk-at t) walk.Post walk-Inv-loop walk-μ-loop)
+    → let at-loop = c .before .before .before in
+    let a = at-loop .before .before .before .before .args in
+    let g = c .kind .given .0 in
+    Onward (a .strict) (a .version) (a .depth) (at-loop .loop .at) (at-loop .before .least .result) (a .s .now) (g .0) (g .1 .0) (g .1 .1 .0) (g .1 .1 .1 .0)
+walk-onward t c =
+    let at-loop = c .before .before .before in
+    let a = at-loop .before .before .before .before .args in
+    onward (a .strict) (a .version) (a .depth) (at-loop .loop .at) (at-loop .before .least .result) (a .s .now) (at-loop .loop .inv .1) _ _ _ _
+    (sym (c .kind .given .1) ∙ c .before .before .step-at .ensures)
+
 walk-body-requires : (t : ℕ) → walk-lts.Need-body-requires (walk-calls t) (walk-at t) walk.Post walk-Inv-loop walk-μ-loop
 walk-body-requires t c κs =
     let at-step-at = c .before .before .before .before in
@@ -237,9 +246,8 @@ walk-body-requires t c κs =
     let at-start = at-least .before .before .before in
     let a = at-start .args in
     let L = at-loop .loop in
-    let end = at-least .least .result in
     let g = c .before .before .kind .given .0 in
-    let on = onward (a .strict) (a .version) (a .depth) (L .at) end (a .s .now) (L .inv .1) (g .0) (g .1 .0) (g .1 .1 .0) (g .1 .1 .1 .0) (sym (c .before .before .kind .given .1) ∙ at-step-at .step-at .ensures) in
+    let on = walk-onward t (c .before .before) in
     let m : 2 * (a .to - a .from) ≡ t = at-start .pre .0 in
     let less : 2 * (g .1 .1 .1 .0 - g .1 .1 .0) + 1 < t = omega (arith, on .begins, on .ordered, on .within, L .inv) in
     (less, (on .ordered, omega (arith, on .within, L .inv), on .shallow))
@@ -262,7 +270,7 @@ walk-returns-2 t c =
     let L = at-loop .loop in
     let end = at-least .least .result in
     let g = at-kind .kind .given .0 in
-    let on = onward (a .strict) (a .version) (a .depth) (L .at) end (a .s .now) (L .inv .1) (g .0) (g .1 .0) (g .1 .1 .0) (g .1 .1 .1 .0) (sym (at-kind .kind .given .1) ∙ at-step-at .step-at .ensures) in
+    let on = walk-onward t at-kind in
     let o = bodyOf (g .1 .0) (walked (a .strict) (a .version) (a .depth + 1)) (g .0) (slice (g .1 .1 .0) (g .1 .1 .1 .0) (a .s .now)) (L .room) in
     let rest = walked (a .strict) (a .version) (a .depth) (slice (g .1 .1 .1 .0) end (a .s .now)) in
     let e : _≡_ {A = Out} (at-body .body .result, at-body .body .last .0) o = at-body .body .ensures in
@@ -271,15 +279,7 @@ walk-returns-2 t c =
 walk-loop-less : (t : ℕ) → walk-lts.Need-loop-less (walk-calls t) (walk-at t) walk.Post walk-Inv-loop walk-μ-loop
 walk-loop-less t c =
     let at-kind = c .before .before .before .before .before .before in
-    let at-step-at = at-kind .before .before in
-    let at-loop = at-step-at .before in
-    let at-least = at-loop .before in
-    let at-start = at-least .before .before .before in
-    let a = at-start .args in
-    let L = at-loop .loop in
-    let end = at-least .least .result in
-    let g = at-kind .kind .given .0 in
-    let on = onward (a .strict) (a .version) (a .depth) (L .at) end (a .s .now) (L .inv .1) (g .0) (g .1 .0) (g .1 .1 .0) (g .1 .1 .1 .0) (sym (at-kind .kind .given .1) ∙ at-step-at .step-at .ensures) in
+    let on = walk-onward t at-kind in
     omega (arith, on .begins, on .ordered, on .within)
 
 walk-loop-again : (t : ℕ) → walk-lts.Need-loop-again (walk-calls t) (walk-at t) walk.Post walk-Inv-loop walk-μ-loop
@@ -294,7 +294,7 @@ walk-loop-again t c =
     let L = at-loop .loop in
     let end = at-least .least .result in
     let g = at-kind .kind .given .0 in
-    let on = onward (a .strict) (a .version) (a .depth) (L .at) end (a .s .now) (L .inv .1) (g .0) (g .1 .0) (g .1 .1 .0) (g .1 .1 .1 .0) (sym (at-kind .kind .given .1) ∙ at-step-at .step-at .ensures) in
+    let on = walk-onward t at-kind in
     let o = bodyOf (g .1 .0) (walked (a .strict) (a .version) (a .depth + 1)) (g .0) (slice (g .1 .1 .0) (g .1 .1 .1 .0) (a .s .now)) (L .room) in
     let rest = walked (a .strict) (a .version) (a .depth) (slice (g .1 .1 .1 .0) end (a .s .now)) in
     let e : _≡_ {A = Out} (at-body .body .result, at-body .body .last .0) o = at-body .body .ensures in (

@@ -17,7 +17,7 @@ use Rattle.walk.specs.Areas.{insideIn, inArea}
 use Rattle.walk.specs.Insides.{insideAt}
 use Rattle.walk.specs.declared.inside.Inside.{Inside}
 use Rattle.walk.proofs.Insides.{looked-refused, run-from, run-walked}
-use Rattle.walk.proofs.Onwards.{stopped, onward}
+use Rattle.walk.proofs.Onwards.{Onward, stopped, onward}
 use Rattle.walk.proofs.Areas.{ran, area-start, still, halt, go-on, put-bytes, put-refused, put-inside, part-back, before-split, in-area, fitted-room, as-resynced, as-stored}
 use borrow.Fn.Kinds.{In}
 use borrow.Fn.PlainCycle.{Measures, is, falls, and}
@@ -104,7 +104,6 @@ body-in-shown-in-requires t c κs =
     let b = slice (a .from) (a .to) (a .area .now) in
     let u = resynchronised b in
     let room = drop (a .split) (a .area .now) in
-    let go = walked (a .strict) (a .version) (a .depth + 1) in
     let a₁ = at-resync-in .resync-in .last .0 in
     let put = in-area (a .from) (a .to) (a .split) (a .area .now) (at-start .pre .1 .1) (at-resync-in .resync-in .result) a₁ (at-resync-in .resync-in .ensures) in
     let n = c .before .before .n .given .0 .0 in
@@ -304,6 +303,20 @@ walk-in-returns t c =
 walk-in-enum-known-kind : (t : ℕ) → walk-in-lts.Need-enum-known-kind (walk-in-calls t) (walk-in-at t) walk-in.Post walk-in-Inv-loop walk-in-μ-loop
 walk-in-enum-known-kind t c = search needs
 
+-- where a step leads
+walk-in-onward : (t : ℕ) (c : walk-in-lts.After-kind (walk-in-calls t) (walk-in-at t) walk-in.Post walk-in-Inv-loop walk-in-μ-loop)
+    → let at-loop = c .before .before .before .before in
+    let a = at-loop .before .before .before .before .args in
+    let g = c .kind .given .0 in
+    Onward (a .strict) (a .version) (a .depth) (at-loop .loop .at) (at-loop .before .least2 .result) (at-loop .loop .area) (g .0) (g .1 .0) (g .1 .1 .0) (g .1 .1 .1 .0)
+walk-in-onward t c =
+    let at-loop = c .before .before .before .before in
+    let a = at-loop .before .before .before .before .args in
+    let L = at-loop .loop in
+    let end = at-loop .before .least2 .result in
+    let le : end ≤ length (L .area) = omega (arith, L .inv) in
+    onward (a .strict) (a .version) (a .depth) (L .at) end (L .area) le _ _ _ _ (sym (c .kind .given .1) ∙ c .before .before .step-at .ensures)
+
 walk-in-body-in-requires : (t : ℕ) → walk-in-lts.Need-body-in-requires (walk-in-calls t) (walk-in-at t) walk-in.Post walk-in-Inv-loop walk-in-μ-loop
 walk-in-body-in-requires t c κs =
     let at-step-at = c .before .before .before .before in
@@ -313,11 +326,8 @@ walk-in-body-in-requires t c κs =
     let at-start = at-least .before .before in
     let a = at-start .args in
     let L = at-loop .loop in
-    let mid = at-least .least .result in
-    let end = at-least2 .least2 .result in
     let g = c .before .before .kind .given .0 in
-    let le : end ≤ length (L .area) = omega (arith, L .inv) in
-    let on = onward (a .strict) (a .version) (a .depth) (L .at) end (L .area) le (g .0) (g .1 .0) (g .1 .1 .0) (g .1 .1 .1 .0) (sym (c .before .before .kind .given .1) ∙ at-step-at .step-at .ensures) in
+    let on = walk-in-onward t (c .before .before) in
     let m : 3 * (a .to - a .from) ≡ t = at-start .pre .0 in
     let less : 3 * (g .1 .1 .1 .0 - g .1 .1 .0) + 2 < t = omega (arith, on .begins, on .ordered, on .within, L .inv) in
     (less, (on .ordered, omega (arith, on .within, L .inv), omega (arith, L .inv), on .shallow))
@@ -342,8 +352,7 @@ walk-in-returns-2 t c =
     let mid = at-least .least .result in
     let end = at-least2 .least2 .result in
     let g = at-kind .kind .given .0 in
-    let le : end ≤ length (L .area) = omega (arith, L .inv) in
-    let on = onward (a .strict) (a .version) (a .depth) (L .at) end (L .area) le (g .0) (g .1 .0) (g .1 .1 .0) (g .1 .1 .1 .0) (sym (at-kind .kind .given .1) ∙ at-step-at .step-at .ensures) in
+    let on = walk-in-onward t at-kind in
     let hm : mid ≤ length (L .area) = omega (arith, L .inv) in
     let o = bodyOf (g .1 .0) (walked (a .strict) (a .version) (a .depth + 1)) (g .0) (slice (g .1 .1 .0) (g .1 .1 .1 .0) (L .area)) (drop mid (L .area)) in
     halt (a .strict) (a .version) (a .depth) (L .at) end mid (g .1 .1 .1 .0) (L .area) (at-body-in .body-in .last .0) (at-body-in .body-in .result) o hm (L .inv .1) (on .same (drop mid (L .area))) (at-body-in .body-in .ensures) (c .if1 .taken) ∙ L .inv .5
@@ -351,18 +360,7 @@ walk-in-returns-2 t c =
 walk-in-loop-less : (t : ℕ) → walk-in-lts.Need-loop-less (walk-in-calls t) (walk-in-at t) walk-in.Post walk-in-Inv-loop walk-in-μ-loop
 walk-in-loop-less t c =
     let at-kind = c .before .before .before .before .before .before in
-    let at-step-at = at-kind .before .before in
-    let at-loop = at-step-at .before .before in
-    let at-least2 = at-loop .before in
-    let at-least = at-least2 .before in
-    let at-start = at-least .before .before in
-    let a = at-start .args in
-    let L = at-loop .loop in
-    let mid = at-least .least .result in
-    let end = at-least2 .least2 .result in
-    let g = at-kind .kind .given .0 in
-    let le : end ≤ length (L .area) = omega (arith, L .inv) in
-    let on = onward (a .strict) (a .version) (a .depth) (L .at) end (L .area) le (g .0) (g .1 .0) (g .1 .1 .0) (g .1 .1 .1 .0) (sym (at-kind .kind .given .1) ∙ at-step-at .step-at .ensures) in
+    let on = walk-in-onward t at-kind in
     omega (arith, on .begins, on .ordered, on .within)
 
 walk-in-loop-again : (t : ℕ) → walk-in-lts.Need-loop-again (walk-in-calls t) (walk-in-at t) walk-in.Post walk-in-Inv-loop walk-in-μ-loop
@@ -379,8 +377,7 @@ walk-in-loop-again t c =
     let mid = at-least .least .result in
     let end = at-least2 .least2 .result in
     let g = at-kind .kind .given .0 in
-    let le : end ≤ length (L .area) = omega (arith, L .inv) in
-    let on = onward (a .strict) (a .version) (a .depth) (L .at) end (L .area) le (g .0) (g .1 .0) (g .1 .1 .0) (g .1 .1 .1 .0) (sym (at-kind .kind .given .1) ∙ at-step-at .step-at .ensures) in
+    let on = walk-in-onward t at-kind in
     let hm : mid ≤ length (L .area) = omega (arith, L .inv) in
     let o = bodyOf (g .1 .0) (walked (a .strict) (a .version) (a .depth + 1)) (g .0) (slice (g .1 .1 .0) (g .1 .1 .1 .0) (L .area)) (drop mid (L .area)) in (
       omega (arith, on .begins, on .ordered, L .inv .0),
