@@ -64,29 +64,14 @@ resync-in-one κs a x y v w p q = alike p q λ o. (o .0, (o .1, v .1))
 pub heads-one : OneAnswer frame.heads.decode.ended frame.heads.decode.Reads.Learnt
 heads-one κs a x y v w p q = alike p q λ o. (o, v)
 
-pub v2-one : OneAnswer frame.v2.decode.ended frame.v2.decode.Reads.Learnt
-v2-one κs a x y v w p q = alike p q λ o. (o, v)
-
-pub v3-one : OneAnswer frame.v3.decode.ended frame.v3.decode.Reads.Learnt
-v3-one κs a x y v w p q = alike p q λ o. (o, v)
-
-pub v4-one : OneAnswer frame.v4.decode.ended frame.v4.decode.Reads.Learnt
-v4-one κs a x y v w p q = alike p q λ o. (o, v)
-
-pub is-utf8-three-one : OneAnswer frame.ids.is_utf8_3.ended frame.ids.is_utf8_3.Reads.Learnt
-is-utf8-three-one κs a x y v w p q = alike p q λ o. (o, v)
-
-pub is-utf8-four-one : OneAnswer frame.ids.is_utf8_4.ended frame.ids.is_utf8_4.Reads.Learnt
-is-utf8-four-one κs a x y v w p q = alike p q λ o. (o, v)
+pub zero-at-one : OneAnswer frame.parts.zero_at.ended frame.parts.zero_at.Reads.Learnt
+zero-at-one κs a x y v w p q = alike p q λ o. (o, v)
 
 pub kind-of-one : OneAnswer frame.body.kind_of.ended frame.body.kind_of.Reads.Learnt
 kind-of-one κs a x y v w p q = alike p q λ o. (o, v)
 
 pub parse-one : OneAnswer frame.body.parse.ended frame.body.parse.Reads.Learnt
 parse-one κs a x y v w p q = alike p q λ o. (o, v)
-
-pub parse-raw-one : OneAnswer frame.body.parse_raw.ended frame.body.parse_raw.Reads.Learnt
-parse-raw-one κs a x y v w p q = alike (p Version.Id3v24) (q Version.Id3v24) λ o. (o, v)
 
 pub parse-chapter-one : OneAnswer frame.chapter.parse_chapter.ended frame.chapter.parse_chapter.Reads.Learnt
 parse-chapter-one κs a x y v w p q = alike (p Version.Id3v24) (q Version.Id3v24) λ o. (o, v)
@@ -100,17 +85,11 @@ parse-popularimeter-one κs a x y v w p q = alike (p Version.Id3v24) (q Version.
 pub parse-table-one : OneAnswer frame.table.parse.ended frame.table.parse.Reads.Learnt
 parse-table-one κs a x y v w p q = alike (p Version.Id3v24) (q Version.Id3v24) λ o. (o, v)
 
-pub parse-text-one : OneAnswer frame.text.parse.ended frame.text.parse.Reads.Learnt
-parse-text-one κs a x y v w p q = alike p q λ o. (o, v)
-
 pub text-end-one : OneAnswer frame.text.text_end.ended frame.text.text_end.Reads.Learnt
 text-end-one κs a x y v w p q = alike p q λ o. (o, v)
 
-pub count-one : OneAnswer frame.table.count.ended frame.table.count.Reads.Learnt
-count-one κs a x y v w p q = alike p q λ o. (o, v)
-
-pub reference-one : OneAnswer frame.table.reference.ended frame.table.reference.Reads.Learnt
-reference-one κs a x y v w p q = alike p q λ o. (o, v)
+pub widths-refusal-one : OneAnswer frame.table.widths_refusal.ended frame.table.widths_refusal.Reads.Learnt
+widths-refusal-one κs a x y v w p q = alike p q λ o. (o, v)
 
 pub unpack-one : OneAnswer frame.table.unpack.ended frame.table.unpack.Reads.Learnt
 unpack-one κs a x y v w p q = alike p q λ o. (o .0, (o .1, v .1))
@@ -119,9 +98,6 @@ unpack-one κs a x y v w p q = alike p q λ o. (o .0, (o .1, v .1))
 
 pub walk-one : OneAnswer walk.run.walk.ended walk.run.walk.Reads.Learnt
 walk-one κs a x y v w p q = alike p q λ o. (o .0, (o .1, v .1))
-
-pub walk-in-one : OneAnswer walk.run.walk_in.ended walk.run.walk_in.Reads.Learnt
-walk-in-one κs a x y v w p q = alike p q λ o. (o .0, (o .1, v .1))
 
 pub frame-at-one : OneAnswer walk.record.frame_at.ended walk.record.frame_at.Reads.Learnt
 frame-at-one κs a x y v w p q = alike p q λ o. (o .0, (o .1, v .1))

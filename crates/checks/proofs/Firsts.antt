@@ -21,11 +21,11 @@ passed k l h = rw (eq-eqb k 0 h)
 pub in-front : (a b : List ℕ) → first (a ++ b) ≡ first (first a ∷ b)
 unfolding first
 in-front [] b = refl
-in-front (k ∷ a) b = by (eqb k 0) refl (in-front a b)
+in-front (k ∷ a) b = by-first (eqb k 0) refl (in-front a b)
   where
-    by : (t : Bool) → eqb k 0 ≡ t → first (a ++ b) ≡ first (first a ∷ b) → pick t (first (a ++ b)) k ≡ first (pick t (first a) k ∷ b)
-    by true e i = i
-    by false e i = rw e
+    by-first : (t : Bool) → eqb k 0 ≡ t → first (a ++ b) ≡ first (first a ∷ b) → pick t (first (a ++ b)) k ≡ first (pick t (first a) k ∷ b)
+    by-first true e i = i
+    by-first false e i = rw e
 
 -- what stands behind a check counts as what it gives
 pub behind : (k : ℕ) (a b : List ℕ) → first a ≡ first b → first (k ∷ a) ≡ first (k ∷ b)
@@ -35,8 +35,8 @@ behind k a b e = rw e
 -- a single check
 pub only : (k : ℕ) → first (k ∷ []) ≡ k
 unfolding first
-only k = by (eqb k 0) refl
+only k = by-first (eqb k 0) refl
   where
-    by : (t : Bool) → eqb k 0 ≡ t → pick t 0 k ≡ k
-    by true e = sym (eqb-true k 0 e)
-    by false e = refl
+    by-first : (t : Bool) → eqb k 0 ≡ t → pick t 0 k ≡ k
+    by-first true e = sym (eqb-true k 0 e)
+    by-first false e = refl

@@ -61,12 +61,12 @@ in-turn true false said true false false = refl
 
 pub marks : {short compressed s c : Bool} → short ≡ s → compressed ≡ c → first (pick short 25 0 ∷ pick compressed 25 0 ∷ []) ≡ pick s 25 (pick c 25 0)
 unfolding first
-marks {s = s} {c = c} es ec = rw (es, ec) (by s c)
+marks {s = s} {c = c} es ec = rw (es, ec) (by-marks s c)
   where
-    by : (s c : Bool) → first (pick s 25 0 ∷ pick c 25 0 ∷ []) ≡ pick s 25 (pick c 25 0)
-    by true c = refl
-    by false true = refl
-    by false false = refl
+    by-marks : (s c : Bool) → first (pick s 25 0 ∷ pick c 25 0 ∷ []) ≡ pick s 25 (pick c 25 0)
+    by-marks true c = refl
+    by-marks false true = refl
+    by-marks false false = refl
 
 module _ (v : Version) (h : Heading) (name names rest deviations : List ℕ) where
   -- the two checks

@@ -14,15 +14,15 @@ use Rattle.checks.proofs.Firsts.{in-front, behind, only}
 -- a content: 12, 27, 28, then the rest
 in-order : (v : Version) (c : Content) → first (contentChecks v c) ≡ first (first (earlyChecks c) ∷ lateChecks v c)
 unfolding first
-in-order v c = by c ∙ in-front (earlyChecks c) (lateChecks v c)
+in-order v c = by-content c ∙ in-front (earlyChecks c) (lateChecks v c)
   where
-    by : (c : Content) → first (contentChecks v c) ≡ first (earlyChecks c ++ lateChecks v c)
-    by (text e s) = refl
-    by (popularimeter user r k) = refl
-    by (table f b m x y ds) = refl
-    by (chapter element a b d e run) = refl
-    by (contents element t o children run) = refl
-    by (raw body) = refl
+    by-content : (c : Content) → first (contentChecks v c) ≡ first (earlyChecks c ++ lateChecks v c)
+    by-content (text e s) = refl
+    by-content (popularimeter user r k) = refl
+    by-content (table f b m x y ds) = refl
+    by-content (chapter element a b d e run) = refl
+    by-content (contents element t o children run) = refl
+    by-content (raw body) = refl
 
 -- a record down to 34: its heading, then its content
 pub in-steps : (v : Version) (r : Rec)

@@ -18,7 +18,7 @@ use format::refusals::WRONG_ID;
 use frame::body::kind_of;
 
 // Whether a number lies from low to high.
-pub(crate) fn is_within(low: u32, high: u32, b: u32) -> bool
+fn is_within(low: u32, high: u32, b: u32) -> bool
     ensures { λ r. ⌜ r ≡ (leb low b && leb b high) ⌝ }
 {
     if low <= b { b <= high } else { false }

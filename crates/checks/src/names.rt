@@ -2,39 +2,23 @@
 ghost use mathlib.Core.Path.{_≡_};
 ghost use mathlib.Core.Bool.{false};
 ghost use mathlib.Core.List.{[], _∷_};
-ghost use Rattle.format.specs.Bytes.{first, zerosIn};
+ghost use Rattle.format.specs.Bytes.{first};
 ghost use Rattle.format.specs.Record.{contents};
 ghost use Rattle.format.specs.Encode.{zeroCheck, lastOr, childrenCheck};
 use format::refusals::WRONG_CHILDREN;
 use format::refusals::ZERO_IN_NAME;
+use format::small::zeros_in;
+use frame::parts::zero_at;
 
 // 27: the user or the element id holds a zero.
 pub(crate) fn name_check(name: &[u8]) -> u8
     ensures { λ r. ⌜ r ≡ zeroCheck (now (name .entry)) ⌝ }
 {
-    let mut i: usize = 0;
-    while i < name.len() {
-        if name[i] == 0 {
-            return ZERO_IN_NAME;
-        }
-        i += 1;
+    if zero_at(name) == name.len() {
+        0
+    } else {
+        ZERO_IN_NAME
     }
-    0
-}
-
-// How many children there are: a zero closes each.
-fn children_count(children: &[u8]) -> usize
-    ensures { λ r. ⌜ r ≡ zerosIn (now (children .entry)) ⌝ }
-{
-    let mut n: usize = 0;
-    let mut i: usize = 0;
-    while i < children.len() {
-        if children[i] == 0 {
-            n += 1;
-        }
-        i += 1;
-    }
-    n
 }
 
 // The last byte, or 0 where there is none.
@@ -54,7 +38,7 @@ fn children_check(children: &[u8]) -> u8
     if 0 < last_byte(children) {
         return WRONG_CHILDREN;
     }
-    if 255 < children_count(children) {
+    if 255 < zeros_in(children) {
         WRONG_CHILDREN
     } else {
         0

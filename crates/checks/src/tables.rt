@@ -5,50 +5,11 @@ ghost use mathlib.Core.List.{_++_};
 ghost use Prim.Native.Nat.{_+_, _%_, _^_};
 ghost use lib.Dec.{eqb, ltb};
 ghost use Rattle.format.specs.Bytes.{pick, first};
-ghost use Rattle.format.specs.Table.{isWidth, widthChecks, fit};
+ghost use Rattle.format.specs.Table.{widthChecks, fit};
 ghost use Rattle.format.specs.Encode.{deviationChecks};
-use crate::ids::is_within;
 use format::refusals::ODD_REFERENCES;
-use format::refusals::WIDTHS_NOT_IN_FOURS;
-use format::refusals::WIDTHS_OVER_64;
 use format::refusals::WRONG_DEVIATION;
-use format::refusals::WRONG_WIDTH;
-
-// Whether a width is 1 to 32.
-fn is_width(width: u8) -> bool
-    ensures { λ r. ⌜ r ≡ isWidth width ⌝ }
-{
-    is_within(1, 32, width as u32)
-}
-
-// Whether both are.
-fn are_widths(v: u8, w: u8) -> bool
-    ensures { λ r. ⌜ r ≡ (isWidth v && isWidth w) ⌝ }
-{
-    if is_width(v) { is_width(w) } else { false }
-}
-
-// The sum of two widths, of whatever size.
-fn sum_of(v: u8, w: u8) -> u16
-    ensures { λ r. ⌜ r ≡ v + w ⌝ }
-{
-    v as u16 + w as u16
-}
-
-// 30, 31, 32: each width, and their sum.
-fn widths_check(v: u8, w: u8) -> u8
-    ensures { λ r. ⌜ r ≡ first (widthChecks v w) ⌝ }
-{
-    let widths = are_widths(v, w);
-    let sum = sum_of(v, w);
-    if !widths {
-        return WRONG_WIDTH;
-    }
-    if sum % 4 != 0 {
-        return WIDTHS_NOT_IN_FOURS;
-    }
-    if sum <= 64 { 0 } else { WIDTHS_OVER_64 }
-}
+use frame::table::widths_refusal;
 
 // Whether a number fits a width.
 fn fits(x: u32, width: u8) -> bool
@@ -102,14 +63,14 @@ fn deviations_check(bytes: u32, millis: u32, v: u8, w: u8, deviations: &[u32]) -
     if !fits(millis, 24) {
         return WRONG_DEVIATION;
     }
-    odd_check(sum_of(v, w), deviations.len())
+    odd_check(v as u16 + w as u16, deviations.len())
 }
 
 // 30 to 34 in their order: `tableChecks` of any table with these numbers and deviations.
 pub(crate) fn table_check(bytes: u32, millis: u32, v: u8, w: u8, deviations: &[u32]) -> u8
     ensures { λ r. ⌜ r ≡ first (widthChecks v w ++ deviationChecks bytes millis v w (now (deviations .entry))) ⌝ }
 {
-    let k = widths_check(v, w);
+    let k = widths_refusal(v, w);
     if k != 0 {
         return k;
     }

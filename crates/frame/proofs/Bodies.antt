@@ -9,7 +9,7 @@ use lib.ListN.{length, take, drop, getD}
 use lib.Seq.{slice, take-all, take-length}
 use lib.Dec.{eqb, leb}
 use borrow.Author.Tests.{eq-eqb, ne-eqb, le-leb, lt-leb, lt-ltb, le-ltb}
-use Rattle.lists.proofs.Cuts.{length-cut}
+use Rattle.lists.proofs.Cuts.{length-cut, take-drop}
 use Rattle.lists.proofs.Slices.{slice-drop, slice-cut}
 use Rattle.format.specs.Bytes.{first, span, zeroAt, zerosIn}
 use Rattle.format.specs.Numbers.{number}
@@ -87,8 +87,8 @@ module _ (b : List ℕ) (len : ℕ) (zero : len ≡ zeroAt b) where
 
 -- ---- lookup tables
 
--- numbers of two and of three bytes, of which no more than two or four are read
-short-cut : (n f t : ℕ) (b : List ℕ) → t ≤ f + n → take n (slice f t b) ≡ slice f t b
+-- a number of no more bytes than are read
+pub short-cut : (n f t : ℕ) (b : List ℕ) → t ≤ f + n → take n (slice f t b) ≡ slice f t b
 short-cut n f t b h = take-all n (slice f t b) (omega (arith, length-cut f t b))
 
 module _ (b : List ℕ) where
@@ -101,11 +101,11 @@ module _ (b : List ℕ) where
   table-checked h = rw (le-ltb (length b) 10 h)
 
   pub table-parts : (v : Version) (at x y z : ℕ) (none : Span)
-      → x ≡ number (take 2 (slice 0 2 b)) → y ≡ number (take 4 (slice 2 5 b)) → z ≡ number (take 4 (slice 5 8 b)) → none ≡ nowhere
+      → x ≡ number (take 2 (slice 0 2 b)) → y ≡ number (take 3 (slice 2 5 b)) → z ≡ number (take 3 (slice 5 8 b)) → none ≡ nowhere
       → record { fields = Fields.Table x y z (getD b 8 0) (getD b 9 0); name = none; names = none; rest = span (at + 10) (length b - 10) } ≡ partsOf v Kind.Table at b
   unfolding partsOf
   table-parts v at x y z none ex ey ez f =
-      rw (ex, ey, ez, f, short-cut 2 0 2 b (omega arith), short-cut 4 2 5 b (omega arith), short-cut 4 5 8 b (omega arith))
+      rw (ex, ey, ez, f, short-cut 2 0 2 b (omega arith), short-cut 3 2 5 b (omega arith), short-cut 3 5 8 b (omega arith))
 
 -- ---- chapters
 
@@ -119,12 +119,12 @@ module _ (b : List ℕ) (len : ℕ) (zero : len ≡ zeroAt b) where
   chapter-whole h = rw (← zero, le-leb (len + 17) (length b) h)
 
   abbrev timeAt : ℕ → ℕ
-  timeAt at = number (take 4 (drop at b))
+  timeAt at = number (slice at (at + 4) b)
 
   pub chapter-parts : (v : Version) (at t u w x : ℕ) (none : Span) → t ≡ timeAt (len + 1) → u ≡ timeAt (len + 5) → w ≡ timeAt (len + 9) → x ≡ timeAt (len + 13) → none ≡ nowhere
       → record { fields = Fields.Chapter t u w x; name = span at len; names = none; rest = span (at + (len + 17)) (length b - (len + 17)) } ≡ partsOf v Kind.Chapter at b
   unfolding partsOf
-  chapter-parts v at t u w x none et eu ew ex f = rw (← zero, et, eu, ew, ex, f)
+  chapter-parts v at t u w x none et eu ew ex f = rw (← zero, et, eu, ew, ex, f, take-drop 4 (len + 1) b, take-drop 4 (len + 5) b, take-drop 4 (len + 9) b, take-drop 4 (len + 13) b)
 
 -- ---- tables of contents
 

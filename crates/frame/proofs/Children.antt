@@ -64,16 +64,16 @@ module _ (k : ℕ) (s : List ℕ) where
   -- what an answer says
   pub names-whole : (n : ℕ) → Names.Whole n ≡ namesOf k s → (leb k (zerosIn s) ≡ true) × (n ≡ namesLen k s)
   unfolding namesOf
-  names-whole n e = by (leb k (zerosIn s)) e
+  names-whole n e = by-count (leb k (zerosIn s)) e
     where
-      by : (t : Bool) → Names.Whole n ≡ pick t (Names.Whole (namesLen k s)) Names.Cut → (t ≡ true) × (n ≡ namesLen k s)
-      by true h = (refl, cc)
-      by false h = absurd (let z : _≡_ {A = ℕ} 0 1 = cc in omega arith)
+      by-count : (t : Bool) → Names.Whole n ≡ pick t (Names.Whole (namesLen k s)) Names.Cut → (t ≡ true) × (n ≡ namesLen k s)
+      by-count true h = (refl, cc)
+      by-count false h = absurd (let z : _≡_ {A = ℕ} 0 1 = cc in omega arith)
 
   pub names-cut : Names.Cut ≡ namesOf k s → leb k (zerosIn s) ≡ false
   unfolding namesOf
-  names-cut e = by (leb k (zerosIn s)) e
+  names-cut e = by-count (leb k (zerosIn s)) e
     where
-      by : (t : Bool) → Names.Cut ≡ pick t (Names.Whole (namesLen k s)) Names.Cut → t ≡ false
-      by true h = absurd (let z : _≡_ {A = ℕ} 0 1 = cc in omega arith)
-      by false h = refl
+      by-count : (t : Bool) → Names.Cut ≡ pick t (Names.Whole (namesLen k s)) Names.Cut → t ≡ false
+      by-count true h = absurd (let z : _≡_ {A = ℕ} 0 1 = cc in omega arith)
+      by-count false h = refl

@@ -3,36 +3,37 @@ use mathlib.Core.Path.{_≡_, refl, sym, _∙_}
 use Prim.Native.Nat.{ℕ, _+_, _-_, _≤_, _<_, min}
 use native.Mathlib.Omega.{arith}
 use mathlib.Core.Bool.{Bool, true, false, _&&_}
-use mathlib.Core.List.{List, _∷_}
+use mathlib.Core.List.{List}
 use lib.ListN.{length, take, drop, getD}
 use lib.Dec.{ltb}
 use borrow.Author.Tests.{lt-ltb, le-ltb, eq-eqb, ne-eqb, ltb-false}
-use Rattle.format.specs.Bytes.{pick, first}
+use Rattle.format.specs.Bytes.{first}
 use Rattle.format.specs.Numbers.{number}
 use Rattle.format.specs.Ids.{idLen, isUtf8}
-use Rattle.format.specs.Frame.{headLen, frameSize, isEncrypted, isGrouped, isCompressed, isFlagged, wantsWhole, lengthBytes, frameChecks, headOf}
+use Rattle.format.specs.Frame.{headLen, frameSize, isCompressed, isFlagged, wantsWhole, lengthBytes, frameChecks, headOf}
 use Rattle.format.specs.declared.Version.{Version}
 use Rattle.format.specs.declared.Head.{Head}
 use Rattle.format.proofs.Checks.{none-of, none-refused, none-else, first-stops}
-use Rattle.frame.specs.Headers.{firstChecks, Begun}
+use Rattle.frame.specs.Headers.{Begun}
+
+-- ---- the first bytes
+
+pub head-some : (v : Version) → 6 ≤ headLen v
+head-some Version.Id3v22 = omega arith
+head-some Version.Id3v23 = omega arith
+head-some Version.Id3v24 = omega arith
 
 -- ---- the first checks
 
-module _ (depth : ℕ) (id more : List ℕ) where
-  pub too-deep : 8 < depth → 13 ≡ first (pick (ltb 8 depth) 13 0 ∷ pick (isUtf8 id) 0 7 ∷ more)
+module _ (v : Version) (depth : ℕ) (s : List ℕ) where
+  pub too-deep : 8 < depth → 13 ≡ first (take 4 (frameChecks v depth s))
   unfolding first
   too-deep h = rw (lt-ltb 8 depth h)
 
-  pub not-utf8 : depth ≤ 8 → isUtf8 id ≡ false → 7 ≡ first (pick (ltb 8 depth) 13 0 ∷ pick (isUtf8 id) 0 7 ∷ more)
+  -- the depth passes: the id and the flags decide
+  pub not-deep : depth ≤ 8 → first (drop 1 (take 4 (frameChecks v depth s))) ≡ first (take 4 (frameChecks v depth s))
   unfolding first
-  not-utf8 h e = rw (le-ltb 8 depth h, e)
-
-module _ (depth : ℕ) (s : List ℕ) (shallow : depth ≤ 8) (utf8 : isUtf8 (take 4 s) ≡ true) where
-  pub by-flags : (encrypted grouped : Bool) → first (firstChecks depth encrypted grouped s) ≡ pick encrypted 8 (pick grouped 9 0)
-  unfolding first
-  by-flags true grouped = rw (le-ltb 8 depth shallow, utf8)
-  by-flags false true = rw (le-ltb 8 depth shallow, utf8)
-  by-flags false false = rw (le-ltb 8 depth shallow, utf8)
+  not-deep h = rw (le-ltb 8 depth h)
 
 -- ---- the header
 
@@ -56,15 +57,6 @@ pub record Tested (v : Version) (depth k : ℕ) (s : List ℕ) : Type 0 where
   pub long : headLen v ≤ length s
   pub some : getD s 0 0 ≡ 0 → ⊥
   pub given : k ≡ first (take 4 (frameChecks v depth s))
-
--- the first checks are those of an edition whose flags say so
-pub tested : {v : Version} {depth k : ℕ} {s : List ℕ} {encrypted grouped : Bool} → idLen v ≡ 4 → headLen v ≤ length s → (getD s 0 0 ≡ 0 → ⊥)
-    → encrypted ≡ isEncrypted v s → grouped ≡ isGrouped v s → k ≡ first (firstChecks depth encrypted grouped s) → Tested v depth k s
-tested four long some e g h = record {
-  long = long;
-  some = some;
-  given = rw (h, four, e, g);
-}
 
 module _ {v : Version} {depth k : ℕ} {s : List ℕ} (t : Tested v depth k s) where
   -- they decide

@@ -7,4 +7,4 @@ mod Widths
 mod Packed
 mod Counts
 mod Unpacking
-mod Bodies
+pub mod Bodies

@@ -2,12 +2,11 @@
 use mathlib.Core.Path.{_≡_, refl, sym, ap, _∙_}
 use Prim.Native.Nat.{ℕ, zero, suc, _+_, _-_, _*_, _/_, _%_, _^_, _≤_, _<_}
 use native.Mathlib.Nat.{zero-mul, suc-mul, mod-eq-of-lt, lt-of-lt-of-le}
-use native.Mathlib.Numerals.{add-one}
 use native.Mathlib.Omega.{arith}
 use mathlib.Core.List.{List, [], _∷_}
 use lib.Bits.{bitAnd, and-mask, mask-lt}
 use lib.Pow.{pow-pos, pow-mono, shl-exact}
-use lib.ListN.{length, take, drop, getD, length-take, length-drop, length-append, take-append-drop}
+use lib.ListN.{length, take, drop, length-take, length-drop, length-append, take-append-drop}
 use lib.Seq.{slice, take-all, drop-drop, take-append-add, drop-append-add, take-nil, drop-nil}
 use Rattle.lists.proofs.Parts.{each-take, each-drop}
 use Rattle.lists.proofs.Cuts.{take-drop, length-cut}
@@ -118,22 +117,3 @@ pub gathered-none : (n v w : ℕ) (l : List ℕ) → n ≡ 0 → gathered n v w 
 unfolding gathered
 gathered-none zero v w l h = refl
 gathered-none (suc n) v w l h = absurd (omega arith)
-
--- the two numbers of the i-th pair
-pub gathered-first : (n v w i : ℕ) (l : List ℕ) → i * 2 < n → getD (gathered n v w l) (i * 2) 0 ≡ onto 2 0 (take v (drop (i * (v + w)) l))
-unfolding gathered
-gathered-first zero v w i l h = absurd (omega arith)
-gathered-first (suc n) v w zero l h = rw (zero-mul (v + w))
-gathered-first (suc zero) v w (suc i) l h = absurd (omega arith)
-gathered-first (suc (suc n)) v w (suc i) l h =
-    let e : suc i * 2 ≡ suc (suc (i * 2)) = omega arith in
-    let f : v + (w + i * (v + w)) ≡ suc i * (v + w) = omega (arith, suc-mul i (v + w)) in
-    rw (e, gathered-first n v w i (drop w (drop v l)) (omega arith), drop-drop, drop-drop, f)
-
-pub gathered-second : (n v w i : ℕ) (l : List ℕ) → i * 2 + 1 < n → getD (gathered n v w l) (i * 2 + 1) 0 ≡ onto 2 0 (take w (drop (i * (v + w) + v) l))
-unfolding gathered
-gathered-second zero v w i l h = absurd (omega arith)
-gathered-second (suc n) v w i l h =
-    let s : w + v ≡ v + w = omega arith in
-    let f : v + i * (v + w) ≡ i * (v + w) + v = omega arith in
-    rw (add-one, gathered-first n w v i (drop v l) (omega arith), s, drop-drop, f)

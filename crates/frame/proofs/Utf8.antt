@@ -20,24 +20,24 @@ pub lead-of : (b k : ℕ) (s : List ℕ) → classOf b ≡ k → behind k s ≡ 
 unfolding utf8From
 lead-of b k s e = ap (λ (c : ℕ). behind c s) (sym e)
 
-small : (t : Bool) {x y : ℕ} → x ≤ 9 → y ≤ 9 → pick t x y ≤ 9
-small true hx hy = hx
-small false hx hy = hy
+pick-below : (t : Bool) {x y : ℕ} → x ≤ 9 → y ≤ 9 → pick t x y ≤ 9
+pick-below true hx hy = hx
+pick-below false hx hy = hy
 
 pub class-below : (b : ℕ) → classOf b ≤ 9
 class-below b =
-    small (ltb b 0x80) (omega arith)
-    (small (ltb b 0xC0) (omega arith)
-    (small (ltb b 0xC2) (omega arith)
-    (small (ltb b 0xE0) (omega arith)
-    (small (eqb b 0xE0) (omega arith)
-    (small (eqb b 0xED) (omega arith)
-    (small (ltb b 0xF0) (omega arith)
-    (small (eqb b 0xF0) (omega arith) (small (ltb b 0xF4) (omega arith) (small (eqb b 0xF4) (omega arith) (omega arith))))))))))
+    pick-below (ltb b 0x80) (omega arith)
+    (pick-below (ltb b 0xC0) (omega arith)
+    (pick-below (ltb b 0xC2) (omega arith)
+    (pick-below (ltb b 0xE0) (omega arith)
+    (pick-below (eqb b 0xE0) (omega arith)
+    (pick-below (eqb b 0xED) (omega arith)
+    (pick-below (ltb b 0xF0) (omega arith)
+    (pick-below (eqb b 0xF0) (omega arith) (pick-below (ltb b 0xF4) (omega arith) (pick-below (eqb b 0xF4) (omega arith) (omega arith))))))))))
 
 -- one class fewer
-down : {k : ℕ} (n : ℕ) → k ≤ suc n → (k ≡ suc n → ⊥) → k ≤ n
-down n h ne = omega arith
+one-fewer : {k : ℕ} (n : ℕ) → k ≤ suc n → (k ≡ suc n → ⊥) → k ≤ n
+one-fewer n h ne = omega arith
 
 only-one : {k : ℕ} → k ≤ 1 → (k ≡ 0 → ⊥) → k ≡ 1
 only-one h ne = omega arith
@@ -51,7 +51,7 @@ module _ (k : ℕ) (s : List ℕ) where
   pub no-lead : k ≤ 9 → (k ≡ 0 → ⊥) → (k ≡ 2 → ⊥) → (k ≡ 3 → ⊥) → (k ≡ 4 → ⊥) → (k ≡ 5 → ⊥) → (k ≡ 6 → ⊥) → (k ≡ 7 → ⊥) → (k ≡ 8 → ⊥) → behind k s ≡ false
   no-lead h h0 h2 h3 h4 h5 h6 h7 h8 =
       alone (eqb k 9) refl
-      (λ e. only-one (down 1 (down 2 (down 3 (down 4 (down 5 (down 6 (down 7 (down 8 h (eqb-false k 9 e)) h8) h7) h6) h5) h4) h3) h2) h0)
+      (λ e. only-one (one-fewer 1 (one-fewer 2 (one-fewer 3 (one-fewer 4 (one-fewer 5 (one-fewer 6 (one-fewer 7 (one-fewer 8 h (eqb-false k 9 e)) h8) h7) h6) h5) h4) h3) h2) h0)
 
 -- ---- where tails are due
 

@@ -25,7 +25,6 @@ pub record Widths (v w sum : ℕ) : Type 0 where
   pub is : sum ≡ v + w
   pub first-least : 1 ≤ v
   pub first-most : v ≤ 32
-  pub second-least : 1 ≤ w
   pub second-most : w ≤ 32
 
 pub both-widths : (v w : ℕ) → (isWidth v && isWidth w) ≡ true → Widths v w (v + w)
@@ -33,7 +32,7 @@ both-widths v w h =
     let t = and-true (isWidth v) (isWidth w) h in
     let a = width-bounds v (t .0) in
     let b = width-bounds w (t .1) in
-    record { both = h; is = refl; first-least = a .0; first-most = a .1; second-least = b .0; second-most = b .1 }
+    record { both = h; is = refl; first-least = a .0; first-most = a .1; second-most = b .1 }
 
 by-test : (v w sum : ℕ) (t : Bool) → (isWidth v && isWidth w) ≡ t → sum ≡ pick t (v + w) 0 → (sum ≡ 0 → ⊥) → Widths v w sum
 by-test v w sum true h e some = rw e (both-widths v w h)
@@ -43,11 +42,11 @@ pub widths : (v w sum : ℕ) → sum ≡ sumOf v w → (sum ≡ 0 → ⊥) → W
 widths v w sum e some = by-test v w sum (isWidth v && isWidth w) refl e some
 
 pub no-widths : (v w sum : ℕ) → sum ≡ sumOf v w → sum ≡ 0 → (isWidth v && isWidth w) ≡ false
-no-widths v w sum e none = by (isWidth v && isWidth w) refl (sym e ∙ none)
+no-widths v w sum e none = by-widths (isWidth v && isWidth w) refl (sym e ∙ none)
   where
-    by : (t : Bool) → (isWidth v && isWidth w) ≡ t → pick t (v + w) 0 ≡ 0 → t ≡ false
-    by true h z = let d = both-widths v w h in absurd (omega (arith, d .first-least))
-    by false h z = refl
+    by-widths : (t : Bool) → (isWidth v && isWidth w) ≡ t → pick t (v + w) 0 ≡ 0 → t ≡ false
+    by-widths true h z = let d = both-widths v w h in absurd (omega (arith, d .first-least))
+    by-widths false h z = refl
 
 -- ---- the checks
 

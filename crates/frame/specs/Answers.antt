@@ -3,7 +3,6 @@ use Prim.Native.Nat.{ℕ}
 use mathlib.Core.List.{List, [], _∷_}
 use Rattle.format.specs.declared.Parts.{Parts}
 use Rattle.frame.specs.declared.body.Parsed.{Parsed}
-use Rattle.frame.specs.declared.table.Found.{Found}
 use Rattle.frame.specs.declared.table.Put.{Put}
 
 -- ---- a body: the number, and none or one set of parts
@@ -15,12 +14,6 @@ parsedNumber (Parsed.Parts p) = 0
 abbrev pub parsedParts : Parsed → List Parts
 parsedParts (Parsed.Refused k) = []
 parsedParts (Parsed.Parts p) = p ∷ []
-
--- ---- a reference: none, or its two deviations
-
-abbrev pub foundPair : Found → List ℕ
-foundPair (Found.Pair v w) = v ∷ w ∷ []
-foundPair Found.Nothing = []
 
 -- ---- all deviations: the number, and the count, which a refused call has as 0
 

@@ -1,18 +1,17 @@
 -- A frame's header up to its body: the first checks, and what is known once they passed. Assumes nothing.
 use mathlib.Core.Path.{_≡_}
 use Prim.Native.Nat.{ℕ, _≤_}
-use mathlib.Core.Bool.{Bool, true, false}
+use mathlib.Core.Bool.{true, false}
 use mathlib.Core.List.{List, [], _∷_}
 use lib.ListN.{length, take, getD}
-use lib.Dec.{ltb}
-use Rattle.format.specs.Bytes.{pick}
+use Rattle.format.specs.Bytes.{pick, has}
 use Rattle.format.specs.Ids.{idLen, isUtf8}
-use Rattle.format.specs.Frame.{headLen, isEncrypted, isGrouped}
+use Rattle.format.specs.Frame.{headLen, frameFlags, isEncrypted, isGrouped}
 use Rattle.format.specs.declared.Version.{Version}
 
--- the first four checks where an id has four bytes, of a frame whose flags say whether it is encrypted and grouped
-abbrev pub firstChecks : ℕ → Bool → Bool → List ℕ → List ℕ
-firstChecks depth encrypted grouped s = pick (ltb 8 depth) 13 0 ∷ pick (isUtf8 (take 4 s)) 0 7 ∷ pick encrypted 8 0 ∷ pick grouped 9 0 ∷ []
+-- the checks of an id of four bytes, and of the bits that say encrypted and grouped
+abbrev pub idChecks : ℕ → ℕ → List ℕ → List ℕ
+idChecks encryption grouping s = pick (isUtf8 (take 4 s)) 0 7 ∷ pick (has encryption (frameFlags s)) 8 0 ∷ pick (has grouping (frameFlags s)) 9 0 ∷ []
 
 -- a frame begins, its id is UTF-8, and it is neither encrypted nor in a group
 pub record Begun (v : Version) (s : List ℕ) : Type 0 where

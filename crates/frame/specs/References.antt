@@ -1,22 +1,16 @@
 -- What reading the packed references of a lookup table answers (document 01, "Five kinds", MLLT). Assumes nothing.
-use Prim.Native.Nat.{ℕ, _+_, _-_, _*_, _^_, min}
+use Prim.Native.Nat.{ℕ, _-_, _^_, min}
 use mathlib.Core.Bool.{_&&_}
 use mathlib.Core.List.{List}
-use lib.ListN.{length, getD}
-use lib.Dec.{leb, ltb}
+use lib.ListN.{length}
+use lib.Dec.{leb}
 use Rattle.format.specs.Bytes.{pick, putFront}
 use Rattle.format.specs.Table.{isWidth, countOf, unpack}
-use Rattle.frame.specs.declared.table.Found.{Found}
 use Rattle.frame.specs.declared.table.Put.{Put}
 
 -- how many references n bytes hold: none where a width is not 1 to 32, and no more than a number of 64 bits can say
 unfoldable pub referencesIn : ℕ → ℕ → ℕ → ℕ
 referencesIn v w n = pick (isWidth v && isWidth w) (min (countOf v w n) (2 ^ 64 - 1)) 0
-
--- the i-th of them
-unfoldable pub referenceOf : ℕ → ℕ → List ℕ → ℕ → Found
-referenceOf v w s i =
-    pick (ltb i (referencesIn v w (length s))) (Found.Pair (getD (unpack v w s) (i * 2) 0) (getD (unpack v w s) (i * 2 + 1) 0)) Found.Nothing
 
 -- all deviations, two by two, at the front of a buffer of numbers that has the room
 unfoldable pub unpackOf : ℕ → ℕ → List ℕ → List ℕ → Put × List ℕ

@@ -92,7 +92,7 @@ pub fn kind_of(version: Version, id: u32) -> Kind
 }
 
 // A body of any other kind, in any edition: all of it is the rest, and no byte of it is looked at.
-pub fn parse_raw(s: &[u8], from: usize, to: usize) -> Parsed
+fn parse_raw(s: &[u8], from: usize, to: usize) -> Parsed
     ensures { λ r. ⌜ ((v : Version) → r ≡ parsedOf v Kind.Raw from (slice from to (now (s .entry)))) ⌝ }
 {
     let b = part(s, from, to);

@@ -9,9 +9,7 @@ use format::Span;
 use format::refusals::MISSING_FIELD;
 use loads::read32;
 ghost use mathlib.Core.Path.{_≡_};
-ghost use lib.ListN.{take, drop};
 ghost use lib.Seq.{slice};
-ghost use Rattle.format.specs.Numbers.{number};
 ghost use Rattle.format.specs.declared.Version.{Version};
 ghost use Rattle.format.specs.declared.Kind.{Kind};
 ghost use Rattle.frame.specs.Bodies.{namesOf, parsedOf};
@@ -20,13 +18,6 @@ ghost use Rattle.frame.specs.Bodies.{namesOf, parsedOf};
 enum Names {
     Whole(usize),
     Cut,
-}
-
-// The number of four bytes at a place.
-fn time(b: &[u8], at: usize) -> u32
-    ensures { λ r. ⌜ r ≡ number (take 4 (drop at (now (b .entry)))) ⌝ }
-{
-    read32(b, at)
 }
 
 // The first names that s holds, as many as there are to be.
@@ -58,10 +49,10 @@ pub fn parse_chapter(s: &[u8], from: usize, to: usize) -> Parsed
         return Parsed::Refused(MISSING_FIELD);
     }
     let fields = Fields::Chapter {
-        start_time: time(b, len + 1),
-        end_time: time(b, len + 5),
-        start_offset: time(b, len + 9),
-        end_offset: time(b, len + 13),
+        start_time: read32(b, len + 1),
+        end_time: read32(b, len + 5),
+        start_offset: read32(b, len + 9),
+        end_offset: read32(b, len + 13),
     };
     let start = from + run;
     let left = b.len() - run;

@@ -1,17 +1,10 @@
 // Parts of slices.
 use format::Span;
+use format::small::least;
 ghost use mathlib.Core.Path.{_≡_};
-ghost use Prim.Native.Nat.{min};
 ghost use lib.Seq.{slice};
 ghost use Rattle.format.specs.Bytes.{zeroAt};
 ghost use Rattle.format.specs.Record.{nowhere as noSpan};
-
-// The smaller of two numbers.
-pub(crate) fn least(a: usize, b: usize) -> usize
-    ensures { λ r. ⌜ r ≡ min a b ⌝ }
-{
-    if a < b { a } else { b }
-}
 
 // The part of s from `from` to `to`, or what there is of it.
 pub(crate) fn part(s: &[u8], from: usize, to: usize) -> &[u8]
@@ -23,7 +16,7 @@ pub(crate) fn part(s: &[u8], from: usize, to: usize) -> &[u8]
 }
 
 // Before the first zero, or at the end.
-pub(crate) fn zero_at(s: &[u8]) -> usize
+pub fn zero_at(s: &[u8]) -> usize
     ensures { λ r. ⌜ r ≡ zeroAt (now (s .entry)) ⌝ }
 {
     let mut i = 0;

@@ -1,7 +1,5 @@
 // Bodies of lookup tables, and the references that are packed in them, highest bit first.
 use crate::body::Parsed;
-use crate::numbers::read16;
-use crate::numbers::read32;
 use crate::parts::nowhere;
 use crate::parts::part;
 use format::Fields;
@@ -11,25 +9,20 @@ use format::refusals::MISSING_FIELD;
 use format::refusals::NO_ROOM;
 use format::refusals::WIDTHS_NOT_IN_FOURS;
 use format::refusals::WRONG_WIDTH;
+use loads::read_few;
 use loads::read64;
 ghost use mathlib.Core.Path.{_≡_};
 ghost use mathlib.Core.Bool.{_&&_};
 ghost use Prim.Native.Nat.{_+_, _-_, _*_, _/_, _^_, _≤_, _<_, min};
-ghost use lib.ListN.{length, take, drop, getD};
+ghost use lib.ListN.{length, take, drop};
 ghost use lib.Seq.{slice, sets};
 ghost use Rattle.format.specs.Bytes.{pick, first};
 ghost use Rattle.format.specs.Numbers.{onto};
-ghost use Rattle.format.specs.Table.{isWidth, widthChecks, spread, gathered, unpack as unpacked};
+ghost use Rattle.format.specs.Table.{isWidth, widthChecks, spread, gathered};
 ghost use Rattle.format.specs.declared.Version.{Version};
 ghost use Rattle.format.specs.declared.Kind.{Kind};
 ghost use Rattle.frame.specs.Bodies.{parsedOf};
-ghost use Rattle.frame.specs.References.{referencesIn, referenceOf, unpackOf};
-
-// A reference of a table: its two deviations.
-pub enum Found {
-    Pair(u32, u32),
-    Nothing,
-}
+ghost use Rattle.frame.specs.References.{referencesIn, unpackOf};
 
 // How many numbers were put to a buffer, or the number of the refusal.
 pub enum Put {
@@ -57,7 +50,7 @@ fn sum_of(v: u8, w: u8) -> usize
 }
 
 // What the widths are refused with, 0 for nothing. No two of 1 to 32 bits have more than 64.
-fn refusal(v: u8, w: u8) -> u8
+pub fn widths_refusal(v: u8, w: u8) -> u8
     ensures { λ r. ⌜ r ≡ first (widthChecks v w) ⌝ }
 {
     let sum = sum_of(v, w);
@@ -78,18 +71,21 @@ pub fn parse(s: &[u8], from: usize, to: usize) -> Parsed
     if b.len() < 10 {
         return Parsed::Refused(MISSING_FIELD);
     }
-    let bytes_bits = b[8];
-    let millis_bits = b[9];
-    let no = refusal(bytes_bits, millis_bits);
-    if no != 0 {
-        return Parsed::Refused(no);
+    let bits_for_bytes = b[8];
+    let bits_for_millis = b[9];
+    let refusal = widths_refusal(bits_for_bytes, bits_for_millis);
+    if refusal != 0 {
+        return Parsed::Refused(refusal);
     }
+    let frames = read_few(b, 0, 2, 2) as u16;
+    let bytes = read_few(b, 2, 5, 3) as u32;
+    let millis = read_few(b, 5, 8, 3) as u32;
     let fields = Fields::Table {
-        frames: read16(b, 0, 2),
-        bytes: read32(b, 2, 5),
-        millis: read32(b, 5, 8),
-        bits_for_bytes: bytes_bits,
-        bits_for_millis: millis_bits,
+        frames,
+        bytes,
+        millis,
+        bits_for_bytes,
+        bits_for_millis,
     };
     let start = from + 10;
     let len = b.len() - 10;
@@ -130,14 +126,6 @@ fn count_in(v: u8, w: u8, n: usize) -> usize
     fitting(n, sum)
 }
 
-// How many references the packed bytes of a part hold.
-pub fn count(bits_for_bytes: u8, bits_for_millis: u8, s: &[u8], from: usize, to: usize) -> usize
-    ensures { λ r. ⌜ r ≡ referencesIn «bits_for_bytes» «bits_for_millis» (length (slice from to (now (s .entry)))) ⌝ }
-{
-    let b = part(s, from, to);
-    count_in(bits_for_bytes, bits_for_millis, b.len())
-}
-
 // The number of w bits that begins r bits into the byte at k, and ends within b.
 fn bits_at(b: &[u8], k: usize, r: usize, w: u8) -> u32
     requires { ⌜ (r < 8) × (w ≤ 32) × (k * 8 + r + w ≤ 8 * length (now b)) ⌝ }
@@ -148,33 +136,6 @@ fn bits_at(b: &[u8], k: usize, r: usize, w: u8) -> u32
     let bytes = read64(b, k, k + n);
     let mask = (1u64 << w) - 1;
     ((bytes >> (n * 8 - end)) & mask) as u32
-}
-
-// The i-th reference, which is there. Eight references take as many bytes as one takes bits, so that no product is too large.
-fn pair_at(b: &[u8], v: u8, w: u8, i: usize) -> Found
-    requires { ⌜ i < referencesIn v w (length (now b)) ⌝ }
-    ensures { λ r. ⌜ r ≡ Found.Pair (getD (unpacked v w (now (b .entry))) (i * 2) 0) (getD (unpacked v w (now (b .entry))) (i * 2 + 1) 0) ⌝ }
-{
-    let sum = v as usize + w as usize;
-    let k = i / 8 * sum;
-    let first = i % 8 * sum;
-    let second = first + v as usize;
-    Found::Pair(
-        bits_at(b, k + first / 8, first % 8, v),
-        bits_at(b, k + second / 8, second % 8, w),
-    )
-}
-
-// The i-th reference that the packed bytes of a part hold.
-pub fn reference(v: u8, w: u8, s: &[u8], from: usize, to: usize, i: usize) -> Found
-    ensures { λ r. ⌜ r ≡ referenceOf v w (slice from to (now (s .entry))) i ⌝ }
-{
-    let b = part(s, from, to);
-    if i < count_in(v, w, b.len()) {
-        pair_at(b, v, w, i)
-    } else {
-        Found::Nothing
-    }
 }
 
 // Puts the first n references, two numbers each, to the front of a buffer, and answers how many numbers these are.

@@ -106,7 +106,7 @@ pub fn text_end(version: Version, encoding: u8, s: &[u8], from: usize, to: usize
 }
 
 // A text body: its encoding, and the text as the rest.
-pub fn parse(version: Version, s: &[u8], from: usize, to: usize) -> Parsed
+pub(crate) fn parse(version: Version, s: &[u8], from: usize, to: usize) -> Parsed
     ensures { λ r. ⌜ r ≡ parsedOf version Kind.Text from (slice from to (now (s .entry))) ⌝ }
 {
     let b = part(s, from, to);

@@ -1,16 +1,13 @@
 // Frame headers of ID3v2.3: four bytes of id, four of size, two of flags.
-use crate::fields::first_refusal;
 use crate::fields::found;
-use crate::fields::has;
 use crate::fields::length_bytes;
-use crate::parts::part;
 use format::Head;
 use format::refusals::MISSING_BYTES;
 use format::refusals::SMALL_FRAME;
+use format::small::has;
 use loads::read32;
 ghost use mathlib.Core.Path.{_≡_};
 ghost use Prim.Native.Nat.{ℕ, _≤_};
-ghost use lib.Seq.{slice};
 ghost use Rattle.format.specs.Frame.{headOf};
 ghost use Rattle.format.specs.declared.Version.{Version};
 ghost use Rattle.frame.specs.Headers.{Begun};
@@ -18,31 +15,12 @@ ghost use Rattle.frame.specs.Headers.{Begun};
 // The bits of the low byte of the flags.
 const COMPRESSION: u8 = 0x80;
 
-const ENCRYPTION: u8 = 0x40;
+pub(crate) const ENCRYPTION: u8 = 0x40;
 
-const GROUPING: u8 = 0x20;
-
-// What stands at the front of s[from..to], where a frame of this depth may begin.
-pub fn decode(s: &[u8], from: usize, to: usize, depth: u8) -> Head
-    ensures { λ r. ⌜ r ≡ headOf Version.Id3v23 depth (slice from to (now (s .entry))) ⌝ }
-{
-    let b = part(s, from, to);
-    if b.len() < 10 {
-        return Head::Nothing;
-    }
-    if b[0] == 0 {
-        return Head::Nothing;
-    }
-    let flags = b[9];
-    let refusal = first_refusal(b, depth, has(ENCRYPTION, flags), has(GROUPING, flags));
-    if refusal != 0 {
-        return Head::Refused(refusal);
-    }
-    with_body(b)
-}
+pub(crate) const GROUPING: u8 = 0x20;
 
 // A frame that passed the first checks: its data length, where it is compressed, and its body must be there whole.
-fn with_body(b: &[u8]) -> Head
+pub(crate) fn with_body(b: &[u8]) -> Head
     requires { ⌜ Begun Version.Id3v23 (now b) ⌝ }
     ensures { λ r. ⌜ ((depth : ℕ) → depth ≤ 8 → r ≡ headOf Version.Id3v23 depth (now (b .entry))) ⌝ }
 {

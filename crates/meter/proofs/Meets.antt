@@ -31,7 +31,8 @@ use Rattle.walk.specs.declared.passing.Met.{Met}
 use Rattle.walk.specs.Sources.{sourceOf, frameIn}
 use Rattle.walk.specs.Passing.{isMeterId, metBy, metAs, passIn, readAs, passOf}
 use Rattle.walk.proofs.Sources.{walk-none}
-use Rattle.walk.proofs.Passes.{Here, here, pass-nothing, pass-body-refused, pass-over, pass-meter, pass-in-work, pass-apart}
+use Rattle.walk.proofs.Onwards.{Here, here}
+use Rattle.walk.proofs.Passes.{pass-nothing, pass-body-refused, pass-over, pass-meter, pass-in-work, pass-apart}
 use Rattle.reader.specs.Reader.{answerOf, movedTo, Stepped, runStep, stepOf}
 use Rattle.reader.specs.declared.Stop.{Stop}
 use Rattle.reader.specs.declared.Reader.{Reader}

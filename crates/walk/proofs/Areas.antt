@@ -72,31 +72,31 @@ pub record Fitted (u room room′ : List ℕ) (n : ℕ) : Type 0 where
 
 module _ (u room : List ℕ) where
   pub put-bytes : (n : ℕ) → intoOf u room .0 ≡ Put.Bytes n → Fitted u room (intoOf u room .1) n
-  put-bytes n e = by (ltb (length room) (length u)) refl e
+  put-bytes n e = by-room (ltb (length room) (length u)) refl e
     where
-      by : (t : Bool) → ltb (length room) (length u) ≡ t → (pick {A = Put × List ℕ} t (Put.Refused 14, room) (Put.Bytes (length u), putFront u room)) .0 ≡ Put.Bytes n
+      by-room : (t : Bool) → ltb (length room) (length u) ≡ t → (pick {A = Put × List ℕ} t (Put.Refused 14, room) (Put.Bytes (length u), putFront u room)) .0 ≡ Put.Bytes n
           → Fitted u room ((pick {A = Put × List ℕ} t (Put.Refused 14, room) (Put.Bytes (length u), putFront u room)) .1) n
-      by true f h = absurd (let z : _≡_ {A = ℕ} 0 1 = cc in omega arith)
-      by false f h = record { many = cc; fits = ltb-false _ _ f; put = refl }
+      by-room true f h = absurd (let z : _≡_ {A = ℕ} 0 1 = cc in omega arith)
+      by-room false f h = record { many = cc; fits = ltb-false _ _ f; put = refl }
 
   -- the refusal is 14
   pub put-full : (k : ℕ) → intoOf u room .0 ≡ Put.Refused k → k ≡ 14
-  put-full k e = by (ltb (length room) (length u)) e
+  put-full k e = by-room (ltb (length room) (length u)) e
     where
-      by : (t : Bool) → (pick {A = Put × List ℕ} t (Put.Refused 14, room) (Put.Bytes (length u), putFront u room)) .0 ≡ Put.Refused k → k ≡ 14
-      by true h = cc
-      by false h = absurd (let z : _≡_ {A = ℕ} 0 1 = cc in omega arith)
+      by-room : (t : Bool) → (pick {A = Put × List ℕ} t (Put.Refused 14, room) (Put.Bytes (length u), putFront u room)) .0 ≡ Put.Refused k → k ≡ 14
+      by-room true h = cc
+      by-room false h = absurd (let z : _≡_ {A = ℕ} 0 1 = cc in omega arith)
 
   module _ (go : List ℕ → List ℕ → Out) (kind : Kind) where
     pub put-refused : (k : ℕ) → intoOf u room .0 ≡ Put.Refused k → resyncedOf go kind u room ≡ (k, intoOf u room .1)
     unfolding resyncedOf
-    put-refused k e = by (ltb (length room) (length u)) e
+    put-refused k e = by-room (ltb (length room) (length u)) e
       where
-        by : (t : Bool) → (pick {A = Put × List ℕ} t (Put.Refused 14, room) (Put.Bytes (length u), putFront u room)) .0 ≡ Put.Refused k
+        by-room : (t : Bool) → (pick {A = Put × List ℕ} t (Put.Refused 14, room) (Put.Bytes (length u), putFront u room)) .0 ≡ Put.Refused k
             → pick {A = Out} t (14, room) (behind u (insideOf go kind u (drop (length u) room)))
             ≡ (k, (pick {A = Put × List ℕ} t (Put.Refused 14, room) (Put.Bytes (length u), putFront u room)) .1)
-        by true h = let z : 14 ≡ k = cc in ap {B = Out} (λ (j : ℕ). (j, room)) z
-        by false h = absurd (let z : _≡_ {A = ℕ} 0 1 = cc in omega arith)
+        by-room true h = let z : 14 ≡ k = cc in ap {B = Out} (λ (j : ℕ). (j, room)) z
+        by-room false h = absurd (let z : _≡_ {A = ℕ} 0 1 = cc in omega arith)
 
     -- what goes on inside it has the part behind
     pub put-inside : (n : ℕ) (p : List ℕ) → Fitted u room p n → insideIn go kind (slice 0 n p) n p ≡ resyncedOf go kind u room

@@ -8,7 +8,7 @@ use mathlib.Core.List.{List}
 use lib.ListN.{length, drop, getD, drop-of-length-le}
 use lib.Seq.{slice}
 use lib.Dec.{eqb}
-use borrow.Author.Tests.{eqb-true, ne-eqb, eq-eqb, le-leb, lt-leb}
+use borrow.Author.Tests.{eqb-true, ne-eqb}
 use Rattle.lists.proofs.Slices.{slice-drop, slice-next}
 use Rattle.format.specs.Bytes.{pick, first}
 use Rattle.format.specs.Record.{bodyRefusal, runOf, partsOf}
@@ -81,21 +81,21 @@ module _ (kind : Kind) (at : ℕ) (b : List ℕ) where
   -- what an answer says
   pub looked-refused : (k : ℕ) (go : List ℕ → List ℕ → Out) (room : List ℕ) → Inside.Refused k ≡ insideAt kind at b → insideOf go kind b room ≡ (k, room)
   unfolding insideAt insideOf
-  looked-refused k go room e = by (eqb (bodyRefusal kind b) 0) e
+  looked-refused k go room e = on-refusal (eqb (bodyRefusal kind b) 0) e
     where
-      by : (t : Bool) → Inside.Refused k ≡ pick t (Inside.Run (at + runStart kind b)) (Inside.Refused (bodyRefusal kind b))
+      on-refusal : (t : Bool) → Inside.Refused k ≡ pick t (Inside.Run (at + runStart kind b)) (Inside.Refused (bodyRefusal kind b))
           → pick t (go (runOf kind b) room) (bodyRefusal kind b, room) ≡ (k, room)
-      by true h = absurd (let z : _≡_ {A = ℕ} 0 1 = cc in omega arith)
-      by false h = let z : bodyRefusal kind b ≡ k = cc in ap {B = Out} (λ (j : ℕ). (j, room)) z
+      on-refusal true h = absurd (let z : _≡_ {A = ℕ} 0 1 = cc in omega arith)
+      on-refusal false h = let z : bodyRefusal kind b ≡ k = cc in ap {B = Out} (λ (j : ℕ). (j, room)) z
 
   pub looked-run : (place : ℕ) → Inside.Run place ≡ insideAt kind at b → (bodyRefusal kind b ≡ 0) × (place ≡ at + runStart kind b)
   unfolding insideAt
-  looked-run place e = by (eqb (bodyRefusal kind b) 0) refl e
+  looked-run place e = on-refusal (eqb (bodyRefusal kind b) 0) refl e
     where
-      by : (t : Bool) → eqb (bodyRefusal kind b) 0 ≡ t → Inside.Run place ≡ pick t (Inside.Run (at + runStart kind b)) (Inside.Refused (bodyRefusal kind b))
+      on-refusal : (t : Bool) → eqb (bodyRefusal kind b) 0 ≡ t → Inside.Run place ≡ pick t (Inside.Run (at + runStart kind b)) (Inside.Refused (bodyRefusal kind b))
           → (bodyRefusal kind b ≡ 0) × (place ≡ at + runStart kind b)
-      by true f h = (eqb-true _ _ f, cc)
-      by false f h = absurd (let z : _≡_ {A = ℕ} 0 1 = cc in omega arith)
+      on-refusal true f h = (eqb-true _ _ f, cc)
+      on-refusal false f h = absurd (let z : _≡_ {A = ℕ} 0 1 = cc in omega arith)
 
 -- a body in a list: its run is what lies from the answer to the body's end
 module _ (kind : Kind) (from to place : ℕ) (s : List ℕ) (e : Inside.Run place ≡ insideAt kind from (slice from to s)) where
@@ -110,20 +110,6 @@ module _ (kind : Kind) (from to place : ℕ) (s : List ℕ) (e : Inside.Run plac
       rw (l .0, r)
 
 -- ---- text
-
-module _ (b : List ℕ) where
-  pub text-empty : length b ≡ 0 → bodyRefusal Kind.Text b ≡ 11
-  unfolding bodyRefusal first
-  text-empty h = rw (eq-eqb (length b) 0 h)
-
-  module _ (some : length b ≡ 0 → ⊥) where
-    pub text-unknown : 4 ≤ getD b 0 0 → bodyRefusal Kind.Text b ≡ 12
-    unfolding bodyRefusal first
-    text-unknown h = rw (ne-eqb (length b) 0 some, le-leb 4 (getD b 0 0) h)
-
-    pub text-known : getD b 0 0 < 4 → bodyRefusal Kind.Text b ≡ 0
-    unfolding bodyRefusal first
-    text-known h = rw (ne-eqb (length b) 0 some, lt-leb 4 (getD b 0 0) h)
 
 -- the first byte of a part
 pub first-byte : (from to : ℕ) (s : List ℕ) → from < to → to ≤ length s → getD (slice from to s) 0 0 ≡ getD s from 0

@@ -1,6 +1,6 @@
 -- What a step of the walk says of the walk. Assumes nothing.
 use mathlib.Core.Path.{_≡_, refl, sym, ap, _∙_}
-use Prim.Native.Nat.{ℕ, _+_, _-_, _≤_, _<_}
+use Prim.Native.Nat.{ℕ, _+_, _-_, _≤_, _<_, min}
 use native.Mathlib.Omega.{arith}
 use mathlib.Core.Bool.{Bool, true, false}
 use mathlib.Core.List.{List}
@@ -8,7 +8,7 @@ use lib.ListN.{length, take, drop}
 use lib.Seq.{slice, length-slice}
 use lib.Dec.{ltb}
 use borrow.Author.Tests.{ltb-false}
-use Rattle.lists.proofs.Slices.{slice-drop, take-drop-take}
+use Rattle.lists.proofs.Slices.{slice-drop, slice-cut, take-drop-take}
 use Rattle.lists.proofs.Cuts.{take-drop}
 use Rattle.format.specs.Frame.{headOf, frameChecks}
 use Rattle.format.specs.Walk.{Out, andThen, bodyOf, shownKind, isResynced, unfit, leftOver, walked}
@@ -45,6 +45,24 @@ placed v depth at end s le id c f sh start len e =
       within = inside;
       body = ap (take len) (sym (slice-drop at start end s)) ∙ take-drop-take len (at + start) end s inside ∙ take-drop len (at + start) s;
       rest = sym (slice-drop at (start + len) end s) ∙ ap (λ (k : ℕ). slice k end s) same;
+    }
+
+-- one that stands at a place of s, whose frames end at `end`
+pub record Here (v : Version) (at end : ℕ) (s : List ℕ) (id : ℕ) (c f sh : Bool) (start len : ℕ) : Type 0 where
+  pub head : Head.Found id c f sh start len ≡ headOf v 1 (slice at end s)
+  pub within : at + start + len ≤ length s
+  pub body : take len (drop start (slice at end s)) ≡ slice (at + start) (at + start + len) s
+
+pub here : (v : Version) (at end : ℕ) (s : List ℕ) (id : ℕ) (c f sh : Bool) (start len : ℕ) → Head.Found id c f sh start len ≡ headOf v 1 (slice at end s)
+    → Here v at end s id c f sh start len
+here v at end s id c f sh start len e =
+    let last : ℕ = min end (length s) in
+    let cut : slice at last s ≡ slice at end s = slice-cut at end last s refl in
+    let p = placed v 1 at last s (omega arith) id c f sh start len (ap (headOf v 1) cut ∙ sym e) in
+    record {
+      head = e;
+      within = omega (arith, p .within);
+      body = ap (λ (x : List ℕ). take len (drop start x)) (sym cut) ∙ p .body;
     }
 
 -- ---- what a step answers

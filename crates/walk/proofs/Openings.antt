@@ -32,21 +32,21 @@ use Rattle.walk.proofs.Insides.{run-at, parts-place}
 module _ (v : Version) (kind : Kind) (at : ℕ) (b : List ℕ) where
   pub parsed-refused : (k : ℕ) → Parsed.Refused k ≡ parsedOf v kind at b → (bodyRefusal kind b ≡ k) × (k ≡ 0 → ⊥)
   unfolding parsedOf
-  parsed-refused k e = by (eqb (bodyRefusal kind b) 0) refl e
+  parsed-refused k e = on-refusal (eqb (bodyRefusal kind b) 0) refl e
     where
-      by : (t : Bool) → eqb (bodyRefusal kind b) 0 ≡ t → Parsed.Refused k ≡ pick t (Parsed.Parts (partsOf v kind at b)) (Parsed.Refused (bodyRefusal kind b))
+      on-refusal : (t : Bool) → eqb (bodyRefusal kind b) 0 ≡ t → Parsed.Refused k ≡ pick t (Parsed.Parts (partsOf v kind at b)) (Parsed.Refused (bodyRefusal kind b))
           → (bodyRefusal kind b ≡ k) × (k ≡ 0 → ⊥)
-      by true f h = absurd (let z : _≡_ {A = ℕ} 0 1 = cc in omega arith)
-      by false f h = let z : bodyRefusal kind b ≡ k = cc in (z, λ n. eqb-false _ _ f (z ∙ n))
+      on-refusal true f h = absurd (let z : _≡_ {A = ℕ} 0 1 = cc in omega arith)
+      on-refusal false f h = let z : bodyRefusal kind b ≡ k = cc in (z, λ n. eqb-false _ _ f (z ∙ n))
 
   pub parsed-parts : (p : Parts) → Parsed.Parts p ≡ parsedOf v kind at b → (bodyRefusal kind b ≡ 0) × (p ≡ partsOf v kind at b)
   unfolding parsedOf
-  parsed-parts p e = by (eqb (bodyRefusal kind b) 0) refl e
+  parsed-parts p e = on-refusal (eqb (bodyRefusal kind b) 0) refl e
     where
-      by : (t : Bool) → eqb (bodyRefusal kind b) 0 ≡ t → Parsed.Parts p ≡ pick t (Parsed.Parts (partsOf v kind at b)) (Parsed.Refused (bodyRefusal kind b))
+      on-refusal : (t : Bool) → eqb (bodyRefusal kind b) 0 ≡ t → Parsed.Parts p ≡ pick t (Parsed.Parts (partsOf v kind at b)) (Parsed.Refused (bodyRefusal kind b))
           → (bodyRefusal kind b ≡ 0) × (p ≡ partsOf v kind at b)
-      by true f h = (eqb-true _ _ f, cc)
-      by false f h = absurd (let z : _≡_ {A = ℕ} 0 1 = cc in omega arith)
+      on-refusal true f h = (eqb-true _ _ f, cc)
+      on-refusal false f h = absurd (let z : _≡_ {A = ℕ} 0 1 = cc in omega arith)
 
   -- a body that is refused leaves the room alone
   pub inside-refused : (k : ℕ) → Parsed.Refused k ≡ parsedOf v kind at b → (go : List ℕ → List ℕ → Out) (room : List ℕ) → insideOf go kind b room ≡ (k, room)
@@ -79,27 +79,27 @@ module _ (v : Version) (kind : Kind) (at : ℕ) (b : List ℕ) (o : Out) where
   -- what it says
   pub says-refused : (k : ℕ) (room : List ℕ) → _≡_ {A = Opened × List ℕ} (Opened.Refused k, room) (openedAt v kind at b o)
       → (o .0 ≡ k) × (k ≡ 0 → ⊥) × (o .1 ≡ room)
-  says-refused k room e = by (eqb (o .0) 0) refl (ap (λ (q : Opened × List ℕ). q .0) e)
+  says-refused k room e = by-number (eqb (o .0) 0) refl (ap (λ (q : Opened × List ℕ). q .0) e)
     where
       last : o .1 ≡ room
       last = sym (ap (λ (q : Opened × List ℕ). q .1) e)
 
-      by : (t : Bool) → eqb (o .0) 0 ≡ t → Opened.Refused k ≡ pick t (Opened.Body (span at (length b)) (partsOf v kind at b)) (Opened.Refused (o .0))
+      by-number : (t : Bool) → eqb (o .0) 0 ≡ t → Opened.Refused k ≡ pick t (Opened.Body (span at (length b)) (partsOf v kind at b)) (Opened.Refused (o .0))
           → (o .0 ≡ k) × (k ≡ 0 → ⊥) × (o .1 ≡ room)
-      by true f h = absurd (let z : _≡_ {A = ℕ} 0 1 = cc in omega arith)
-      by false f h = let z : o .0 ≡ k = cc in (z, λ n. eqb-false _ _ f (z ∙ n), last)
+      by-number true f h = absurd (let z : _≡_ {A = ℕ} 0 1 = cc in omega arith)
+      by-number false f h = let z : o .0 ≡ k = cc in (z, λ n. eqb-false _ _ f (z ∙ n), last)
 
   pub says-body : (s : Span) (p : Parts) (room : List ℕ) → _≡_ {A = Opened × List ℕ} (Opened.Body s p, room) (openedAt v kind at b o)
       → (o .0 ≡ 0) × (s ≡ span at (length b)) × (p ≡ partsOf v kind at b) × (o .1 ≡ room)
-  says-body s p room e = by (eqb (o .0) 0) refl (ap (λ (q : Opened × List ℕ). q .0) e)
+  says-body s p room e = by-number (eqb (o .0) 0) refl (ap (λ (q : Opened × List ℕ). q .0) e)
     where
       last : o .1 ≡ room
       last = sym (ap (λ (q : Opened × List ℕ). q .1) e)
 
-      by : (t : Bool) → eqb (o .0) 0 ≡ t → Opened.Body s p ≡ pick t (Opened.Body (span at (length b)) (partsOf v kind at b)) (Opened.Refused (o .0))
+      by-number : (t : Bool) → eqb (o .0) 0 ≡ t → Opened.Body s p ≡ pick t (Opened.Body (span at (length b)) (partsOf v kind at b)) (Opened.Refused (o .0))
           → (o .0 ≡ 0) × (s ≡ span at (length b)) × (p ≡ partsOf v kind at b) × (o .1 ≡ room)
-      by true f h = (eqb-true _ _ f, cc, cc, last)
-      by false f h = absurd (let z : _≡_ {A = ℕ} 0 1 = cc in omega arith)
+      by-number true f h = (eqb-true _ _ f, cc, cc, last)
+      by-number false f h = absurd (let z : _≡_ {A = ℕ} 0 1 = cc in omega arith)
 
 -- ---- a frame
 

@@ -1,16 +1,15 @@
 -- What a meter needs of a frame, by the steps of the code. Assumes nothing.
 use mathlib.Core.Path.{_≡_, refl, sym, ap, _∙_}
-use Prim.Native.Nat.{ℕ, _+_, _-_, _≤_, min}
+use Prim.Native.Nat.{ℕ, _+_, _-_}
 use native.Mathlib.Omega.{arith}
 use mathlib.Core.Bool.{Bool, true, false, _&&_, _||_}
 use mathlib.Core.List.{List, [], _∷_}
-use lib.ListN.{length, take, drop}
+use lib.ListN.{length, drop}
 use lib.Seq.{slice}
 use lib.Dec.{ltb, eqb}
 use borrow.Author.Tests.{eqb-true, ne-eqb, le-ltb}
 use denote.Enum.Declared.{tagOf}
 use types.Run.{OneOf, miss}
-use Rattle.lists.proofs.Slices.{slice-cut}
 use Rattle.format.proofs.Kind as kinds
 use Rattle.format.proofs.Fields.{the-type}
 use Rattle.format.specs.Bytes.{pick, putFront}
@@ -33,7 +32,7 @@ use Rattle.unsynch.specs.Puts.{intoOf}
 use Rattle.walk.specs.declared.passing.Met.{Met}
 use Rattle.walk.specs.Sources.{frameIn}
 use Rattle.walk.specs.Passing.{isMeterId, passedBy, metBy, metAs, passIn, readAs, frontAs, passOf}
-use Rattle.walk.proofs.Onwards.{placed}
+use Rattle.walk.proofs.Onwards.{Here}
 use Rattle.walk.proofs.Areas.{put-bytes, fitted-front}
 use Rattle.walk.proofs.Openings.{shown-nothing, shown-refused, frame-is}
 use Rattle.walk.proofs.Sources.{walk-none}
@@ -95,11 +94,11 @@ module _ (v : Version) (rec : Record) (next : ℕ) where
 -- it has no run
 meter-inside : (v : Version) (b room : List ℕ) → insideOf (walked false v 2) Kind.Popularimeter b room ≡ (bodyRefusal Kind.Popularimeter b, room)
 unfolding insideOf runOf
-meter-inside v b room = by (bodyRefusal Kind.Popularimeter b) (eqb (bodyRefusal Kind.Popularimeter b) 0) refl
+meter-inside v b room = by-number (bodyRefusal Kind.Popularimeter b) (eqb (bodyRefusal Kind.Popularimeter b) 0) refl
   where
-    by : (k : ℕ) (t : Bool) → eqb k 0 ≡ t → pick {A = Out} t (walked false v 2 [] room) (k, room) ≡ (k, room)
-    by k true e = walk-none v 2 room ∙ ap {B = Out} (λ (j : ℕ). (j, room)) (sym (eqb-true k 0 e))
-    by k false e = refl
+    by-number : (k : ℕ) (t : Bool) → eqb k 0 ≡ t → pick {A = Out} t (walked false v 2 [] room) (k, room) ≡ (k, room)
+    by-number k true e = walk-none v 2 room ∙ ap {B = Out} (λ (j : ℕ). (j, room)) (sym (eqb-true k 0 e))
+    by-number k false e = refl
 
 -- one that was read
 module _ (v : Version) (id : ℕ) (short : Bool) (place : ℕ) (w : Bool) (from len next : ℕ) where
@@ -126,13 +125,13 @@ module _ (v : Version) (id : ℕ) (short : Bool) (place : ℕ) (w : Bool) (from 
   -- it is shown as it was read
   met-read : (b : List ℕ) → readAs v (parsedOf v Kind.Popularimeter from b) made next ≡ metOf (bodyRefusal Kind.Popularimeter b) b
   unfolding parsedOf
-  met-read b = by (eqb (bodyRefusal Kind.Popularimeter b) 0)
+  met-read b = by-refusal (eqb (bodyRefusal Kind.Popularimeter b) 0)
     where
-      by : (t : Bool)
+      by-refusal : (t : Bool)
           → readAs v (pick t (Parsed.Parts (partsOf v Kind.Popularimeter from b)) (Parsed.Refused (bodyRefusal Kind.Popularimeter b))) made next
           ≡ metAs v (pick t (Shown.Frame (made (partsOf v Kind.Popularimeter from b)) next) (Shown.Refused (bodyRefusal Kind.Popularimeter b)))
-      by true = refl
-      by false = refl
+      by-refusal true = refl
+      by-refusal false = refl
 
   met-stored : (b room : List ℕ) → let o = insideOf (walked false v 2) Kind.Popularimeter b room in
       _≡_ {A = Met × List ℕ} (readAs v (parsedOf v Kind.Popularimeter from b) made next, room) (metOf (o .0) b, o .1)
@@ -143,15 +142,15 @@ module _ (v : Version) (id : ℕ) (short : Bool) (place : ℕ) (w : Bool) (from 
 module _ (v : Version) (rec : Parts → Record) (next : ℕ) (u room room′ : List ℕ) where
   pub front-refused : {k : ℕ} → _≡_ {A = Put × List ℕ} (Put.Refused k, room′) (intoOf u room)
       → _≡_ {A = Met × List ℕ} (Met.Refused k, room′) (frontAs v u rec next room)
-  front-refused {k} e = by (ltb (length room) (length u)) e
+  front-refused {k} e = by-room (ltb (length room) (length u)) e
     where
-      by : (t : Bool) → _≡_ {A = Put × List ℕ} (Put.Refused k, room′) (pick t (Put.Refused 14, room) (Put.Bytes (length u), putFront u room))
+      by-room : (t : Bool) → _≡_ {A = Put × List ℕ} (Put.Refused k, room′) (pick t (Put.Refused 14, room) (Put.Bytes (length u), putFront u room))
           → _≡_ {A = Met × List ℕ} (Met.Refused k, room′) (pick t (Met.Refused 14, room) (readAs v (parsedOf v Kind.Popularimeter 0 u) rec next, putFront u room))
-      by true h =
+      by-room true h =
           let f : Put.Refused k ≡ Put.Refused 14 = ap (λ (o : Put × List ℕ). o .0) h in
           let z : k ≡ 14 = cc in
           rw (z, ap (λ (o : Put × List ℕ). o .1) h)
-      by false h = absurd (let f : Put.Refused k ≡ Put.Bytes (length u) = ap (λ (o : Put × List ℕ). o .0) h in let z : _≡_ {A = ℕ} 0 1 = cc in omega arith)
+      by-room false h = absurd (let f : Put.Refused k ≡ Put.Bytes (length u) = ap (λ (o : Put × List ℕ). o .0) h in let z : _≡_ {A = ℕ} 0 1 = cc in omega arith)
 
   pub front-read : {n : ℕ} {r : Met} {parsed : Parsed} → _≡_ {A = Put × List ℕ} (Put.Bytes n, room′) (intoOf u room)
       → parsed ≡ parsedOf v Kind.Popularimeter 0 (slice 0 n room′) → r ≡ readAs v parsed rec next
@@ -167,13 +166,13 @@ module _ (v : Version) (rec : Parts → Record) (next : ℕ) (u room room′ : L
 met-front : (v : Version) (id : ℕ) (sh : Bool) (place len next : ℕ) (u room : List ℕ) → let o = resyncedOf (walked false v 2) Kind.Popularimeter u room in
     _≡_ {A = Met × List ℕ} (frontAs v u (made v id sh place true 0 len next) next room) (metOf v id sh place true 0 len next (o .0) u, o .1)
 unfolding resyncedOf
-met-front v id sh place len next u room = by (ltb (length room) (length u))
+met-front v id sh place len next u room = by-room (ltb (length room) (length u))
   where
-    by : (t : Bool) → let o = pick {A = Out} t (14, room) (behind u (insideOf (walked false v 2) Kind.Popularimeter u (drop (length u) room))) in
+    by-room : (t : Bool) → let o = pick {A = Out} t (14, room) (behind u (insideOf (walked false v 2) Kind.Popularimeter u (drop (length u) room))) in
         _≡_ {A = Met × List ℕ} (pick t (Met.Refused 14, room) (readAs v (parsedOf v Kind.Popularimeter 0 u) (made v id sh place true 0 len next) next, putFront u room))
         (metOf v id sh place true 0 len next (o .0) u, o .1)
-    by true = refl
-    by false = rw (meter-inside v u (drop (length u) room), met-read v id sh place true 0 len next u)
+    by-room true = refl
+    by-room false = rw (meter-inside v u (drop (length u) room), met-read v id sh place true 0 len next u)
 
 -- ---- a frame
 
@@ -189,24 +188,6 @@ module _ (v : Version) (w : Bool) (begin at : ℕ) (s room : List ℕ) where
 
   pub pass-refused : {k : ℕ} → Head.Refused k ≡ headOf v 1 s → _≡_ {A = Met × List ℕ} (Met.Refused k, room) (passOf v w begin at s room)
   pass-refused {k} e = passes (Shown.Refused k) room (shown-refused v w begin at s room k e)
-
--- one that stands at a place of s, whose frames end at `end`
-pub record Here (v : Version) (at end : ℕ) (s : List ℕ) (id : ℕ) (c f sh : Bool) (start len : ℕ) : Type 0 where
-  pub head : Head.Found id c f sh start len ≡ headOf v 1 (slice at end s)
-  pub within : at + start + len ≤ length s
-  pub body : take len (drop start (slice at end s)) ≡ slice (at + start) (at + start + len) s
-
-pub here : (v : Version) (at end : ℕ) (s : List ℕ) (id : ℕ) (c f sh : Bool) (start len : ℕ) → Head.Found id c f sh start len ≡ headOf v 1 (slice at end s)
-    → Here v at end s id c f sh start len
-here v at end s id c f sh start len e =
-    let last : ℕ = min end (length s) in
-    let cut : slice at last s ≡ slice at end s = slice-cut at end last s refl in
-    let p = placed v 1 at last s (omega arith) id c f sh start len (ap (headOf v 1) cut ∙ sym e) in
-    record {
-      head = e;
-      within = omega (arith, p .within);
-      body = ap (λ (x : List ℕ). take len (drop start x)) (sym cut) ∙ p .body;
-    }
 
 -- ---- a frame that was found
 

@@ -1,13 +1,13 @@
 -- Bodies of frames that lie in the tag or in the work buffer, and the room that they have. Assumes nothing.
 use mathlib.Core.Path.{_≡_, refl, sym, ap, ap₂, _∙_}
-use Prim.Native.Nat.{ℕ, _+_, _-_, _≤_, min}
+use Prim.Native.Nat.{ℕ, _+_, _-_, _≤_}
 use native.Mathlib.Nat.{le-refl}
 use native.Mathlib.Omega.{arith}
 use mathlib.Core.Bool.{Bool, true, false, _||_}
 use mathlib.Core.List.{List, [], _∷_}
 use lib.ListN.{length, take, drop, take-append-drop}
 use lib.Seq.{slice}
-use Rattle.lists.proofs.Slices.{slice-none, slice-cut}
+use Rattle.lists.proofs.Slices.{slice-none}
 use Rattle.format.specs.Bytes.{pick, span}
 use Rattle.format.specs.Unsynch.{resynchronised}
 use Rattle.format.specs.Frame.{headOf}
@@ -29,6 +29,7 @@ use Rattle.walk.specs.Areas.{inArea}
 use Rattle.walk.specs.Insides.{placeOf}
 use Rattle.walk.specs.Sources.{sourceOf, roomOf, kept, frameIn}
 use Rattle.walk.specs.Openings.{openedAt, openedOf, frontOf, liesAs, readyOf, lent, ranOf, shownAt, enteredOf}
+use Rattle.walk.proofs.Onwards.{Here}
 use Rattle.walk.proofs.Areas.{Fitted, put-bytes, put-full, put-refused, put-inside, fitted-front, fitted-room, before-split}
 use Rattle.walk.proofs.Openings.{parsed-refused, parsed-parts, inside-refused, inside-parts, opened-refused, opened-body, shown-nothing, shown-refused, body-refused, body-shown}
 
@@ -211,42 +212,40 @@ kept-room : (w : Bool) (work : List ℕ) → work ≡ pick w work (roomOf w work
 kept-room true work = refl
 kept-room false work = refl
 
-module _ (v : Version) (w : Bool) (begin at end last : ℕ) (tag work s : List ℕ) (es : s ≡ sourceOf w work tag) (el : last ≡ min end (length s)) where
+module _ (v : Version) (w : Bool) (begin at end : ℕ) (tag work s : List ℕ) (es : s ≡ sourceOf w work tag) where
   frame-in : (shown : Shown) (room left : List ℕ) → left ≡ pick w work room
-      → _≡_ {A = Shown × List ℕ} (shown, room) (frameOf v w begin at (slice at last s) (roomOf w work))
+      → _≡_ {A = Shown × List ℕ} (shown, room) (frameOf v w begin at (slice at end s) (roomOf w work))
       → _≡_ {A = Shown × List ℕ} (shown, left) (frameIn v w begin at end tag work)
   unfolding frameIn
   frame-in shown room left ek e =
       ap {B = Shown × List ℕ} (λ (x : List ℕ). (shown, x)) ek
       ∙ ap (kept w work) e
-      ∙ ap (λ (x : List ℕ). kept w work (frameOf v w begin at x (roomOf w work))) (slice-cut at end last s el)
       ∙ ap (λ (x : List ℕ). kept w work (frameOf v w begin at (slice at end x) (roomOf w work))) es
 
-  pub no-frame : Head.Nothing ≡ headOf v 1 (slice at last s) → _≡_ {A = Shown × List ℕ} (Shown.Nothing, work) (frameIn v w begin at end tag work)
-  no-frame e = frame-in Shown.Nothing (roomOf w work) work (kept-room w work) (shown-nothing v w begin at (slice at last s) (roomOf w work) e)
+  pub no-frame : Head.Nothing ≡ headOf v 1 (slice at end s) → _≡_ {A = Shown × List ℕ} (Shown.Nothing, work) (frameIn v w begin at end tag work)
+  no-frame e = frame-in Shown.Nothing (roomOf w work) work (kept-room w work) (shown-nothing v w begin at (slice at end s) (roomOf w work) e)
 
-  pub head-refused : (k : ℕ) → Head.Refused k ≡ headOf v 1 (slice at last s)
+  pub head-refused : (k : ℕ) → Head.Refused k ≡ headOf v 1 (slice at end s)
       → _≡_ {A = Shown × List ℕ} (Shown.Refused k, work) (frameIn v w begin at end tag work)
-  head-refused k e = frame-in (Shown.Refused k) (roomOf w work) work (kept-room w work) (shown-refused v w begin at (slice at last s) (roomOf w work) k e)
+  head-refused k e = frame-in (Shown.Refused k) (roomOf w work) work (kept-room w work) (shown-refused v w begin at (slice at end s) (roomOf w work) k e)
 
   -- one whose body was entered
-  module _ (id : ℕ) (c f sh : Bool) (start len : ℕ) (e : Head.Found id c f sh start len ≡ headOf v 1 (slice at last s))
-      (kind : Kind) (t : Bool) (ek : kind ≡ shownKind v id c) (et : t ≡ isResynced c f)
-      (eb : take len (drop start (slice at last s)) ≡ slice (at + start) (at + start + len) s) (left : List ℕ) where
+  module _ {id : ℕ} {c f sh : Bool} {start len : ℕ} (found : Here v at end s id c f sh start len)
+      (kind : Kind) (t : Bool) (ek : kind ≡ shownKind v id c) (et : t ≡ isResynced c f) (left : List ℕ) where
     abbrev stored : List ℕ
     stored = slice (at + start) (at + start + len) (sourceOf w work tag)
 
     abbrev opened : Opened × List ℕ
     opened = openedOf v kind t (at + start) stored (roomOf w work)
 
-    lies-in : take len (drop start (slice at last s)) ≡ stored
-    lies-in = eb ∙ ap (slice (at + start) (at + start + len)) es
+    lies-in : take len (drop start (slice at end s)) ≡ stored
+    lies-in = found .body ∙ ap (slice (at + start) (at + start + len)) es
 
     pub frame-refused : (k : ℕ) → _≡_ {A = Opened × List ℕ} (Opened.Refused k, left) (enteredOf w t v kind (at + start) (at + start + len) tag work)
         → _≡_ {A = Shown × List ℕ} (Shown.Refused k, left) (frameIn v w begin at end tag work)
     frame-refused k h =
         frame-in (Shown.Refused k) (opened .1) left (ap (λ (o : Opened × List ℕ). o .1) h)
-        (body-refused v w begin at (slice at last s) (roomOf w work) id c f sh start len e kind t ek et stored (opened .1) lies-in k
+        (body-refused v w begin at (slice at end s) (roomOf w work) id c f sh start len (found .head) kind t ek et stored (opened .1) lies-in k
         (ap {B = Opened × List ℕ} (λ (o : Opened × List ℕ). (o .0, opened .1)) h))
 
     pub frame-shown : (q : Span) (p : Parts) → _≡_ {A = Opened × List ℕ} (Opened.Body q p, left) (enteredOf w t v kind (at + start) (at + start + len) tag work)
@@ -254,5 +253,5 @@ module _ (v : Version) (w : Bool) (begin at end last : ℕ) (tag work s : List �
         → _≡_ {A = Shown × List ℕ} (Shown.Frame r (at + start + len), left) (frameIn v w begin at end tag work)
     frame-shown q p h r place in-room ep ew er =
         frame-in (Shown.Frame r (at + start + len)) (opened .1) left (ap (λ (o : Opened × List ℕ). o .1) h)
-        (body-shown v w begin at (slice at last s) (roomOf w work) id c f sh start len e kind t ek et stored (opened .1) lies-in q p
+        (body-shown v w begin at (slice at end s) (roomOf w work) id c f sh start len (found .head) kind t ek et stored (opened .1) lies-in q p
         (ap {B = Opened × List ℕ} (λ (o : Opened × List ℕ). (o .0, opened .1)) h) r place in-room ep ew er)

@@ -3,23 +3,8 @@ use format::Kind;
 use format::Version;
 use frame::body::kind_of;
 ghost use mathlib.Core.Path.{_≡_};
-ghost use Prim.Native.Nat.{_-_, min};
 ghost use mathlib.Core.Bool.{_||_};
 ghost use Rattle.format.specs.Walk.{shownKind, isResynced, unfit};
-
-// The smaller of two numbers.
-pub(crate) fn least(a: usize, b: usize) -> usize
-    ensures { λ r. ⌜ r ≡ min a b ⌝ }
-{
-    if a < b { a } else { b }
-}
-
-// How much a is more than b, or 0.
-pub(crate) fn beyond(a: usize, b: usize) -> usize
-    ensures { λ r. ⌜ r ≡ a - b ⌝ }
-{
-    if b < a { a - b } else { 0 }
-}
 
 // What a frame's body is: a compressed one is raw.
 pub(crate) fn shown_kind(version: Version, id: u32, compressed: bool) -> Kind

@@ -14,7 +14,7 @@ ghost use lib.Seq.{slice};
 ghost use Rattle.walk.specs.Insides.{placeOf, afterParsed, insideAt};
 
 // What a body is refused with, or where its run of subframes begins: at the body's end where its kind has no run.
-pub enum Inside {
+pub(crate) enum Inside {
     Refused(u8),
     Run(usize),
 }

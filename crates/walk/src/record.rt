@@ -1,8 +1,6 @@
 // One frame of the top level as a record.
-use crate::choices::beyond;
 use crate::choices::either;
 use crate::choices::is_resynced;
-use crate::choices::least;
 use crate::choices::shown_kind;
 use crate::inside::place;
 use crate::run::walk;
@@ -15,6 +13,7 @@ use format::Record;
 use format::Shown;
 use format::Span;
 use format::Version;
+use format::small::beyond;
 use frame::body::Parsed;
 use frame::body::parse;
 use frame::heads::decode;
@@ -29,13 +28,13 @@ ghost use Rattle.walk.specs.Sources.{sourceOf, frameIn};
 ghost use Rattle.walk.specs.Openings.{frontOf, readyOf, ranOf, shownAt, enteredOf};
 
 // What a body is refused with, its run included, or where it lies as it is shown, and its parts.
-pub enum Opened {
+enum Opened {
     Refused(u8),
     Body(Span, Parts),
 }
 
 // What a body is refused with before it is read, or from where to where it lies as it is shown.
-pub enum Lies {
+enum Lies {
     Refused(u8),
     At(usize, usize),
 }
@@ -199,8 +198,7 @@ pub fn frame_at(
     ensures { λ r. ⌜ (r, now (work .exit)) ≡ frameIn version «in_work» begin at end (now (tag .entry)) (now (work .entry)) ⌝ }
 {
     let s = source(in_work, &work[..], tag);
-    let last = least(end, s.len());
-    match decode(version, s, at, last, 1) {
+    match decode(version, s, at, end, 1) {
         Head::Nothing => Shown::Nothing,
         Head::Refused(k) => Shown::Refused(k),
         Head::Found {

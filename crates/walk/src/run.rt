@@ -1,11 +1,11 @@
 // The walk through frames and the subframes of chapters.
-use crate::choices::least;
 use crate::inside::Inside;
 use crate::inside::look;
 use crate::steps::Step;
 use crate::steps::step_at;
 use format::Kind;
 use format::Version;
+use format::small::least;
 use unsynch::Put;
 use unsynch::resync_in;
 use unsynch::resync_into;
@@ -62,7 +62,7 @@ fn body_in(
 }
 
 // Walks the frames of area[from..to], of what lies before split; the room is what lies from split on.
-pub fn walk_in(
+pub(crate) fn walk_in(
     area: &mut [u8],
     from: usize,
     to: usize,

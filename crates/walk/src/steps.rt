@@ -17,7 +17,7 @@ ghost use lib.Seq.{slice};
 ghost use Rattle.walk.specs.Steps.{stepAt};
 
 // Where a walk goes on: nowhere, with a refusal or 0 for none, or into a body from start to stop.
-pub enum Step {
+pub(crate) enum Step {
     Stop(u8),
     Body {
         kind: Kind,

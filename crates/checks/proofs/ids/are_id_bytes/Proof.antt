@@ -1,4 +1,4 @@
--- `writer::ids::are_id_bytes` meets its contract. Assumes nothing.
+-- `checks::ids::are_id_bytes` meets its contract. Assumes nothing.
 use mathlib.Core.Path.{sym, _∙_}
 use borrow.Author.Tests.{not-true, not-false}
 use Rattle.checks.proofs.Headings.{three-bytes}
@@ -19,7 +19,8 @@ is-id-byte-requires-2 c κs = search needs
 
 returns-2 : tie.Need-returns-2
 returns-2 c =
-    let high = sym (c .before .before .before .is-id-byte .ensures) ∙ not-false _ (c .before .before .if1 .left) in
+    let at-is-id-byte = c .before .before .before in
+    let high = sym (at-is-id-byte .is-id-byte .ensures) ∙ not-false _ (c .before .before .if1 .left) in
     let middle = sym (c .before .is-id-byte2 .ensures) ∙ not-true _ (c .if2 .taken) in
     rw (three-bytes, high, middle)
 
@@ -28,7 +29,9 @@ is-id-byte-requires-3 c κs = search needs
 
 returns-3 : tie.Need-returns-3
 returns-3 c =
-    let high = sym (c .before .before .before .before .is-id-byte .ensures) ∙ not-false _ (c .before .before .before .if1 .left) in
+    let at-if1 = c .before .before .before in
+    let at-is-id-byte = at-if1 .before in
+    let high = sym (at-is-id-byte .is-id-byte .ensures) ∙ not-false _ (at-if1 .if1 .left) in
     let middle = sym (c .before .before .is-id-byte2 .ensures) ∙ not-false _ (c .before .if2 .left) in
     rw (three-bytes, high, middle) (c .is-id-byte3 .ensures)
 

@@ -1,4 +1,4 @@
--- `writer::ids::fields_number` meets its contract. Assumes nothing.
+-- `checks::ids::fields_number` meets its contract. Assumes nothing.
 use borrow.Author.Needs.{needs}
 use Rattle.checks.proofs.ids.fields_number.Statement.{statement}
 use Rattle.checks.proofs.ids.fields_number.Tie as tie

@@ -1,4 +1,4 @@
--- `writer::ids::id_check` meets its contract: the id, then the kind under it, then the marks. Assumes nothing.
+-- `checks::ids::id_check` meets its contract: the id, then the kind under it, then the marks. Assumes nothing.
 use mathlib.Core.Path.{_≡_, refl, sym, ap, _∙_}
 use mathlib.Core.List.{List, [], _∷_}
 use Prim.Native.Nat.{ℕ}
@@ -19,9 +19,13 @@ kinds : (c : tie.After-kinds-refusal) (name names rest deviations : List ℕ) �
     let r = recOf (a .heading) name names rest deviations in
     first (idCheck (a .version) r ∷ rawCheck (a .version) r ∷ []) ≡ first (c .kinds-refusal .result ∷ pick (a .heading .short) 25 0 ∷ pick (a .heading .compressed) 25 0 ∷ [])
 kinds c name names rest deviations =
-    let a = c .before .before .before .before .before .before .args in
-    let is = sym (c .before .before .before .before .before .is-id .ensures) ∙ not-false _ (c .before .before .before .before .if1 .left) in
-    let own = c .before .before .before .fields-number .ensures name names rest deviations in
+    let at-fields-number = c .before .before .before in
+    let at-if1 = at-fields-number .before in
+    let at-is-id = at-if1 .before in
+    let at-start = at-is-id .before in
+    let a = at-start .args in
+    let is = sym (at-is-id .is-id .ensures) ∙ not-false _ (at-if1 .if1 .left) in
+    let own = at-fields-number .fields-number .ensures name names rest deviations in
     let said = c .before .kind-number .ensures ∙ ap kindNumber (c .before .before .kind-of .ensures) in
     from-kinds (a .version) (a .heading) name names rest deviations is _ _ (c .kinds-refusal .result) own said (c .kinds-refusal .ensures)
 
@@ -50,7 +54,8 @@ returns-2 c name names rest deviations = sym (kinds (c .before) name names rest 
 
 returns-3 : tie.Need-returns-3
 returns-3 c name names rest deviations =
-    let a = c .before .before .before .before .before .before .before .before .args in
+    let at-start = c .before .before .before .before .before .before .before .before in
+    let a = at-start .args in
     let marked = kinds (c .before .before) name names rest deviations ∙ passed _ _ (c .before .if2 .left) in
     sym (marked ∙ marks {compressed = a .heading .compressed} (c .if3 .taken) refl)
 

@@ -1,4 +1,4 @@
--- `writer::ids::is_among` meets its contract: whether the id stands behind is whether it stands in the whole. Assumes nothing.
+-- `checks::ids::is_among` meets its contract: whether the id stands behind is whether it stands in the whole. Assumes nothing.
 use mathlib.Core.Path.{_≡_, refl, sym, _∙_}
 use Prim.Native.Nat.{_-_, _≤_}
 use native.Mathlib.Omega.{arith}
@@ -26,8 +26,10 @@ shared-slice-read-if1 c = search needs
 
 returns : tie.Need-returns Inv-loop μ-loop
 returns c =
-    let a = c .before .before .before .before .args in
-    let L = c .before .before .before .loop in
+    let at-loop = c .before .before .before in
+    let at-start = at-loop .before in
+    let a = at-start .args in
+    let L = at-loop .loop in
     sym (among-here (a .id) (a .ids .now) (L .i) (c .before .before .loop-test .taken) (c .if1 .taken)) ∙ L .inv .1
 
 add-i : tie.Need-add-i Inv-loop μ-loop
@@ -38,8 +40,10 @@ loop-less c = search needs
 
 loop-again : tie.Need-loop-again Inv-loop μ-loop
 loop-again c =
-    let a = c .before .before .before .before .args in
-    let L = c .before .before .before .loop in
+    let at-loop = c .before .before .before in
+    let at-start = at-loop .before in
+    let a = at-start .args in
+    let L = at-loop .loop in
     (omega arith, sym (among-next (a .id) (a .ids .now) (L .i) (c .before .before .loop-test .taken) (c .if1 .left)) ∙ L .inv .1)
 
 returns-2 : tie.Need-returns-2 Inv-loop μ-loop

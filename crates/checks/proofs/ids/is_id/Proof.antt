@@ -1,4 +1,4 @@
--- `writer::ids::is_id` meets its contract. Assumes nothing.
+-- `checks::ids::is_id` meets its contract. Assumes nothing.
 use borrow.Author.Needs.{needs}
 use Rattle.checks.proofs.ids.is_id.Statement.{statement}
 use Rattle.checks.proofs.ids.is_id.Tie as tie

@@ -1,4 +1,4 @@
--- `writer::ids::is_id3` meets its contract. Assumes nothing.
+-- `checks::ids::is_id3` meets its contract. Assumes nothing.
 use borrow.Author.Tests.{lt-ltb, le-ltb}
 use borrow.Author.Needs.{needs}
 use Rattle.checks.proofs.ids.is_id3.Statement.{statement}

@@ -1,4 +1,4 @@
--- `writer::ids::is_id4` meets its contract: every id has four bytes. Assumes nothing.
+-- `checks::ids::is_id4` meets its contract: every id has four bytes. Assumes nothing.
 use mathlib.Core.Path.{_≡_}
 use mathlib.Core.Bool.{true}
 use Prim.Native.Nat.{_^_}
@@ -20,7 +20,8 @@ are-id-bytes-requires c κs = search needs
 returns : tie.Need-returns
 unfolding digits allIdBytes
 returns c =
-    let fits : ltb (c .before .before .before .args .id) (256 ^ 4) ≡ true = lt-ltb (c .before .before .before .args .id) (256 ^ 4) (omega arith) in
+    let at-start = c .before .before .before in
+    let fits : ltb (at-start .args .id) (256 ^ 4) ≡ true = lt-ltb (at-start .args .id) (256 ^ 4) (omega arith) in
     rw (fits, ← c .before .before .is-id-byte .ensures, c .before .if1 .taken) (c .are-id-bytes .ensures)
 
 returns-2 : tie.Need-returns-2

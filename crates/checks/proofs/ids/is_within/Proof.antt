@@ -1,4 +1,4 @@
--- `writer::ids::is_within` meets its contract. Assumes nothing.
+-- `checks::ids::is_within` meets its contract. Assumes nothing.
 use borrow.Author.Tests.{le-leb, lt-leb}
 use Rattle.checks.proofs.ids.is_within.Statement.{statement}
 use Rattle.checks.proofs.ids.is_within.Tie as tie

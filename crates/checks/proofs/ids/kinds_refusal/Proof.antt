@@ -1,4 +1,4 @@
--- `writer::ids::kinds_refusal` meets its contract. Assumes nothing.
+-- `checks::ids::kinds_refusal` meets its contract. Assumes nothing.
 use borrow.Author.Tests.{eq-eqb, ne-eqb}
 use Rattle.checks.proofs.ids.kinds_refusal.Statement.{statement}
 use Rattle.checks.proofs.ids.kinds_refusal.Tie as tie

@@ -1,4 +1,4 @@
--- `writer::names::children_check` meets its contract. Assumes nothing.
+-- `checks::names::children_check` meets its contract. Assumes nothing.
 use mathlib.Core.Path.{sym}
 use native.Mathlib.Omega.{arith}
 use Rattle.checks.proofs.Closed.{not-closed, too-many, all-closed}
@@ -10,17 +10,23 @@ last-byte-requires : tie.Need-last-byte-requires
 last-byte-requires c κs = search needs
 
 returns : tie.Need-returns
-returns c = sym (not-closed (c .before .before .before .args .children .now) (omega arith))
+returns c =
+    let at-start = c .before .before .before in
+    sym (not-closed (at-start .args .children .now) (omega arith))
 
-children-count-requires : tie.Need-children-count-requires
-children-count-requires c κs = search needs
+zeros-in-requires : tie.Need-zeros-in-requires
+zeros-in-requires c κs = search needs
 
 returns-2 : tie.Need-returns-2
-returns-2 c = sym (too-many (c .before .before .before .before .before .args .children .now) (omega arith))
+returns-2 c =
+    let at-start = c .before .before .before .before .before in
+    sym (too-many (at-start .args .children .now) (omega arith))
 
 returns-3 : tie.Need-returns-3
-returns-3 c = sym (all-closed (c .before .before .before .before .before .args .children .now) (omega arith) (omega arith))
+returns-3 c =
+    let at-start = c .before .before .before .before .before in
+    sym (all-closed (at-start .args .children .now) (omega arith) (omega arith))
 
 pub children-check-spec : {M : Type 1} → statement M
 children-check-spec =
-    tie.close (tie.spec last-byte-requires returns children-count-requires returns-2 returns-3)
+    tie.close (tie.spec last-byte-requires returns zeros-in-requires returns-2 returns-3)

@@ -1,4 +1,4 @@
--- `writer::names::last_byte` meets its contract. Assumes nothing.
+-- `checks::names::last_byte` meets its contract. Assumes nothing.
 use mathlib.Core.Path.{sym}
 use Rattle.checks.proofs.Closed.{last-none, last-at}
 use borrow.Author.Needs.{needs}

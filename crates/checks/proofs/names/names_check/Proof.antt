@@ -1,4 +1,4 @@
--- `writer::names::names_check` meets its contract. Assumes nothing.
+-- `checks::names::names_check` meets its contract. Assumes nothing.
 use mathlib.Core.Path.{sym, _∙_}
 use Rattle.checks.proofs.Firsts.{refused, passed, only}
 use borrow.Author.Needs.{needs}

@@ -1,4 +1,4 @@
--- `writer::checks::early_check` meets its contract: each kind has one of the checks, a table of contents two. Assumes nothing.
+-- `checks::checks::early_check` meets its contract: each kind has one of the checks, a table of contents two. Assumes nothing.
 use mathlib.Core.Path.{sym, _∙_}
 use Rattle.format.specs.Bytes.{first}
 use Rattle.checks.proofs.Firsts.{only}

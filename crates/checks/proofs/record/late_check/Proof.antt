@@ -1,4 +1,4 @@
--- `writer::checks::late_check` meets its contract: each kind has one of the checks, or none. Assumes nothing.
+-- `checks::checks::late_check` meets its contract: each kind has one of the checks, or none. Assumes nothing.
 use mathlib.Core.Path.{sym, _∙_}
 use Rattle.format.specs.Bytes.{first}
 use Rattle.checks.proofs.Firsts.{only}

@@ -1,4 +1,4 @@
--- `writer::checks::record_check` meets its contract: the heading, then the early checks, then the late ones. Assumes nothing.
+-- `checks::checks::record_check` meets its contract: the heading, then the early checks, then the late ones. Assumes nothing.
 use mathlib.Core.Path.{sym, _∙_}
 use Rattle.checks.proofs.Firsts.{refused, passed}
 use Rattle.checks.proofs.Order.{in-steps}
@@ -11,7 +11,8 @@ id-check-requires c κs = search needs
 
 returns : tie.Need-returns
 returns c =
-    let a = c .before .before .before .before .before .before .args in
+    let at-start = c .before .before .before .before .before .before in
+    let a = at-start .args in
     rw (in-steps, ← c .before .id-check .ensures (a .name .now) (a .names .now) (a .rest .now) (a .deviations .now)) (sym (refused _ _ (c .if1 .taken)))
 
 early-check-requires : tie.Need-early-check-requires
@@ -19,8 +20,10 @@ early-check-requires c κs = search needs
 
 returns-2 : tie.Need-returns-2
 returns-2 c =
-    let a = c .before .before .before .before .before .before .before .before .args in
-    rw (in-steps, ← c .before .before .before .id-check .ensures (a .name .now) (a .names .now) (a .rest .now) (a .deviations .now), ← c .before .early-check .ensures (a .rest .now) (a .deviations .now))
+    let at-id-check = c .before .before .before in
+    let at-start = at-id-check .before .before .before .before .before in
+    let a = at-start .args in
+    rw (in-steps, ← at-id-check .id-check .ensures (a .name .now) (a .names .now) (a .rest .now) (a .deviations .now), ← c .before .early-check .ensures (a .rest .now) (a .deviations .now))
     (sym (passed _ _ (c .before .before .if1 .left) ∙ refused _ _ (c .if2 .taken)))
 
 late-check-requires : tie.Need-late-check-requires
@@ -28,9 +31,12 @@ late-check-requires c κs = search needs
 
 returns-3 : tie.Need-returns-3
 returns-3 c =
-    let a = c .before .before .before .before .before .before .before .before .before .args in
-    rw (in-steps, ← c .before .before .before .before .id-check .ensures (a .name .now) (a .names .now) (a .rest .now) (a .deviations .now), ← c .before .before .early-check .ensures (a .rest .now) (a .deviations .now))
-    (c .late-check .ensures (a .name .now) (a .names .now) ∙ sym (passed _ _ (c .before .before .before .if1 .left) ∙ passed _ _ (c .before .if2 .left)))
+    let at-if1 = c .before .before .before in
+    let at-id-check = at-if1 .before in
+    let at-start = at-id-check .before .before .before .before .before in
+    let a = at-start .args in
+    rw (in-steps, ← at-id-check .id-check .ensures (a .name .now) (a .names .now) (a .rest .now) (a .deviations .now), ← c .before .before .early-check .ensures (a .rest .now) (a .deviations .now))
+    (c .late-check .ensures (a .name .now) (a .names .now) ∙ sym (passed _ _ (at-if1 .if1 .left) ∙ passed _ _ (c .before .if2 .left)))
 
 pub record-check-spec : {M : Type 1} → statement M
 record-check-spec =

@@ -1,4 +1,4 @@
--- `writer::checks::run_check` meets its contract. Assumes nothing.
+-- `checks::checks::run_check` meets its contract. Assumes nothing.
 use mathlib.Core.Path.{_≡_, sym, ap, _∙_}
 use mathlib.Core.Bool.{true}
 use mathlib.Core.List.{List, []}
@@ -15,7 +15,8 @@ walks : (c : tie.After-walk) →
     let a = c .before .before .before .args in
     walked true (a .version) 2 (a .run .now) [] .0 ≡ c .walk .result
 walks c =
-    let a = c .before .before .before .args in
+    let at-start = c .before .before .before in
+    let a = at-start .args in
     ap (λ (s : List ℕ). walked true (a .version) 2 s [] .0) (sym (take-length (a .run .now))) ∙ sym (ap (λ (o : ℕ × List ℕ). o .0) (c .walk .ensures))
 
 slice-aggregate-walk : tie.Need-slice-aggregate-walk

@@ -1,4 +1,4 @@
--- `writer::checks::text_check` meets its contract. Assumes nothing.
+-- `checks::checks::text_check` meets its contract. Assumes nothing.
 use mathlib.Core.Path.{_≡_, sym, ap, _∙_}
 use lib.Seq.{take-length}
 use borrow.Author.Tests.{eq-eqb, ne-eqb}

@@ -1,4 +1,4 @@
--- `writer::sizes::long_size_check` meets its contract. Assumes nothing.
+-- `checks::sizes::long_size_check` meets its contract. Assumes nothing.
 use Prim.Native.Nat.{_^_}
 use native.Mathlib.Omega.{arith}
 use borrow.Author.Tests.{le-leb, lt-leb}

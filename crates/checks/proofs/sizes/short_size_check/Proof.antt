@@ -1,4 +1,4 @@
--- `writer::sizes::short_size_check` meets its contract. Assumes nothing.
+-- `checks::sizes::short_size_check` meets its contract. Assumes nothing.
 use Prim.Native.Nat.{_^_}
 use native.Mathlib.Omega.{arith}
 use borrow.Author.Tests.{eq-eqb, ne-eqb, le-leb, lt-leb}

@@ -1,4 +1,4 @@
--- `writer::sizes::size_check` meets its contract: 2.3 and 2.4 are refused alike. Assumes nothing.
+-- `checks::sizes::size_check` meets its contract: 2.3 and 2.4 are refused alike. Assumes nothing.
 use Rattle.checks.specs.Sizes.{sizeRefusal}
 use borrow.Author.Needs.{needs}
 use Rattle.checks.proofs.sizes.size_check.Statement.{statement}

@@ -1,4 +1,4 @@
--- `writer::tables::all_fit` meets its contract: whether the rest fits is whether the whole fits. Assumes nothing.
+-- `checks::tables::all_fit` meets its contract: whether the rest fits is whether the whole fits. Assumes nothing.
 use mathlib.Core.Path.{_≡_, refl, sym, _∙_}
 use Prim.Native.Nat.{_-_, _≤_}
 use native.Mathlib.Omega.{arith}
@@ -30,9 +30,12 @@ fits-requires c κs = search needs
 
 returns : tie.Need-returns Inv-loop μ-loop
 returns c =
-    let ds = c .before .before .before .before .before .before .args .deviations .now in
-    let L = c .before .before .before .before .loop in
-    sym (one-over ds (L .i) (L .a) (L .b) (c .before .before .before .loop-test .taken) (sym (c .before .fits2 .ensures) ∙ not-true _ (c .if1 .taken))) ∙ L .inv .1
+    let at-loop-test = c .before .before .before in
+    let at-loop = at-loop-test .before in
+    let at-start = at-loop .before .before in
+    let ds = at-start .args .deviations .now in
+    let L = at-loop .loop in
+    sym (one-over ds (L .i) (L .a) (L .b) (at-loop-test .loop-test .taken) (sym (c .before .fits2 .ensures) ∙ not-true _ (c .if1 .taken))) ∙ L .inv .1
 
 add-i : tie.Need-add-i Inv-loop μ-loop
 add-i c = search needs
@@ -42,13 +45,17 @@ loop-less c = search needs
 
 loop-again : tie.Need-loop-again Inv-loop μ-loop
 loop-again c =
-    let ds = c .before .before .before .before .before .before .args .deviations .now in
-    let L = c .before .before .before .before .loop in
-    (omega arith, sym (one-fits ds (L .i) (L .a) (L .b) (c .before .before .before .loop-test .taken) (sym (c .before .fits2 .ensures) ∙ not-false _ (c .if1 .left))) ∙ L .inv .1)
+    let at-loop-test = c .before .before .before in
+    let at-loop = at-loop-test .before in
+    let at-start = at-loop .before .before in
+    let ds = at-start .args .deviations .now in
+    let L = at-loop .loop in
+    (omega arith, sym (one-fits ds (L .i) (L .a) (L .b) (at-loop-test .loop-test .taken) (sym (c .before .fits2 .ensures) ∙ not-false _ (c .if1 .left))) ∙ L .inv .1)
 
 returns-2 : tie.Need-returns-2 Inv-loop μ-loop
 returns-2 c =
-    let ds = c .before .before .before .args .deviations .now in
+    let at-start = c .before .before .before in
+    let ds = at-start .args .deviations .now in
     let L = c .before .loop in
     sym (none-left (L .a) (L .b) (drop (L .i) ds) (omega (arith, length-drop (L .i) ds))) ∙ L .inv .1
 

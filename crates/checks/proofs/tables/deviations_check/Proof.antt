@@ -1,4 +1,4 @@
--- `writer::tables::deviations_check` meets its contract: the deviations, then the steps, then 34. Assumes nothing.
+-- `checks::tables::deviations_check` meets its contract: the deviations, then the steps, then 34. Assumes nothing.
 use mathlib.Core.Path.{_≡_, sym, _∙_}
 use mathlib.Core.Bool.{true, _&&_}
 use Prim.Native.Nat.{_%_, _^_}
@@ -49,11 +49,12 @@ fits-requires-2 c κs = search needs
 returns-4 : tie.Need-returns-4
 unfolding first
 returns-4 c =
+    let at-before = c .before .before .before in
     let over = sym (c .before .fits3 .ensures) ∙ not-true _ (c .if4 .taken) in
-    rw (fitting (c .before .before .before .before), short (c .before .before), over)
+    rw (fitting (at-before .before), short (c .before .before), over)
 
-sum-of-requires : tie.Need-sum-of-requires
-sum-of-requires c κs = search needs
+add-odd-check : tie.Need-add-odd-check
+add-odd-check c = search needs
 
 odd-check-requires : tie.Need-odd-check-requires
 odd-check-requires c κs = search needs
@@ -61,8 +62,10 @@ odd-check-requires c κs = search needs
 returns-5 : tie.Need-returns-5
 unfolding first
 returns-5 c =
-    let brief = sym (c .before .before .before .fits3 .ensures) ∙ not-false _ (c .before .before .if4 .left) in
-    rw (fitting (c .before .before .before .before .before .before), short (c .before .before .before .before), brief, ← c .before .sum-of .ensures) (c .odd-check .ensures ∙ sym (only _))
+    let at-brief = c .before in
+    let at-short = at-brief .before .before in
+    let brief = sym (at-brief .before .fits3 .ensures) ∙ not-false _ (at-brief .if4 .left) in
+    rw (fitting (at-short .before .before), short at-short, brief) (c .odd-check .ensures ∙ sym (only _))
 
 pub deviations-check-spec : {M : Type 1} → statement M
 deviations-check-spec =
@@ -75,6 +78,6 @@ deviations-check-spec =
     returns-3
     fits-requires-2
     returns-4
-    sum-of-requires
+    add-odd-check
     odd-check-requires
     returns-5)

@@ -1,4 +1,4 @@
--- `writer::tables::fits` meets its contract. Assumes nothing.
+-- `checks::tables::fits` meets its contract. Assumes nothing.
 use mathlib.Core.Path.{sym, ap}
 use Prim.Native.Nat.{ℕ}
 use lib.Dec.{ltb}

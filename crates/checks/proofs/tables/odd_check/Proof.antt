@@ -1,4 +1,4 @@
--- `writer::tables::odd_check` meets its contract. Assumes nothing.
+-- `checks::tables::odd_check` meets its contract. Assumes nothing.
 use borrow.Author.Tests.{eq-eqb, ne-eqb}
 use Rattle.checks.proofs.tables.odd_check.Statement.{statement}
 use Rattle.checks.proofs.tables.odd_check.Tie as tie

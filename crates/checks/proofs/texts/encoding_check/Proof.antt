@@ -1,4 +1,4 @@
--- `writer::texts::encoding_check` meets its contract. Assumes nothing.
+-- `checks::texts::encoding_check` meets its contract. Assumes nothing.
 use native.Mathlib.Omega.{arith}
 use borrow.Author.Tests.{le-leb, lt-leb}
 use Rattle.checks.proofs.texts.encoding_check.Statement.{statement}

@@ -20,7 +20,8 @@ returns-3 c = rw (c .match .keys2)
 
 returns-4 : tie.Need-returns-4
 returns-4 c =
-    let id = c .before .before .before .args .id in
+    let at-start = c .before .before .before in
+    let id = at-start .args .id in
     let no = c .match .rest in
     rw (
       sym (c .before .before .is-text .ensures) ∙ c .before .if1 .left,

@@ -26,7 +26,8 @@ returns-5 c = rw (c .match .keys4)
 
 returns-6 : tie.Need-returns-6
 returns-6 c =
-    let id = c .before .before .before .args .id in
+    let at-start = c .before .before .before in
+    let id = at-start .args .id in
     let no = c .match .rest in
     rw (
       sym (c .before .before .is-text .ensures) ∙ c .before .if1 .left,

@@ -13,7 +13,8 @@ nowhere-requires c κs = search needs
 
 returns : tie.Need-returns
 returns c v =
-    let a = c .before .before .before .args in
+    let at-start = c .before .before .before in
+    let a = at-start .args in
     let b = c .before .part in
     accepted v Kind.Raw (a .from) (b .result .now) _ (b .ensures) _ (raw-taken (b .result .now))
     (raw-parts v (a .from) (b .result .now) (c .nowhere .result) (c .nowhere .ensures))

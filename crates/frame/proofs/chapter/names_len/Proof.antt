@@ -23,7 +23,8 @@ loop-holds c = omega arith
 
 returns : tie.Need-returns Inv-loop μ-loop
 returns c =
-    let a = c .before .before .before .args in
+    let at-start = c .before .before .before in
+    let a = at-start .args in
     let s = a .s .now in
     let L = c .before .before .loop in
     names-missing (a .count) s (omega (arith, no-zeros (drop (L .i) s) (omega (arith, length-drop (L .i) s))))
@@ -42,10 +43,13 @@ loop-less c = search needs
 
 loop-again : tie.Need-loop-again Inv-loop μ-loop
 loop-again c =
-    let s = c .before .before .before .before .before .args .s .now in
-    let L = c .before .before .before .before .loop in
+    let at-loop-test = c .before .before .before in
+    let at-loop = at-loop-test .before in
+    let at-start = at-loop .before in
+    let s = at-start .args .s .now in
+    let L = at-loop .loop in
     let lt = c .before .before .if1 .left in
-    let some = c .before .before .before .loop-test .taken in
+    let some = at-loop-test .loop-test .taken in
     ⊎-elim
     (λ w. rw (w .1) (omega (arith, name-closed s (L .i) lt (L .left) some (w .0 .taken))))
     (λ w. rw (w .1) (omega (arith, name-goes-on s (L .i) lt (L .left) some (w .0 .left))))

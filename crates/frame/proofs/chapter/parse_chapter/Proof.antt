@@ -19,40 +19,44 @@ add-run c = omega (arith, zero-le (c .before .part .result .now), c .before .par
 
 returns : tie.Need-returns
 returns c v =
-    let a = c .before .before .before .before .args in
+    let at-start = c .before .before .before .before in
+    let a = at-start .args in
     let b = c .before .before .part in
     let z = c .before .zero-at in
     refused v Kind.Chapter (a .from) (b .result .now) _ (b .ensures) 10 (chapter-cut (b .result .now) (z .result) (z .ensures) (c .if1 .taken))
 
-add-time : tie.Need-add-time
-add-time c = search needs
+add-read32 : tie.Need-add-read32
+add-read32 c = search needs
 
-time-requires : tie.Need-time-requires
-time-requires c κs = search needs
+read32-requires : tie.Need-read32-requires
+read32-requires c κs = search needs
 
-add-time-2 : tie.Need-add-time-2
-add-time-2 c = search needs
+add-read32-2 : tie.Need-add-read32-2
+add-read32-2 c = search needs
 
-time-requires-2 : tie.Need-time-requires-2
-time-requires-2 c κs = search needs
+read32-requires-2 : tie.Need-read32-requires-2
+read32-requires-2 c κs = search needs
 
-add-time-3 : tie.Need-add-time-3
-add-time-3 c = search needs
+add-read32-3 : tie.Need-add-read32-3
+add-read32-3 c = search needs
 
-time-requires-3 : tie.Need-time-requires-3
-time-requires-3 c κs = search needs
+read32-requires-3 : tie.Need-read32-requires-3
+read32-requires-3 c κs = search needs
 
-add-time-4 : tie.Need-add-time-4
-add-time-4 c = search needs
+add-read32-4 : tie.Need-add-read32-4
+add-read32-4 c = search needs
 
-time-requires-4 : tie.Need-time-requires-4
-time-requires-4 c κs = search needs
+read32-requires-4 : tie.Need-read32-requires-4
+read32-requires-4 c κs = search needs
 
 add-start : tie.Need-add-start
 add-start c =
-    let a = c .before .before .before .before .before .before .before .before .args in
-    let b = c .before .before .before .before .before .before .part in
-    let whole = c .before .before .before .before .if1 .left in
+    let at-if1 = c .before .before .before .before in
+    let at-part = at-if1 .before .before in
+    let at-start = at-part .before .before in
+    let a = at-start .args in
+    let b = at-part .part in
+    let whole = at-if1 .if1 .left in
     omega (arith, cut-lies (a .from) (a .to) (a .s .now) (b .result .now) (b .ensures) (omega arith))
 
 sub-left : tie.Need-sub-left
@@ -63,17 +67,23 @@ nowhere-requires c κs = search needs
 
 returns-2 : tie.Need-returns-2
 returns-2 c v =
-    let a = c .before .before .before .before .before .before .before .before .before .args in
-    let b = c .before .before .before .before .before .before .before .part in
-    let z = c .before .before .before .before .before .before .zero-at in
+    let at-read322 = c .before .before .before in
+    let at-read32 = at-read322 .before in
+    let at-if1 = at-read32 .before in
+    let at-zero-at = at-if1 .before in
+    let at-part = at-zero-at .before in
+    let at-start = at-part .before .before in
+    let a = at-start .args in
+    let b = at-part .part in
+    let z = at-zero-at .zero-at in
     let none = c .nowhere in
     accepted v Kind.Chapter (a .from) (b .result .now) _ (b .ensures) _
-    (chapter-whole (b .result .now) (z .result) (z .ensures) (c .before .before .before .before .before .if1 .left))
+    (chapter-whole (b .result .now) (z .result) (z .ensures) (at-if1 .if1 .left))
     (chapter-parts (b .result .now) (z .result) (z .ensures) v (a .from) _ _ _ _ (none .result)
-    (c .before .before .before .before .time .ensures)
-    (c .before .before .before .time2 .ensures)
-    (c .before .before .time3 .ensures)
-    (c .before .time4 .ensures)
+    (at-read32 .read32 .ensures)
+    (at-read322 .read322 .ensures)
+    (c .before .before .read323 .ensures)
+    (c .before .read324 .ensures)
     (none .ensures))
 
 pub parse-chapter-spec : {M : Type 1} → statement M
@@ -84,14 +94,14 @@ parse-chapter-spec =
     zero-at-requires
     add-run
     returns
-    add-time
-    time-requires
-    add-time-2
-    time-requires-2
-    add-time-3
-    time-requires-3
-    add-time-4
-    time-requires-4
+    add-read32
+    read32-requires
+    add-read32-2
+    read32-requires-2
+    add-read32-3
+    read32-requires-3
+    add-read32-4
+    read32-requires-4
     add-start
     sub-left
     nowhere-requires

@@ -28,7 +28,8 @@ add-at c = omega (arith, zero-le (c .before .part .result .now), c .before .part
 
 returns : tie.Need-returns
 returns c v =
-    let a = c .before .before .before .before .args in
+    let at-start = c .before .before .before .before in
+    let a = at-start .args in
     let b = c .before .before .part in
     let z = c .before .zero-at in
     refused v Kind.Contents (a .from) (b .result .now) _ (b .ensures) 10 (contents-cut (b .result .now) (z .result) (z .ensures) (c .if1 .taken))
@@ -59,13 +60,18 @@ enum-told c = search needs
 
 returns-2 : tie.Need-returns-2
 returns-2 c v =
-    let a = c .before .before .before .before .before .before .before .before .before .before .args in
-    let b = c .before .before .before .before .before .before .before .before .part in
-    let z = c .before .before .before .before .before .before .before .zero-at in
-    let names = c .before .before .before .part2 in
+    let at-part2 = c .before .before .before in
+    let at-if1 = at-part2 .before .before .before in
+    let at-zero-at = at-if1 .before in
+    let at-part = at-zero-at .before in
+    let at-start = at-part .before .before in
+    let a = at-start .args in
+    let b = at-part .part in
+    let z = at-zero-at .zero-at in
+    let names = at-part2 .part2 in
     let missing = names-cut _ _ (sym (c .enum-told .given .1) ∙ c .before .before .names-len .ensures) in
     refused v Kind.Contents (a .from) (b .result .now) _ (b .ensures) 10
-    (contents-missing (b .result .now) (z .result) (z .ensures) (names .result .now) (names .ensures) (c .before .before .before .before .before .before .if1 .left) missing)
+    (contents-missing (b .result .now) (z .result) (z .ensures) (names .result .now) (names .ensures) (at-if1 .if1 .left) missing)
 
 -- where the names are there
 module _ (c : tie.After-known-told) where
@@ -91,19 +97,25 @@ module _ (c : tie.After-known-told) where
       contents-within b len z names (c .before .before .before .before .part2 .ensures) reaches (getD b (len + 2) 0) n (answer .1)
 
 add-run : tie.Need-add-run
-add-run c = omega (arith, within c, c .before .before .before .before .before .before .before .before .before .part .ok)
+add-run c =
+    let at-part = c .before .before .before .before .before .before .before .before .before in
+    omega (arith, within c, at-part .part .ok)
 
 add-first : tie.Need-add-first
 add-first c =
-    let a = c .before .before .before .before .before .before .before .before .before .before .before .args in
-    let e = c .before .before .before .before .before .before .before .before .before .part .ensures in
+    let at-part = c .before .before .before .before .before .before .before .before .before in
+    let at-start = at-part .before .before in
+    let a = at-start .args in
+    let e = at-part .part .ensures in
     let h = within c in
     omega (arith, cut-lies (a .from) (a .to) (a .s .now) (b c) e (omega arith))
 
 add-start : tie.Need-add-start
 add-start c =
-    let a = c .before .before .before .before .before .before .before .before .before .before .before .args in
-    let e = c .before .before .before .before .before .before .before .before .before .part .ensures in
+    let at-part = c .before .before .before .before .before .before .before .before .before in
+    let at-start = at-part .before .before in
+    let a = at-start .args in
+    let e = at-part .part .ensures in
     let h = within c in
     omega (arith, cut-lies (a .from) (a .to) (a .s .now) (b c) e (omega arith))
 
@@ -112,12 +124,17 @@ sub-left c = within c
 
 returns-3 : tie.Need-returns-3
 returns-3 c v =
-    let a = c .before .before .before .before .before .before .before .before .before .before .before .args in
-    let b = c .before .before .before .before .before .before .before .before .before .part in
-    let z = c .before .before .before .before .before .before .before .before .zero-at in
-    let names = c .before .before .before .before .part2 in
+    let at-part2 = c .before .before .before .before in
+    let at-if1 = at-part2 .before .before .before in
+    let at-zero-at = at-if1 .before in
+    let at-part = at-zero-at .before in
+    let at-start = at-part .before .before in
+    let a = at-start .args in
+    let b = at-part .part in
+    let z = at-zero-at .zero-at in
+    let names = at-part2 .part2 in
     accepted v Kind.Contents (a .from) (b .result .now) _ (b .ensures) _
-    (contents-whole (b .result .now) (z .result) (z .ensures) (names .result .now) (names .ensures) (c .before .before .before .before .before .before .before .if1 .left) (answer c .0))
+    (contents-whole (b .result .now) (z .result) (z .ensures) (names .result .now) (names .ensures) (at-if1 .if1 .left) (answer c .0))
     (contents-parts (b .result .now) (z .result) (z .ensures) (names .result .now) (names .ensures) v (a .from) (n c) (answer c .1))
 
 pub parse-contents-spec : {M : Type 1} → statement M

@@ -1,45 +1,132 @@
 -- `frame::heads::decode` meets its contract. Assumes nothing.
+use mathlib.Core.Path.{_≡_, ap, subst, _∙_}
+use Prim.Native.Nat.{ℕ, _≤_}
+use native.Mathlib.Omega.{arith}
+use mathlib.Core.List.{List}
+use lib.Seq.{slice}
 use borrow.Author.Needs.{needs}
+use Rattle.format.specs.Frame.{headOf}
+use Rattle.format.specs.declared.Version.{Version}
+use Rattle.format.specs.declared.Head.{Head}
+use Rattle.frame.specs.Headers.{Begun}
+use Rattle.frame.proofs.Headers.{Tested, ends-short, ends-padded, refused-first, begun, head-some}
 use Rattle.frame.proofs.heads.decode.Statement.{statement}
 use Rattle.frame.proofs.heads.decode.Tie as tie
+
+-- the first checks are made
+checked : (c : tie.After-first-refusal)
+    → let at-part = c .before .before .before .before .before in
+    let a = at-part .before .before .args in
+    Tested (a .version) (a .depth) (c .first-refusal .result) (at-part .part .result .now)
+checked c =
+    let at-long = c .before .before .before in
+    record {
+      long = rw (at-long .before .head-len .ensures .0) at (at-long .if1 .left);
+      some = c .before .if2 .left;
+      given = c .first-refusal .ensures;
+    }
+
+-- they passed, and the edition is one
+module _ (c : tie.Else3) (v : Version) where
+  abbrev front : List ℕ
+  front = c .before .before .before .before .before .before .part .result .now
+
+  module _ (is : c .before .before .before .before .before .before .before .before .args .version ≡ v) where
+    passed : Begun v front
+    passed = subst (λ (x : Version). Begun x front) is (begun (checked (c .before)) (c .if3 .left) .1)
+
+    decoded : (h : Head) → ((depth : ℕ) → depth ≤ 8 → h ≡ headOf v depth front)
+        → let at-part = c .before .before .before .before .before .before in
+        let a = at-part .before .before .args in
+        h ≡ headOf (a .version) (a .depth) (slice (a .from) (a .to) (a .s .now))
+    decoded h e =
+        let at-part = c .before .before .before .before .before .before in
+        let a = at-part .before .before .args in
+        rw is (e (a .depth) (begun (checked (c .before)) (c .if3 .left) .0) ∙ ap (headOf v (a .depth)) (at-part .part .ensures))
+
+part-requires : tie.Need-part-requires
+part-requires c κs = search needs
+
+head-len-requires : tie.Need-head-len-requires
+head-len-requires c κs = search needs
+
+returns : tie.Need-returns
+returns c =
+    let at-part = c .before .before in
+    let a = at-part .before .before .args in
+    let b = at-part .part in
+    ends-short (a .version) (a .depth) (b .result .now) (rw (c .before .head-len .ensures .0) at (c .if1 .taken))
+    ∙ ap (headOf (a .version) (a .depth)) (b .ensures)
+
+shared-slice-read-if2 : tie.Need-shared-slice-read-if2
+shared-slice-read-if2 c =
+    let at-before = c .before .before .before .before in
+    let at-start = at-before .before in
+    omega (arith, c .before .before .head-len .ensures .0, head-some (at-start .args .version))
+
+returns-2 : tie.Need-returns-2
+returns-2 c =
+    let at-long = c .before .before in
+    let at-part = at-long .before .before in
+    let a = at-part .before .before .args in
+    let b = at-part .part in
+    ends-padded (a .version) (a .depth) (b .result .now) (rw (at-long .before .head-len .ensures .0) at (at-long .if1 .left)) (c .if2 .taken)
+    ∙ ap (headOf (a .version) (a .depth)) (b .ensures)
+
+first-refusal-requires : tie.Need-first-refusal-requires
+first-refusal-requires c κs = search needs
+
+returns-3 : tie.Need-returns-3
+returns-3 c =
+    let at-before = c .before .before .before .before .before in
+    let at-part = at-before .before in
+    let a = at-part .before .before .args in
+    refused-first (checked (c .before)) (c .if3 .taken) ∙ ap (headOf (a .version) (a .depth)) (at-part .part .ensures)
 
 enum-told : tie.Need-enum-told
 enum-told c = search needs
 
-decode-requires : tie.Need-decode-requires
-decode-requires c κs = search needs
+with-body-requires : tie.Need-with-body-requires
+with-body-requires c κs = passed (c .before .before) Version.Id3v22 (c .enum-told .given .1)
 
 enum-told-2 : tie.Need-enum-told-2
 enum-told-2 c = search needs
 
-decode-requires-2 : tie.Need-decode-requires-2
-decode-requires-2 c κs = search needs
+with-body-requires-2 : tie.Need-with-body-requires-2
+with-body-requires-2 c κs = passed (c .before .before) Version.Id3v23 (c .enum-told2 .given .1)
 
 enum-told-3 : tie.Need-enum-told-3
 enum-told-3 c = search needs
 
-decode-requires-3 : tie.Need-decode-requires-3
-decode-requires-3 c κs = search needs
+with-body-requires-3 : tie.Need-with-body-requires-3
+with-body-requires-3 c κs = passed (c .before .before) Version.Id3v24 (c .enum-told3 .given .1)
 
-returns : tie.Need-returns
-returns c = rw (c .before .enum-told .given .1) (c .decode .ensures)
+returns-4 : tie.Need-returns-4
+returns-4 c = decoded (c .before .before .before) Version.Id3v22 (c .before .enum-told .given .1) _ (c .with-body .ensures)
 
-returns-2 : tie.Need-returns-2
-returns-2 c = rw (c .before .enum-told2 .given .1) (c .decode2 .ensures)
+returns-5 : tie.Need-returns-5
+returns-5 c = decoded (c .before .before .before) Version.Id3v23 (c .before .enum-told2 .given .1) _ (c .with-body2 .ensures)
 
-returns-3 : tie.Need-returns-3
-returns-3 c = rw (c .before .enum-told3 .given .1) (c .decode3 .ensures)
+returns-6 : tie.Need-returns-6
+returns-6 c = decoded (c .before .before .before) Version.Id3v24 (c .before .enum-told3 .given .1) _ (c .with-body3 .ensures)
 
 pub decode-spec : {M : Type 1} → statement M
 decode-spec =
     tie.close
     (tie.spec
-    enum-told
-    decode-requires
-    enum-told-2
-    decode-requires-2
-    enum-told-3
-    decode-requires-3
+    part-requires
+    head-len-requires
     returns
+    shared-slice-read-if2
     returns-2
-    returns-3)
+    first-refusal-requires
+    returns-3
+    enum-told
+    with-body-requires
+    enum-told-2
+    with-body-requires-2
+    enum-told-3
+    with-body-requires-3
+    returns-4
+    returns-5
+    returns-6)

@@ -23,11 +23,13 @@ is-over-requires c κs = search needs
 
 returns-2 : tie.Need-returns-2
 returns-2 c =
-    let a = c .before .before .before .before .before .args in
+    let at-lead = c .before .before .before in
+    let at-start = at-lead .before .before in
+    let a = at-start .args in
     c .is-over .ensures
     ∙ c .before .next2 .ensures []
     ∙ c .before .before .next .ensures (a .c ∷ [])
-    ∙ c .before .before .before .lead .ensures (a .b ∷ a .c ∷ [])
+    ∙ at-lead .lead .ensures (a .b ∷ a .c ∷ [])
 
 pub is-utf8-3-spec : {M : Type 1} → statement M
 is-utf8-3-spec =

@@ -26,12 +26,15 @@ is-over-requires c κs = search needs
 
 returns-2 : tie.Need-returns-2
 returns-2 c =
-    let a = c .before .before .before .before .before .before .args in
+    let at-next = c .before .before .before in
+    let at-lead = at-next .before in
+    let at-start = at-lead .before .before in
+    let a = at-start .args in
     c .is-over .ensures
     ∙ c .before .next3 .ensures []
     ∙ c .before .before .next2 .ensures (a .d ∷ [])
-    ∙ c .before .before .before .next .ensures (a .c ∷ a .d ∷ [])
-    ∙ c .before .before .before .before .lead .ensures (a .b ∷ a .c ∷ a .d ∷ [])
+    ∙ at-next .next .ensures (a .c ∷ a .d ∷ [])
+    ∙ at-lead .lead .ensures (a .b ∷ a .c ∷ a .d ∷ [])
 
 pub is-utf8-4-spec : {M : Type 1} → statement M
 is-utf8-4-spec =

@@ -19,20 +19,26 @@ lead-requires c κs = search needs
 
 returns-2 : tie.Need-returns-2
 returns-2 c s =
-    let b = c .before .before .before .before .before .args .b in
-    let d = c .before .before .before .due .given in
+    let at-due = c .before .before .before in
+    let at-start = at-due .before .before in
+    let b = at-start .args .b in
+    let d = at-due .due .given in
     rw (d .1) (c .lead .ensures s ∙ none-due _ _ b s _ (c .before .if1 .taken))
 
 returns-3 : tie.Need-returns-3
 returns-3 c s =
-    let b = c .before .before .before .before .before .args .b in
-    let d = c .before .before .before .due .given in
+    let at-due = c .before .before .before in
+    let at-start = at-due .before .before in
+    let b = at-start .args .b in
+    let d = at-due .due .given in
     rw (d .1) (tail-low _ _ b s _ (c .before .if1 .left) (c .if2 .taken))
 
 returns-4 : tie.Need-returns-4
 returns-4 c s =
-    let b = c .before .before .before .before .before .before .args .b in
-    let d = c .before .before .before .before .due .given in
+    let at-due = c .before .before .before .before in
+    let at-start = at-due .before .before in
+    let b = at-start .args .b in
+    let d = at-due .due .given in
     rw (d .1) (tail-high _ _ b s _ (c .before .before .if1 .left) (c .before .if2 .left) (c .if3 .taken))
 
 sub-t7 : tie.Need-sub-t7
@@ -40,8 +46,10 @@ sub-t7 c = search needs
 
 returns-5 : tie.Need-returns-5
 returns-5 c s =
-    let b = c .before .before .before .before .before .before .args .b in
-    let d = c .before .before .before .before .due .given in
+    let at-due = c .before .before .before .before in
+    let at-start = at-due .before .before in
+    let b = at-start .args .b in
+    let d = at-due .due .given in
     rw (d .1) (tail _ _ b s _ (c .before .before .if1 .left) (c .before .if2 .left) (c .if3 .left))
 
 pub next-spec : {M : Type 1} → statement M

@@ -21,7 +21,8 @@ part-result-end c = search needs
 
 returns : tie.Need-returns
 returns c =
-    let a = c .before .before .before .before .args in
+    let at-start = c .before .before .before .before in
+    let a = at-start .args in
     let end = c .before .before .least in
     let start = c .before .least2 in
     part-cut (a .from) (a .to) (start .result) (end .result) (a .s .now) (end .ensures) (start .ensures)

@@ -24,7 +24,8 @@ add-if1 c = omega (arith, zero-le (c .before .part .result .now), c .before .par
 
 returns : tie.Need-returns
 returns c v =
-    let a = c .before .before .before .before .args in
+    let at-start = c .before .before .before .before in
+    let a = at-start .args in
     let b = c .before .before .part in
     let z = c .before .zero-at in
     refused v Kind.Popularimeter (a .from) (b .result .now) _ (b .ensures) 10 (popularimeter-cut (b .result .now) (z .result) (z .ensures) (c .if1 .taken))
@@ -37,20 +38,26 @@ shared-slice-read-rating c = search needs
 
 add-read64 : tie.Need-add-read64
 add-read64 c =
-    let a = c .before .before .before .before .before .args in
-    let b = c .before .before .before .part in
+    let at-part = c .before .before .before in
+    let at-start = at-part .before .before in
+    let a = at-start .args in
+    let b = at-part .part in
     omega (arith, cut-lies (a .from) (a .to) (a .s .now) (b .result .now) (b .ensures) (omega arith))
 
 add-read64-2 : tie.Need-add-read64-2
 add-read64-2 c =
-    let a = c .before .before .before .before .before .args in
-    let b = c .before .before .before .part in
+    let at-part = c .before .before .before in
+    let at-start = at-part .before .before in
+    let a = at-start .args in
+    let b = at-part .part in
     omega (arith, cut-lies (a .from) (a .to) (a .s .now) (b .result .now) (b .ensures) (omega arith))
 
 add-read64-3 : tie.Need-add-read64-3
 add-read64-3 c =
-    let a = c .before .before .before .before .before .args in
-    let b = c .before .before .before .part in
+    let at-part = c .before .before .before in
+    let at-start = at-part .before .before in
+    let a = at-start .args in
+    let b = at-part .part in
     omega (arith, cut-lies (a .from) (a .to) (a .s .now) (b .result .now) (b .ensures) (omega arith))
 
 read64-requires : tie.Need-read64-requires
@@ -61,11 +68,15 @@ nowhere-requires c κs = search needs
 
 returns-2 : tie.Need-returns-2
 returns-2 c v =
-    let a = c .before .before .before .before .before .before .before .args in
-    let b = c .before .before .before .before .before .part in
-    let z = c .before .before .before .before .zero-at in
+    let at-if1 = c .before .before .before in
+    let at-zero-at = at-if1 .before in
+    let at-part = at-zero-at .before in
+    let at-start = at-part .before .before in
+    let a = at-start .args in
+    let b = at-part .part in
+    let z = at-zero-at .zero-at in
     let n = c .before .read64 in
-    let whole = c .before .before .before .if1 .left in
+    let whole = at-if1 .if1 .left in
     let counter = n .ensures ∙ ap (λ (l : List ℕ). number (take 8 l)) (counter-lies (a .from) (a .to) (z .result) (a .s .now) (b .result .now) (b .ensures) whole) in
     accepted v Kind.Popularimeter (a .from) (b .result .now) _ (b .ensures) _
     (popularimeter-whole (b .result .now) (z .result) (z .ensures) whole)

@@ -23,7 +23,8 @@ fitting-requires c κs =
 
 returns-2 : tie.Need-returns-2
 returns-2 c =
-    let a = c .before .before .before .args in
+    let at-start = c .before .before .before in
+    let a = at-start .args in
     let s = c .before .before .sum-of in
     counts (a .v) (a .w) (a .n) (s .result) (c .fitting .result) (widths (a .v) (a .w) (s .result) (s .ensures) (c .before .if1 .left)) (c .fitting .ensures)
 

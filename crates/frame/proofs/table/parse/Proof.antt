@@ -13,40 +13,55 @@ part-requires c κs = search needs
 
 returns : tie.Need-returns
 returns c v =
-    let a = c .before .before .before .args in
+    let at-start = c .before .before .before in
+    let a = at-start .args in
     let b = c .before .part in
     refused v Kind.Table (a .from) (b .result .now) _ (b .ensures) 10 (table-cut (b .result .now) (c .if1 .taken))
 
-shared-slice-read-bytes-bits : tie.Need-shared-slice-read-bytes-bits
-shared-slice-read-bytes-bits c = search needs
+shared-slice-read-bits-for-bytes : tie.Need-shared-slice-read-bits-for-bytes
+shared-slice-read-bits-for-bytes c = search needs
 
-shared-slice-read-millis-bits : tie.Need-shared-slice-read-millis-bits
-shared-slice-read-millis-bits c = search needs
+shared-slice-read-bits-for-millis : tie.Need-shared-slice-read-bits-for-millis
+shared-slice-read-bits-for-millis c = search needs
 
-refusal-requires : tie.Need-refusal-requires
-refusal-requires c κs = search needs
+widths-refusal-requires : tie.Need-widths-refusal-requires
+widths-refusal-requires c κs = search needs
 
 returns-2 : tie.Need-returns-2
 returns-2 c v =
-    let a = c .before .before .before .before .before .before .before .args in
-    let b = c .before .before .before .before .before .part in
-    let no = c .before .refusal in
+    let at-if1 = c .before .before .before .before in
+    let at-part = at-if1 .before in
+    let at-start = at-part .before .before in
+    let a = at-start .args in
+    let b = at-part .part in
+    let no = c .before .widths-refusal in
     refused-as v Kind.Table (a .from) (b .result .now) _ (b .ensures) (no .result)
-    (table-checked (b .result .now) (c .before .before .before .before .if1 .left) ∙ sym (no .ensures)) (c .if2 .taken)
+    (table-checked (b .result .now) (at-if1 .if1 .left) ∙ sym (no .ensures)) (c .if2 .taken)
 
-read16-requires : tie.Need-read16-requires
-read16-requires c κs = search needs
+read-few-requires : tie.Need-read-few-requires
+read-few-requires c κs = search needs
 
-read32-requires : tie.Need-read32-requires
-read32-requires c κs = search needs
+cast-frames : tie.Need-cast-frames
+cast-frames c = search needs
 
-read32-requires-2 : tie.Need-read32-requires-2
-read32-requires-2 c κs = search needs
+read-few-requires-2 : tie.Need-read-few-requires-2
+read-few-requires-2 c κs = search needs
+
+cast-bytes : tie.Need-cast-bytes
+cast-bytes c = search needs
+
+read-few-requires-3 : tie.Need-read-few-requires-3
+read-few-requires-3 c κs = search needs
+
+cast-millis : tie.Need-cast-millis
+cast-millis c = search needs
 
 add-start : tie.Need-add-start
 add-start c =
-    let a = c .before .before .before .before .before .before .before .before .before .before .args in
-    let b = c .before .before .before .before .before .before .before .before .part in
+    let at-before = c .before .before .before .before .before .before .before in
+    let at-part = at-before .before in
+    let a = at-part .before .before .args in
+    let b = at-part .part in
     omega (arith, cut-lies (a .from) (a .to) (a .s .now) (b .result .now) (b .ensures) (omega arith))
 
 sub-len : tie.Need-sub-len
@@ -57,15 +72,21 @@ nowhere-requires c κs = search needs
 
 returns-3 : tie.Need-returns-3
 returns-3 c v =
-    let a = c .before .before .before .before .before .before .before .before .before .before .before .args in
-    let b = c .before .before .before .before .before .before .before .before .before .part in
-    let no = c .before .before .before .before .before .refusal in
+    let at-read-few = c .before .before .before in
+    let at-if2 = at-read-few .before in
+    let at-widths-refusal = at-if2 .before in
+    let at-if1 = at-widths-refusal .before .before .before in
+    let at-part = at-if1 .before in
+    let at-start = at-part .before .before in
+    let a = at-start .args in
+    let b = at-part .part in
+    let no = at-widths-refusal .widths-refusal in
     accepted v Kind.Table (a .from) (b .result .now) _ (b .ensures) _
-    (table-checked (b .result .now) (c .before .before .before .before .before .before .before .before .if1 .left) ∙ sym (no .ensures) ∙ c .before .before .before .before .if2 .left)
+    (table-checked (b .result .now) (at-if1 .if1 .left) ∙ sym (no .ensures) ∙ at-if2 .if2 .left)
     (table-parts (b .result .now) v (a .from) _ _ _ (c .nowhere .result)
-    (c .before .before .before .read16 .ensures)
-    (c .before .before .read32 .ensures)
-    (c .before .read322 .ensures)
+    (at-read-few .read-few .ensures .0)
+    (c .before .before .read-few2 .ensures .0)
+    (c .before .read-few3 .ensures .0)
     (c .nowhere .ensures))
 
 pub parse-spec : {M : Type 1} → statement M
@@ -74,13 +95,16 @@ parse-spec =
     (tie.spec
     part-requires
     returns
-    shared-slice-read-bytes-bits
-    shared-slice-read-millis-bits
-    refusal-requires
+    shared-slice-read-bits-for-bytes
+    shared-slice-read-bits-for-millis
+    widths-refusal-requires
     returns-2
-    read16-requires
-    read32-requires
-    read32-requires-2
+    read-few-requires
+    cast-frames
+    read-few-requires-2
+    cast-bytes
+    read-few-requires-3
+    cast-millis
     add-start
     sub-len
     nowhere-requires

@@ -15,13 +15,15 @@ add-result c = search needs
 
 returns : tie.Need-returns
 returns c =
-    let v = sym (c .before .before .before .is-width .ensures) ∙ c .before .before .if1 .taken in
+    let at-is-width = c .before .before .before in
+    let v = sym (at-is-width .is-width .ensures) ∙ c .before .before .if1 .taken in
     let w = sym (c .before .is-width2 .ensures) ∙ c .if2 .taken in
     rw (v, w)
 
 returns-2 : tie.Need-returns-2
 returns-2 c =
-    let v = sym (c .before .before .before .is-width .ensures) ∙ c .before .before .if1 .taken in
+    let at-is-width = c .before .before .before in
+    let v = sym (at-is-width .is-width .ensures) ∙ c .before .before .if1 .taken in
     let w = sym (c .before .is-width2 .ensures) ∙ c .if2 .left in
     rw (v, w)
 

@@ -28,8 +28,10 @@ shared-slice-read-if1 c = search needs
 
 returns : tie.Need-returns Inv-loop μ-loop
 returns c =
-    let s = c .before .before .before .before .args .s .now in
-    let L = c .before .before .before .loop in
+    let at-loop = c .before .before .before in
+    let at-start = at-loop .before in
+    let s = at-start .args .s .now in
+    let L = at-loop .loop in
     sym (closing-kept (L .i) s (omega arith) (L .inv .0) (L .inv .2) (c .if1 .taken))
 
 sub-i : tie.Need-sub-i Inv-loop μ-loop
@@ -40,8 +42,10 @@ loop-less c = search needs
 
 loop-again : tie.Need-loop-again Inv-loop μ-loop
 loop-again c =
-    let s = c .before .before .before .before .args .s .now in
-    let L = c .before .before .before .loop in
+    let at-loop = c .before .before .before in
+    let at-start = at-loop .before in
+    let s = at-start .args .s .now in
+    let L = at-loop .loop in
     (omega arith, omega arith, trim-zero (L .i) s (omega arith) (L .inv .0) (L .inv .2) (c .if1 .left))
 
 returns-2 : tie.Need-returns-2 Inv-loop μ-loop

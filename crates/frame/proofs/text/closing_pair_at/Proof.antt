@@ -42,10 +42,13 @@ zero-pair-requires c κs = search needs
 
 returns : tie.Need-returns Inv-loop μ-loop
 returns c =
-    let s = c .before .before .before .before .before .before .before .args .s .now in
-    let L = c .before .before .before .before .before .loop in
+    let at-loop-test = c .before .before .before .before in
+    let at-loop = at-loop-test .before in
+    let at-start = at-loop .before .before in
+    let s = at-start .args .s .now in
+    let L = at-loop .loop in
     let z = c .before .zero-pair in
-    let p = c .before .before .before .before .loop-test .taken in
+    let p = at-loop-test .loop-test .taken in
     sym (closing-pairs-kept (L .i) s p (L .inv .1) (L .inv .0) (L .inv .3) (sym (not-true _ (c .if1 .taken)) ∙ z .ensures))
 
 sub-i-2 : tie.Need-sub-i-2 Inv-loop μ-loop
@@ -56,8 +59,10 @@ loop-less c = search needs
 
 loop-again : tie.Need-loop-again Inv-loop μ-loop
 loop-again c =
-    let s = c .before .before .before .before .before .before .before .args .s .now in
-    let L = c .before .before .before .before .before .loop in
+    let at-loop = c .before .before .before .before .before in
+    let at-start = at-loop .before .before in
+    let s = at-start .args .s .now in
+    let L = at-loop .loop in
     let z = c .before .zero-pair in (
       omega arith,
       omega arith,
@@ -67,7 +72,8 @@ loop-again c =
 
 returns-2 : tie.Need-returns-2 Inv-loop μ-loop
 returns-2 c =
-    let s = c .before .before .before .args .s .now in
+    let at-start = c .before .before .before in
+    let s = at-start .args .s .now in
     let L = c .before .loop in
     sym (closing-pairs-none (L .i) s (c .loop-test .left) (L .inv .1) (L .inv .2) (L .inv .3))
 

@@ -12,7 +12,8 @@ part-requires c κs = search needs
 
 returns : tie.Need-returns
 returns c =
-    let a = c .before .before .before .args in
+    let at-start = c .before .before .before in
+    let a = at-start .args in
     let b = c .before .part in
     refused (a .version) Kind.Text (a .from) (b .result .now) _ (b .ensures) 10 (text-empty (b .result .now) (c .if1 .taken))
 
@@ -21,8 +22,10 @@ shared-slice-read-encoding c = search needs
 
 returns-2 : tie.Need-returns-2
 returns-2 c =
-    let a = c .before .before .before .before .before .args in
-    let b = c .before .before .before .part in
+    let at-part = c .before .before .before in
+    let at-start = at-part .before .before in
+    let a = at-start .args in
+    let b = at-part .part in
     let some = c .before .before .if1 .left in
     refused (a .version) Kind.Text (a .from) (b .result .now) _ (b .ensures) 11 (text-unknown (b .result .now) some (c .if2 .taken))
 
@@ -31,9 +34,12 @@ text-end-requires c κs = search needs
 
 add-start : tie.Need-add-start
 add-start c =
-    let a = c .before .before .before .before .before .before .args in
-    let b = c .before .before .before .before .part in
-    let some = c .before .before .before .if1 .left in
+    let at-if1 = c .before .before .before in
+    let at-part = at-if1 .before in
+    let at-start = at-part .before .before in
+    let a = at-start .args in
+    let b = at-part .part in
+    let some = at-if1 .if1 .left in
     omega (arith, cut-lies (a .from) (a .to) (a .s .now) (b .result .now) (b .ensures) (omega arith))
 
 nowhere-requires : tie.Need-nowhere-requires
@@ -41,9 +47,12 @@ nowhere-requires c κs = search needs
 
 returns-3 : tie.Need-returns-3
 returns-3 c =
-    let a = c .before .before .before .before .before .before .before .args in
-    let b = c .before .before .before .before .before .part in
-    let some = c .before .before .before .before .if1 .left in
+    let at-if1 = c .before .before .before .before in
+    let at-part = at-if1 .before in
+    let at-start = at-part .before .before in
+    let a = at-start .args in
+    let b = at-part .part in
+    let some = at-if1 .if1 .left in
     accepted (a .version) Kind.Text (a .from) (b .result .now) _ (b .ensures) _ (text-known (b .result .now) some (omega arith))
     (text-parts (a .version) (a .from) (b .result .now) (c .before .text-end .result) (c .nowhere .result) (c .before .text-end .ensures) (c .nowhere .ensures))
 

@@ -29,20 +29,26 @@ closing-end-requires c κs = search needs
 
 returns : tie.Need-returns
 returns c =
-    let text = c .before .before .before .before .part .ensures in
-    let paired = c .before .before .before .is-paired .ensures in
+    let at-is-paired = c .before .before .before in
+    let at-part = at-is-paired .before in
+    let text = at-part .part .ensures in
+    let paired = at-is-paired .is-paired .ensures in
     rw (c .before .enum-told .given .1, ← text, ← paired) (c .first-end .ensures)
 
 returns-2 : tie.Need-returns-2
 returns-2 c =
-    let text = c .before .before .before .before .part .ensures in
-    let paired = c .before .before .before .is-paired .ensures in
+    let at-is-paired = c .before .before .before in
+    let at-part = at-is-paired .before in
+    let text = at-part .part .ensures in
+    let paired = at-is-paired .is-paired .ensures in
     rw (c .before .enum-told2 .given .1, ← text, ← paired) (c .first-end2 .ensures)
 
 returns-3 : tie.Need-returns-3
 returns-3 c =
-    let text = c .before .before .before .before .part .ensures in
-    let paired = c .before .before .before .is-paired .ensures in
+    let at-is-paired = c .before .before .before in
+    let at-part = at-is-paired .before in
+    let text = at-part .part .ensures in
+    let paired = at-is-paired .is-paired .ensures in
     rw (c .before .enum-told3 .given .1, ← text, ← paired) (c .closing-end .ensures)
 
 pub text-end-spec : {M : Type 1} → statement M

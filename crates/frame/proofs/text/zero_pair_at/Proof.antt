@@ -35,10 +35,13 @@ zero-pair-requires c κs = search needs
 
 returns : tie.Need-returns Inv-loop μ-loop
 returns c =
-    let s = c .before .before .before .before .before .before .before .args .s .now in
-    let L = c .before .before .before .before .before .loop in
+    let at-loop-test = c .before .before .before .before in
+    let at-loop = at-loop-test .before in
+    let at-start = at-loop .before .before in
+    let s = at-start .args .s .now in
+    let L = at-loop .loop in
     let z = c .before .zero-pair in
-    omega (arith, pair-here s (L .i) (c .before .before .before .before .loop-test .taken) (z .result) (z .ensures) (c .if1 .taken))
+    omega (arith, pair-here s (L .i) (at-loop-test .loop-test .taken) (z .result) (z .ensures) (c .if1 .taken))
 
 add-i : tie.Need-add-i Inv-loop μ-loop
 add-i c = search needs
@@ -48,14 +51,18 @@ loop-less c = search needs
 
 loop-again : tie.Need-loop-again Inv-loop μ-loop
 loop-again c =
-    let s = c .before .before .before .before .before .before .before .args .s .now in
-    let L = c .before .before .before .before .before .loop in
+    let at-loop-test = c .before .before .before .before in
+    let at-loop = at-loop-test .before in
+    let at-start = at-loop .before .before in
+    let s = at-start .args .s .now in
+    let L = at-loop .loop in
     let z = c .before .zero-pair in
-    omega (arith, pair-next s (L .i) (c .before .before .before .before .loop-test .taken) (z .result) (z .ensures) (c .if1 .left))
+    omega (arith, pair-next s (L .i) (at-loop-test .loop-test .taken) (z .result) (z .ensures) (c .if1 .left))
 
 returns-2 : tie.Need-returns-2 Inv-loop μ-loop
 returns-2 c =
-    let s = c .before .before .before .args .s .now in
+    let at-start = c .before .before .before in
+    let s = at-start .args .s .now in
     let L = c .before .loop in
     omega (arith, pair-none (drop (L .i) s) (omega (arith, length-drop (L .i) s)), length-drop (L .i) s)
 

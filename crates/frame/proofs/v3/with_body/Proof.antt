@@ -26,7 +26,8 @@ add-start c = search needs
 
 returns : tie.Need-returns
 returns c depth shallow =
-    let a = c .before .before .before .before .before in
+    let at-before = c .before .before .before .before in
+    let a = at-before .before in
     let n = c .before in
     no-length Id3v23 (a .args .b .now) (a .pre) depth shallow (n .length-bytes .result) (is-length n) (c .if1 .taken)
 
@@ -38,7 +39,8 @@ cast-whole c = search needs
 
 returns-2 : tie.Need-returns-2
 returns-2 c depth shallow =
-    let a = c .before .before .before .before .before .before .before in
+    let at-before = c .before .before .before .before .before .before in
+    let a = at-before .before in
     let n = c .before .before .before in
     let whole = c .before .read32 in
     too-small Id3v23 (a .args .b .now) (a .pre) depth shallow (n .length-bytes .result) (is-length n) (c .before .before .if1 .left)
@@ -49,10 +51,12 @@ sub-left c = search needs
 
 returns-3 : tie.Need-returns-3
 returns-3 c depth shallow =
-    let a = c .before .before .before .before .before .before .before .before in
-    let n = c .before .before .before .before in
+    let at-before = c .before .before .before in
+    let at-before′ = at-before .before .before .before .before in
+    let a = at-before′ .before in
+    let n = at-before .before in
     let whole = c .before .before .read32 in
-    not-whole Id3v23 (a .args .b .now) (a .pre) depth shallow (n .length-bytes .result) (is-length n) (c .before .before .before .if1 .left)
+    not-whole Id3v23 (a .args .b .now) (a .pre) depth shallow (n .length-bytes .result) (is-length n) (at-before .if1 .left)
     (whole .result) (whole .ensures) _ refl refl (c .before .if2 .left) (c .if3 .taken)
 
 read32-requires-2 : tie.Need-read32-requires-2
@@ -63,13 +67,18 @@ found-requires c κs = search needs
 
 returns-4 : tie.Need-returns-4
 returns-4 c depth shallow =
-    let a = c .before .before .before .before .before .before .before .before .before .before in
-    let n = c .before .before .before .before .before .before in
-    let whole = c .before .before .before .before .read32 in
+    let at-if2 = c .before .before .before in
+    let at-read32 = at-if2 .before in
+    let at-before = at-read32 .before in
+    let at-has = at-before .before .before in
+    let at-before′ = at-has .before .before in
+    let a = at-before′ .before in
+    let n = at-before .before in
+    let whole = at-read32 .read32 in
     let id = c .before .read322 in
-    let compressed = c .before .before .before .before .before .before .before .has in
-    found Id3v23 (a .args .b .now) (a .pre) depth shallow (n .length-bytes .result) (is-length n) (c .before .before .before .before .before .if1 .left)
-    (whole .result) (whole .ensures) _ refl (λ w. (c .before .before .before .if2 .left, c .before .before .if3 .left))
+    let compressed = at-has .has in
+    found Id3v23 (a .args .b .now) (a .pre) depth shallow (n .length-bytes .result) (is-length n) (at-before .if1 .left)
+    (whole .result) (whole .ensures) _ refl (λ w. (at-if2 .if2 .left, c .before .before .if3 .left))
     (id .result) (id .ensures) (compressed .result) false (compressed .ensures) refl (c .found .result) (c .found .ensures)
 
 pub with-body-spec : {M : Type 1} → statement M

@@ -19,7 +19,8 @@ cast-result c = search needs
 
 returns : tie.Need-returns
 returns c =
-    let s = c .before .before .before .args .b .now in
+    let at-start = c .before .before .before in
+    let s = at-start .args .b .now in
     c .decode-u32 .ensures
     ∙ ap (λ (n : ℕ). fromSynchsafe (bytesOf 4 n)) (c .before .read32 .ensures)
     ∙ ap fromSynchsafe (bytes-back 4 s (omega arith) (λ i. omega (arith, c .before .before .shared-slice-known .given i)))

@@ -28,12 +28,13 @@ add-start c = search needs
 frame-size-requires : tie.Need-frame-size-requires
 frame-size-requires c κs = search needs
 
-less-requires : tie.Need-less-requires
-less-requires c κs = search needs
+beyond-requires : tie.Need-beyond-requires
+beyond-requires c κs = search needs
 
 returns : tie.Need-returns
 returns c depth shallow =
-    let a = c .before .before .before .before .before .before .before in
+    let at-before = c .before .before .before .before .before .before in
+    let a = at-before .before in
     let n = c .before .before .before in
     no-length Id3v24 (a .args .b .now) (a .pre) depth shallow (n .length-bytes .result) (is-length n) (c .if1 .taken)
 
@@ -54,13 +55,18 @@ found-requires c κs = search needs
 
 returns-2 : tie.Need-returns-2
 returns-2 c depth shallow =
-    let a = c .before .before .before .before .before .before .before .before .before .before .before in
-    let n = c .before .before .before .before .before .before .before in
-    let there = c .before .before .before .before .if1 .left in
-    let whole = c .before .before .before .before .before .before .frame-size in
-    let size = c .before .before .before .before .before .less in
+    let at-has2 = c .before .before .before in
+    let at-if1 = at-has2 .before in
+    let at-beyond = at-if1 .before in
+    let at-before = at-beyond .before in
+    let at-before′ = at-before .before .before .before .before in
+    let a = at-before′ .before in
+    let n = at-before .before in
+    let there = at-if1 .if1 .left in
+    let whole = at-before .frame-size in
+    let size = at-beyond .beyond in
     let id = c .before .read32 in
-    let compressed = c .before .before .before .has2 in
+    let compressed = at-has2 .has2 in
     let flagged = c .before .before .has3 in
     found Id3v24 (a .args .b .now) (a .pre) depth shallow (n .length-bytes .result) (is-length n) there
     (whole .result) (whole .ensures) (size .result) (size .ensures) (λ w. absurd (false-not-true w))
@@ -75,7 +81,7 @@ with-body-spec =
     length-bytes-requires
     add-start
     frame-size-requires
-    less-requires
+    beyond-requires
     returns
     sub-left
     has-requires-2

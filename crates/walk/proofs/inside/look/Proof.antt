@@ -78,45 +78,50 @@ returns c = rw (c .before .enum-told .given .1) (c .text .ensures)
 -- src/inside.rt:62:1
 returns-2 : tie.Need-returns-2
 returns-2 c =
-    let a = c .before .before .before .before .before .args in
+    let at-start = c .before .before .before .before .before in
+    let a = at-start .args in
     let b = slice (a .from) (a .to) (a .s .now) in
-    let l = length-slice (a .from) (a .to) (a .s .now) (c .before .before .before .before .before .pre .1) in
+    let l = length-slice (a .from) (a .to) (a .s .now) (at-start .pre .1) in
     let ends : a .from + length b ≡ a .to = omega arith in
     c .after .ensures ∙ after-as Id3v24 (a .from) (a .to) b ends (a .kind) Kind.Popularimeter (c .before .parse .result) (c .before .before .enum-told2 .given .1) (c .before .parse .ensures Id3v24)
 
 -- src/inside.rt:62:1
 returns-3 : tie.Need-returns-3
 returns-3 c =
-    let a = c .before .before .before .before .before .args in
+    let at-start = c .before .before .before .before .before in
+    let a = at-start .args in
     let b = slice (a .from) (a .to) (a .s .now) in
-    let l = length-slice (a .from) (a .to) (a .s .now) (c .before .before .before .before .before .pre .1) in
+    let l = length-slice (a .from) (a .to) (a .s .now) (at-start .pre .1) in
     let ends : a .from + length b ≡ a .to = omega arith in
     c .after2 .ensures ∙ after-as Id3v24 (a .from) (a .to) b ends (a .kind) Kind.Table (c .before .parse2 .result) (c .before .before .enum-told3 .given .1) (c .before .parse2 .ensures Id3v24)
 
 -- src/inside.rt:62:1
 returns-4 : tie.Need-returns-4
 returns-4 c =
-    let a = c .before .before .before .before .before .args in
+    let at-start = c .before .before .before .before .before in
+    let a = at-start .args in
     let b = slice (a .from) (a .to) (a .s .now) in
-    let l = length-slice (a .from) (a .to) (a .s .now) (c .before .before .before .before .before .pre .1) in
+    let l = length-slice (a .from) (a .to) (a .s .now) (at-start .pre .1) in
     let ends : a .from + length b ≡ a .to = omega arith in
     c .after3 .ensures ∙ after-as Id3v24 (a .from) (a .to) b ends (a .kind) Kind.Chapter (c .before .parse-chapter .result) (c .before .before .enum-told4 .given .1) (c .before .parse-chapter .ensures Id3v24)
 
 -- src/inside.rt:62:1
 returns-5 : tie.Need-returns-5
 returns-5 c =
-    let a = c .before .before .before .before .before .args in
+    let at-start = c .before .before .before .before .before in
+    let a = at-start .args in
     let b = slice (a .from) (a .to) (a .s .now) in
-    let l = length-slice (a .from) (a .to) (a .s .now) (c .before .before .before .before .before .pre .1) in
+    let l = length-slice (a .from) (a .to) (a .s .now) (at-start .pre .1) in
     let ends : a .from + length b ≡ a .to = omega arith in
     c .after4 .ensures ∙ after-as Id3v24 (a .from) (a .to) b ends (a .kind) Kind.Contents (c .before .parse-contents .result) (c .before .before .enum-told5 .given .1) (c .before .parse-contents .ensures Id3v24)
 
 -- src/inside.rt:62:1
 returns-6 : tie.Need-returns-6
 returns-6 c =
-    let a = c .before .before .before .args in
+    let at-start = c .before .before .before in
+    let a = at-start .args in
     let b = slice (a .from) (a .to) (a .s .now) in
-    let l = length-slice (a .from) (a .to) (a .s .now) (c .before .before .before .pre .1) in
+    let l = length-slice (a .from) (a .to) (a .s .now) (at-start .pre .1) in
     let ends : a .from + length b ≡ a .to = omega arith in
     raw-inside (a .kind) (a .from) b (a .to) ends (c .enum-told6 .given .1)
 

@@ -32,8 +32,10 @@ same-length c = search needs
 
 returns : tie.Need-returns
 returns c =
-    let a = c .before .before .before .before .before .before .before .before .before .args in
-    let R = c .before .before .before .before .before .resync-into in
+    let at-resync-into = c .before .before .before .before .before in
+    let at-start = at-resync-into .before .before .before .before in
+    let a = at-start .args in
+    let R = at-resync-into .resync-into in
     let e = ap {B = Put × List ℕ} (λ (x : Put). (x, R .last .0)) (sym (c .before .k .given .1)) ∙ R .ensures in
     λ v id place from len. front-refused v (recordOf id (a .short) false place true from len) (a .next) (resynchronised (slice (a .first) (a .next) (a .s .now))) (a .room .now) (R .last .0) e
 
@@ -42,9 +44,12 @@ same-length-2 c = search needs
 
 returns-2 : tie.Need-returns-2
 returns-2 c =
-    let a = c .before .before .before .before .before .before .before .before .before .before .before .before .args in
-    let R = c .before .before .before .before .before .before .before .before .resync-into in
-    let e = ap {B = Put × List ℕ} (λ (x : Put). (x, R .last .0)) (sym (c .before .before .before .before .n .given .1)) ∙ R .ensures in
+    let at-n = c .before .before .before .before in
+    let at-resync-into = at-n .before .before .before .before in
+    let at-start = at-resync-into .before .before .before .before in
+    let a = at-start .args in
+    let R = at-resync-into .resync-into in
+    let e = ap {B = Put × List ℕ} (λ (x : Put). (x, R .last .0)) (sym (at-n .n .given .1)) ∙ R .ensures in
     λ v id place from len. front-read v (recordOf id (a .short) false place true from len) (a .next) (resynchronised (slice (a .first) (a .next) (a .s .now))) (a .room .now) (R .last .0) e
     (c .before .parse .ensures v) (c .read-as .ensures v id place from len)
 

@@ -18,8 +18,10 @@ same-length c = search needs
 
 returns : tie.Need-returns
 returns c =
-    let a = c .before .before .before .before .before .before .before .args in
-    λ begin. pass-in-work (a .version) (a .in-work) begin (a .at) (a .end) (a .tag .now) (a .work .now) (c .before .before .before .before .if1 .taken) (c .before .pass-in .ensures begin)
+    let at-if1 = c .before .before .before .before in
+    let at-start = at-if1 .before .before .before in
+    let a = at-start .args in
+    λ begin. pass-in-work (a .version) (a .in-work) begin (a .at) (a .end) (a .tag .now) (a .work .now) (at-if1 .if1 .taken) (c .before .pass-in .ensures begin)
 
 pass-in-requires-2 : tie.Need-pass-in-requires-2
 pass-in-requires-2 c κs = search needs
@@ -29,8 +31,10 @@ same-length-2 c = search needs
 
 returns-2 : tie.Need-returns-2
 returns-2 c =
-    let a = c .before .before .before .before .before .before .before .args in
-    λ begin. pass-apart (a .version) (a .in-work) begin (a .at) (a .end) (a .tag .now) (a .work .now) (c .before .before .before .before .if1 .left) (c .before .before .pass-in2 .ensures begin)
+    let at-if1 = c .before .before .before .before in
+    let at-start = at-if1 .before .before .before in
+    let a = at-start .args in
+    λ begin. pass-apart (a .version) (a .in-work) begin (a .at) (a .end) (a .tag .now) (a .work .now) (at-if1 .if1 .left) (c .before .before .pass-in2 .ensures begin)
 
 pub pass-at-spec : {M : Type 1} → statement M
 pass-at-spec =

@@ -9,7 +9,8 @@ use lib.Dec.{eqb}
 use Rattle.format.specs.Unsynch.{resynchronised}
 use Rattle.format.specs.Ids.{kindNumber}
 use Rattle.format.specs.declared.Kind.{Kind}
-use Rattle.walk.proofs.Passes.{Here, here, pass-nothing, pass-refused, pass-body-refused, pass-over, pass-meter, pass-front}
+use Rattle.walk.proofs.Onwards.{Here, here}
+use Rattle.walk.proofs.Passes.{pass-nothing, pass-refused, pass-body-refused, pass-over, pass-meter, pass-front}
 use borrow.Author.Needs.{needs}
 use Rattle.walk.proofs.passing.pass_in.Statement.{statement}
 use Rattle.walk.proofs.passing.pass_in.Tie as tie
@@ -36,10 +37,14 @@ found d =
     here (a .version) (a .at) (a .end) (a .s .now) _ _ _ _ _ _ (sym (d .before .id .given .1) ∙ d .before .before .before .decode .ensures)
 
 add-first : tie.Need-add-first
-add-first c = omega (arith, found c .within, c .before .before .before .before .before .before .fits)
+add-first c =
+    let at-fits = c .before .before .before .before .before .before in
+    omega (arith, found c .within, at-fits .fits)
 
 add-next : tie.Need-add-next
-add-next c = omega (arith, found c .within, c .before .before .before .before .before .before .fits)
+add-next c =
+    let at-fits = c .before .before .before .before .before .before in
+    omega (arith, found c .within, at-fits .fits)
 
 shown-kind-requires : tie.Need-shown-kind-requires
 shown-kind-requires c κs = search needs
@@ -58,12 +63,14 @@ same-length c = search needs
 
 returns : tie.Need-returns
 returns c =
-    let q = c .before .before .before .before .before .before in
+    let at-if2 = c .before .before .before .before in
+    let at-before = at-if2 .before in
+    let q = at-before .before in
     let d = q .before .before .before in
     let a = d .before .before .before .before .before .before .args in
     let h = d .before .id .given .0 in
     let b = slice (a .at + h .1 .1 .1 .1 .0) (a .at + h .1 .1 .1 .1 .0 + h .1 .1 .1 .1 .1 .0) (a .s .now) in
-    λ begin. pass-front (a .version) (a .in-work) begin (a .at) (a .end) (a .s .now) (a .room .now) (found d) _ _ (q .before .before .shown-kind .ensures) (q .before .is-resynced .ensures) (sym (q .is-popularimeter .ensures) ∙ c .before .before .before .before .before .if1 .taken) (c .before .before .before .before .if2 .taken)
+    λ begin. pass-front (a .version) (a .in-work) begin (a .at) (a .end) (a .s .now) (a .room .now) (found d) _ _ (q .before .before .shown-kind .ensures) (q .before .is-resynced .ensures) (sym (q .is-popularimeter .ensures) ∙ at-before .if1 .taken) (at-if2 .if2 .taken)
     (c .before .before .flagged .ensures (a .version) (h .0) (a .at - begin) 0 (length (resynchronised b)))
 
 parse-requires : tie.Need-parse-requires
@@ -74,26 +81,31 @@ read-as-requires c κs = search needs
 
 returns-2 : tie.Need-returns-2
 returns-2 c =
-    let q = c .before .before .before .before in
+    let at-before = c .before .before .before in
+    let q = at-before .before in
     let d = q .before .before .before in
     let a = d .before .before .before .before .before .before .args in
     let h = d .before .id .given .0 in
     let b = slice (a .at + h .1 .1 .1 .1 .0) (a .at + h .1 .1 .1 .1 .0 + h .1 .1 .1 .1 .1 .0) (a .s .now) in
-    λ begin. pass-meter (a .version) (a .in-work) begin (a .at) (a .end) (a .s .now) (a .room .now) (found d) _ _ (q .before .before .shown-kind .ensures) (q .before .is-resynced .ensures) (sym (q .is-popularimeter .ensures) ∙ c .before .before .before .if1 .taken) (c .before .before .if2 .left)
+    λ begin. pass-meter (a .version) (a .in-work) begin (a .at) (a .end) (a .s .now) (a .room .now) (found d) _ _ (q .before .before .shown-kind .ensures) (q .before .is-resynced .ensures) (sym (q .is-popularimeter .ensures) ∙ at-before .if1 .taken) (c .before .before .if2 .left)
     (c .before .parse .ensures (a .version)) (c .read-as .ensures (a .version) (h .0) (a .at - begin) (a .at + h .1 .1 .1 .1 .0) (length b))
 
 body-requires : tie.Need-body-requires
-body-requires c κs = (omega arith, found (c .before .before .before .before .before) .within, omega arith)
+body-requires c κs =
+    let at-before = c .before .before .before .before in
+    (omega arith, found (at-before .before) .within, omega arith)
 
 same-length-2 : tie.Need-same-length-2
 same-length-2 c = search needs
 
 returns-3 : tie.Need-returns-3
 returns-3 c =
-    let q = c .before .before .before .before .before .before in
+    let at-body = c .before .before .before in
+    let at-before = at-body .before .before in
+    let q = at-before .before in
     let d = q .before .before .before in
     let a = d .before .before .before .before .before .before .args in
-    λ begin. pass-body-refused (a .version) (a .in-work) begin (a .at) (a .end) (a .s .now) (a .room .now) (found d) _ _ (q .before .before .shown-kind .ensures) (q .before .is-resynced .ensures) (c .before .before .before .body .ensures) (c .if3 .taken)
+    λ begin. pass-body-refused (a .version) (a .in-work) begin (a .at) (a .end) (a .s .now) (a .room .now) (found d) _ _ (q .before .before .shown-kind .ensures) (q .before .is-resynced .ensures) (at-body .body .ensures) (c .if3 .taken)
 
 kind-of-requires : tie.Need-kind-of-requires
 kind-of-requires c κs = search needs
@@ -103,25 +115,30 @@ is-popularimeter-requires-2 c κs = search needs
 
 returns-4 : tie.Need-returns-4
 returns-4 c =
-    let a = c .before .before .before .before .before .args in
+    let at-start = c .before .before .before .before .before in
+    let a = at-start .args in
     λ begin. pass-nothing (a .version) (a .in-work) begin (a .at) (slice (a .at) (a .end) (a .s .now)) (a .room .now) (sym (c .enum-told .given .1) ∙ c .before .before .decode .ensures)
 
 returns-5 : tie.Need-returns-5
 returns-5 c =
-    let a = c .before .before .before .before .before .before .args in
-    λ begin. pass-refused (a .version) (a .in-work) begin (a .at) (slice (a .at) (a .end) (a .s .now)) (a .room .now) (sym (c .before .k .given .1) ∙ c .before .before .before .decode .ensures)
+    let at-decode = c .before .before .before in
+    let at-start = at-decode .before .before .before in
+    let a = at-start .args in
+    λ begin. pass-refused (a .version) (a .in-work) begin (a .at) (slice (a .at) (a .end) (a .s .now)) (a .room .now) (sym (c .before .k .given .1) ∙ at-decode .decode .ensures)
 
 same-length-3 : tie.Need-same-length-3
 same-length-3 c = search needs
 
 returns-6 : tie.Need-returns-6
 returns-6 c =
-    let q = c .before .before .before .before .before .before .before .before in
+    let at-body = c .before .before .before .before .before in
+    let at-before = at-body .before .before in
+    let q = at-before .before in
     let d = q .before .before .before in
     let a = d .before .before .before .before .before .before .args in
     let h = d .before .id .given .0 in
     let packed = ap (λ (x : Bool). h .1 .0 && x) (c .is-popularimeter2 .ensures ∙ ap (λ (k : Kind). eqb (kindNumber k) 1) (c .before .kind-of .ensures)) in
-    λ begin. pass-over (a .version) (a .in-work) begin (a .at) (a .end) (a .s .now) (a .room .now) (found d) _ _ (q .before .before .shown-kind .ensures) (q .before .is-resynced .ensures) (c .before .before .before .before .before .body .ensures) (c .before .before .if3 .left) (sym (q .is-popularimeter .ensures) ∙ c .before .before .before .before .before .before .before .if1 .left) _ packed
+    λ begin. pass-over (a .version) (a .in-work) begin (a .at) (a .end) (a .s .now) (a .room .now) (found d) _ _ (q .before .before .shown-kind .ensures) (q .before .is-resynced .ensures) (at-body .body .ensures) (c .before .before .if3 .left) (sym (q .is-popularimeter .ensures) ∙ at-before .if1 .left) _ packed
 
 pub pass-in-spec : {M : Type 1} → statement M
 pass-in-spec =

@@ -19,30 +19,37 @@ enum-known-start c = search needs
 
 shown-body-requires : tie.Need-shown-body-requires
 shown-body-requires c κs =
-    let a = c .before .before .before .before .before .before .before .before .before .before .args in
+    let at-ready = c .before .before .before .before .before .before in
+    let at-start = at-ready .before .before .before .before in
+    let a = at-start .args in
     let q = c .before .before .start .given .0 in
-    let e = ap {B = Lies × List ℕ} (λ (x : Lies). (x, c .before .before .before .before .before .before .ready .last .0)) (sym (c .before .before .start .given .1)) ∙ c .before .before .before .before .before .before .ready .ensures in
-    ready-within (a .version) (a .kind) (a .from) (a .to) (a .tag .now) (a .work .now) (a .in-work) (a .resynced) (q .0) (q .1 .0) (c .before .before .before .before .before .before .ready .last .0) e (c .before .before .before .before .before .before .before .before .before .before .pre .0) (c .before .before .before .before .before .before .before .before .before .before .pre .1)
+    let e = ap {B = Lies × List ℕ} (λ (x : Lies). (x, at-ready .ready .last .0)) (sym (c .before .before .start .given .1)) ∙ at-ready .ready .ensures in
+    ready-within (a .version) (a .kind) (a .from) (a .to) (a .tag .now) (a .work .now) (a .in-work) (a .resynced) (q .0) (q .1 .0) (at-ready .ready .last .0) e (at-start .pre .0) (at-start .pre .1)
 
 same-length : tie.Need-same-length
 same-length c = search needs
 
 returns : tie.Need-returns
 returns c =
-    let a = c .before .before .before .before .before .before .before .before .before .args in
-    let e = ap {B = Lies × List ℕ} (λ (x : Lies). (x, c .before .before .before .before .before .ready .last .0)) (sym (c .before .k .given .1)) ∙ c .before .before .before .before .before .ready .ensures in
-    ready-refused (a .version) (a .kind) (a .from) (a .to) (a .tag .now) (a .work .now) (a .in-work) (a .resynced) (c .before .k .given .0 .0) (c .before .before .before .before .before .ready .last .0) e
+    let at-ready = c .before .before .before .before .before in
+    let at-start = at-ready .before .before .before .before in
+    let a = at-start .args in
+    let e = ap {B = Lies × List ℕ} (λ (x : Lies). (x, at-ready .ready .last .0)) (sym (c .before .k .given .1)) ∙ at-ready .ready .ensures in
+    ready-refused (a .version) (a .kind) (a .from) (a .to) (a .tag .now) (a .work .now) (a .in-work) (a .resynced) (c .before .k .given .0 .0) (at-ready .ready .last .0) e
 
 same-length-2 : tie.Need-same-length-2
 same-length-2 c = search needs
 
 returns-2 : tie.Need-returns-2
 returns-2 c =
-    let a = c .before .before .before .before .before .before .before .before .before .before .before .before .before .args in
-    let q = c .before .before .before .before .before .start .given .0 in
-    let e = ap {B = Lies × List ℕ} (λ (x : Lies). (x, c .before .before .before .before .before .before .before .before .before .ready .last .0)) (sym (c .before .before .before .before .before .start .given .1)) ∙ c .before .before .before .before .before .before .before .before .before .ready .ensures in
+    let at-start = c .before .before .before .before .before in
+    let at-ready = at-start .before .before .before .before in
+    let at-start′ = at-ready .before .before .before .before in
+    let a = at-start′ .args in
+    let q = at-start .start .given .0 in
+    let e = ap {B = Lies × List ℕ} (λ (x : Lies). (x, at-ready .ready .last .0)) (sym (at-start .start .given .1)) ∙ at-ready .ready .ensures in
     c .before .before .shown-body .ensures
-    ∙ ready-shown (a .version) (a .kind) (a .from) (a .to) (a .tag .now) (a .work .now) (a .in-work) (a .resynced) (q .0) (q .1 .0) (c .before .before .before .before .before .before .before .before .before .ready .last .0) e
+    ∙ ready-shown (a .version) (a .kind) (a .from) (a .to) (a .tag .now) (a .work .now) (a .in-work) (a .resynced) (q .0) (q .1 .0) (at-ready .ready .last .0) e
 
 pub enter-spec : {M : Type 1} → statement M
 enter-spec =

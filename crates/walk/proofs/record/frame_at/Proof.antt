@@ -1,11 +1,11 @@
 -- `walk::record::frame_at` meets its contract. Assumes nothing.
 use mathlib.Core.Path.{sym, ap, _∙_}
-use Prim.Native.Nat.{ℕ, _≤_}
+use Prim.Native.Nat.{ℕ}
 use native.Mathlib.Omega.{arith}
 use mathlib.Core.List.{List}
 use lib.ListN.{length}
 use Rattle.walk.specs.declared.record.Opened.{Opened}
-use Rattle.walk.proofs.Onwards.{placed}
+use Rattle.walk.proofs.Onwards.{Here, here}
 use Rattle.walk.proofs.Sources.{no-frame, head-refused, frame-refused, frame-shown}
 use borrow.Author.Needs.{needs}
 use Rattle.walk.proofs.record.frame_at.Statement.{statement}
@@ -13,9 +13,6 @@ use Rattle.walk.proofs.record.frame_at.Tie as tie
 
 source-requires : tie.Need-source-requires
 source-requires c κs = search needs
-
-least-requires : tie.Need-least-requires
-least-requires c κs = search needs
 
 decode-requires : tie.Need-decode-requires
 decode-requires c κs = search needs
@@ -35,38 +32,33 @@ shown-kind-requires c κs = search needs
 is-resynced-requires : tie.Need-is-resynced-requires
 is-resynced-requires c κs = search needs
 
+-- the frame that was found
+found : (c : tie.After-id)
+    → let at-source = c .before .before .before in
+    let a = at-source .before .before .before .before .args in
+    let h = c .id .given .0 in
+    Here (a .version) (a .at) (a .end) (at-source .source .result .now) (h .0) (h .1 .0) (h .1 .1 .0) (h .1 .1 .1 .0) (h .1 .1 .1 .1 .0) (h .1 .1 .1 .1 .1 .0)
+found c =
+    let at-source = c .before .before .before in
+    let a = at-source .before .before .before .before .args in
+    here (a .version) (a .at) (a .end) (at-source .source .result .now) _ _ _ _ _ _ (sym (c .id .given .1) ∙ c .before .before .decode .ensures)
+
 add-first : tie.Need-add-first
 add-first c =
-    let a = c .before .before .before .before .before .before .before .before .before .before .before .args in
-    let S = c .before .before .before .before .before .before .before .source .result .now in
-    let last = c .before .before .before .before .before .before .least .result in
-    let h = c .before .before .before .id .given .0 in
-    let e = sym (c .before .before .before .id .given .1) ∙ c .before .before .before .before .before .decode .ensures in
-    let le : last ≤ length S = omega (arith, c .before .before .before .before .before .before .least .ensures) in
-    let p = placed (a .version) 1 (a .at) last S le (h .0) (h .1 .0) (h .1 .1 .0) (h .1 .1 .1 .0) (h .1 .1 .1 .1 .0) (h .1 .1 .1 .1 .1 .0) (sym e) in
-    omega (arith, p .within, c .before .before .before .before .before .before .before .before .before .before .before .good)
+    let at-found = c .before .before .before in
+    let at-start = at-found .before .before .before .before .before .before .before in
+    omega (arith, found at-found .within, at-start .good)
 
 add-next : tie.Need-add-next
 add-next c =
-    let a = c .before .before .before .before .before .before .before .before .before .before .before .args in
-    let S = c .before .before .before .before .before .before .before .source .result .now in
-    let last = c .before .before .before .before .before .before .least .result in
-    let h = c .before .before .before .id .given .0 in
-    let e = sym (c .before .before .before .id .given .1) ∙ c .before .before .before .before .before .decode .ensures in
-    let le : last ≤ length S = omega (arith, c .before .before .before .before .before .before .least .ensures) in
-    let p = placed (a .version) 1 (a .at) last S le (h .0) (h .1 .0) (h .1 .1 .0) (h .1 .1 .1 .0) (h .1 .1 .1 .1 .0) (h .1 .1 .1 .1 .1 .0) (sym e) in
-    omega (arith, p .within, c .before .before .before .before .before .before .before .before .before .before .before .good)
+    let at-found = c .before .before .before in
+    let at-start = at-found .before .before .before .before .before .before .before in
+    omega (arith, found at-found .within, at-start .good)
 
 enter-requires : tie.Need-enter-requires
 enter-requires c κs =
-    let a = c .before .before .before .before .before .before .before .before .before .before .before .before .args in
-    let S = c .before .before .before .before .before .before .before .before .source .result .now in
-    let last = c .before .before .before .before .before .before .before .least .result in
-    let h = c .before .before .before .before .id .given .0 in
-    let e = sym (c .before .before .before .before .id .given .1) ∙ c .before .before .before .before .before .before .decode .ensures in
-    let le : last ≤ length S = omega (arith, c .before .before .before .before .before .before .before .least .ensures) in
-    let p = placed (a .version) 1 (a .at) last S le (h .0) (h .1 .0) (h .1 .1 .0) (h .1 .1 .1 .0) (h .1 .1 .1 .1 .0) (h .1 .1 .1 .1 .1 .0) (sym e) in
-    (omega arith, omega (arith, p .within, ap length (c .before .before .before .before .before .before .before .before .source .ensures)))
+    let at-found = c .before .before .before .before in
+    (omega arith, omega (arith, found at-found .within, ap length (at-found .before .before .before .source .ensures)))
 
 enum-known-k-2 : tie.Need-enum-known-k-2
 enum-known-k-2 c = search needs
@@ -88,49 +80,57 @@ same-length c = search needs
 
 returns : tie.Need-returns
 returns c =
-    let a = c .before .before .before .before .before .before .before .before .args in
-    no-frame (a .version) (a .in-work) (a .begin) (a .at) (a .end) (c .before .before .before .least .result) (a .tag .now) (a .work .now) (c .before .before .before .before .source .result .now) (c .before .before .before .before .source .ensures) (c .before .before .before .least .ensures) (sym (c .enum-told .given .1) ∙ c .before .before .decode .ensures)
+    let at-decode = c .before .before in
+    let at-source = at-decode .before in
+    let a = at-source .before .before .before .before .args in
+    no-frame (a .version) (a .in-work) (a .begin) (a .at) (a .end) (a .tag .now) (a .work .now) (at-source .source .result .now) (at-source .source .ensures)
+    (sym (c .enum-told .given .1) ∙ at-decode .decode .ensures)
 
 same-length-2 : tie.Need-same-length-2
 same-length-2 c = search needs
 
 returns-2 : tie.Need-returns-2
 returns-2 c =
-    let a = c .before .before .before .before .before .before .before .before .before .args in
-    head-refused (a .version) (a .in-work) (a .begin) (a .at) (a .end) (c .before .before .before .before .least .result) (a .tag .now) (a .work .now) (c .before .before .before .before .before .source .result .now) (c .before .before .before .before .before .source .ensures) (c .before .before .before .before .least .ensures) (c .before .k .given .0 .0) (sym (c .before .k .given .1) ∙ c .before .before .before .decode .ensures)
+    let at-decode = c .before .before .before in
+    let at-source = at-decode .before in
+    let a = at-source .before .before .before .before .args in
+    head-refused (a .version) (a .in-work) (a .begin) (a .at) (a .end) (a .tag .now) (a .work .now) (at-source .source .result .now) (at-source .source .ensures)
+    (c .before .k .given .0 .0) (sym (c .before .k .given .1) ∙ at-decode .decode .ensures)
 
 same-length-3 : tie.Need-same-length-3
 same-length-3 c = search needs
 
 returns-3 : tie.Need-returns-3
 returns-3 c =
-    let a = c .before .before .before .before .before .before .before .before .before .before .before .before .before .before .before .before .before .before .args in
-    let S = c .before .before .before .before .before .before .before .before .before .before .before .before .before .before .source .result .now in
-    let last = c .before .before .before .before .before .before .before .before .before .before .before .before .before .least .result in
-    let h = c .before .before .before .before .before .before .before .before .before .before .id .given .0 in
-    let e = sym (c .before .before .before .before .before .before .before .before .before .before .id .given .1) ∙ c .before .before .before .before .before .before .before .before .before .before .before .before .decode .ensures in
-    let le : last ≤ length S = omega (arith, c .before .before .before .before .before .before .before .before .before .before .before .before .before .least .ensures) in
-    let p = placed (a .version) 1 (a .at) last S le (h .0) (h .1 .0) (h .1 .1 .0) (h .1 .1 .1 .0) (h .1 .1 .1 .1 .0) (h .1 .1 .1 .1 .1 .0) (sym e) in
-    frame-refused (a .version) (a .in-work) (a .begin) (a .at) (a .end) (c .before .before .before .before .before .before .before .before .before .before .before .before .before .least .result) (a .tag .now) (a .work .now) (c .before .before .before .before .before .before .before .before .before .before .before .before .before .before .source .result .now) (c .before .before .before .before .before .before .before .before .before .before .before .before .before .before .source .ensures) (c .before .before .before .before .before .before .before .before .before .before .before .before .before .least .ensures) (h .0) (h .1 .0) (h .1 .1 .0) (h .1 .1 .1 .0) (h .1 .1 .1 .1 .0) (h .1 .1 .1 .1 .1 .0) e
-    (c .before .before .before .before .before .before .before .before .shown-kind .result) (c .before .before .before .before .before .before .before .is-resynced .result) (c .before .before .before .before .before .before .before .before .shown-kind .ensures) (c .before .before .before .before .before .before .before .is-resynced .ensures) (p .body) (c .before .before .before .before .before .enter .last .0) (c .before .k2 .given .0 .0)
-    (ap {B = Opened × List ℕ} (λ (x : Opened). (x, c .before .before .before .before .before .enter .last .0)) (sym (c .before .k2 .given .1)) ∙ c .before .before .before .before .before .enter .ensures)
+    let at-enter = c .before .before .before .before .before in
+    let at-resynced = at-enter .before .before in
+    let at-kind = at-resynced .before in
+    let at-found = at-kind .before .before in
+    let at-source = at-found .before .before .before in
+    let a = at-source .before .before .before .before .args in
+    let refused = c .before .k2 .given in
+    frame-refused (a .version) (a .in-work) (a .begin) (a .at) (a .end) (a .tag .now) (a .work .now) (at-source .source .result .now) (at-source .source .ensures)
+    (found at-found) (at-kind .shown-kind .result) (at-resynced .is-resynced .result) (at-kind .shown-kind .ensures) (at-resynced .is-resynced .ensures)
+    (at-enter .enter .last .0) (refused .0 .0)
+    (ap {B = Opened × List ℕ} (λ (x : Opened). (x, at-enter .enter .last .0)) (sym (refused .1)) ∙ at-enter .enter .ensures)
 
 same-length-4 : tie.Need-same-length-4
 same-length-4 c = search needs
 
 returns-4 : tie.Need-returns-4
 returns-4 c =
-    let a = c .before .before .before .before .before .before .before .before .before .before .before .before .before .before .before .before .before .before .before .before .before .args in
-    let S = c .before .before .before .before .before .before .before .before .before .before .before .before .before .before .before .before .before .source .result .now in
-    let last = c .before .before .before .before .before .before .before .before .before .before .before .before .before .before .before .before .least .result in
-    let h = c .before .before .before .before .before .before .before .before .before .before .before .before .before .id .given .0 in
-    let e = sym (c .before .before .before .before .before .before .before .before .before .before .before .before .before .id .given .1) ∙ c .before .before .before .before .before .before .before .before .before .before .before .before .before .before .before .decode .ensures in
-    let le : last ≤ length S = omega (arith, c .before .before .before .before .before .before .before .before .before .before .before .before .before .before .before .before .least .ensures) in
-    let p = placed (a .version) 1 (a .at) last S le (h .0) (h .1 .0) (h .1 .1 .0) (h .1 .1 .1 .0) (h .1 .1 .1 .1 .0) (h .1 .1 .1 .1 .1 .0) (sym e) in
-    let q = c .before .before .before .before .body .given .0 in
-    frame-shown (a .version) (a .in-work) (a .begin) (a .at) (a .end) (c .before .before .before .before .before .before .before .before .before .before .before .before .before .before .before .before .least .result) (a .tag .now) (a .work .now) (c .before .before .before .before .before .before .before .before .before .before .before .before .before .before .before .before .before .source .result .now) (c .before .before .before .before .before .before .before .before .before .before .before .before .before .before .before .before .before .source .ensures) (c .before .before .before .before .before .before .before .before .before .before .before .before .before .before .before .before .least .ensures) (h .0) (h .1 .0) (h .1 .1 .0) (h .1 .1 .1 .0) (h .1 .1 .1 .1 .0) (h .1 .1 .1 .1 .1 .0) e
-    (c .before .before .before .before .before .before .before .before .before .before .before .shown-kind .result) (c .before .before .before .before .before .before .before .before .before .before .is-resynced .result) (c .before .before .before .before .before .before .before .before .before .before .before .shown-kind .ensures) (c .before .before .before .before .before .before .before .before .before .before .is-resynced .ensures) (p .body) (c .before .before .before .before .before .before .before .before .enter .last .0) (q .0) (q .1 .0)
-    (ap {B = Opened × List ℕ} (λ (x : Opened). (x, c .before .before .before .before .before .before .before .before .enter .last .0)) (sym (c .before .before .before .before .body .given .1)) ∙ c .before .before .before .before .before .before .before .before .enter .ensures)
+    let at-body = c .before .before .before .before in
+    let at-enter = at-body .before .before .before .before in
+    let at-resynced = at-enter .before .before in
+    let at-kind = at-resynced .before in
+    let at-found = at-kind .before .before in
+    let at-source = at-found .before .before .before in
+    let a = at-source .before .before .before .before .args in
+    let body = at-body .body .given in
+    frame-shown (a .version) (a .in-work) (a .begin) (a .at) (a .end) (a .tag .now) (a .work .now) (at-source .source .result .now) (at-source .source .ensures)
+    (found at-found) (at-kind .shown-kind .result) (at-resynced .is-resynced .result) (at-kind .shown-kind .ensures) (at-resynced .is-resynced .ensures)
+    (at-enter .enter .last .0) (body .0 .0) (body .0 .1 .0)
+    (ap {B = Opened × List ℕ} (λ (x : Opened). (x, at-enter .enter .last .0)) (sym (body .1)) ∙ at-enter .enter .ensures)
     (c .record-of .result) (c .before .beyond .result) (c .before .before .either .result) (c .before .beyond .ensures) (c .before .before .either .ensures) (c .record-of .ensures)
 
 pub frame-at-spec : {M : Type 1} → statement M
@@ -138,7 +138,6 @@ frame-at-spec =
     tie.close
     (tie.spec
     source-requires
-    least-requires
     decode-requires
     enum-told
     enum-known-k

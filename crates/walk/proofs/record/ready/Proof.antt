@@ -18,22 +18,29 @@ same-length c = search needs
 
 returns : tie.Need-returns
 returns c =
-    let a = c .before .before .before .before .before .before .before .before .before .before .args in
-    lies-put (a .in-work) (a .resynced) (a .from) (a .to) (a .tag .now) (a .work .now) (c .before .before .before .before .before .before .before .if1 .taken)
-    (c .before .k .given .1) (c .before .before .before .before .before .resync-front .ensures)
+    let at-resync-front = c .before .before .before .before .before in
+    let at-if1 = at-resync-front .before .before in
+    let at-start = at-if1 .before .before .before in
+    let a = at-start .args in
+    lies-put (a .in-work) (a .resynced) (a .from) (a .to) (a .tag .now) (a .work .now) (at-if1 .if1 .taken)
+    (c .before .k .given .1) (at-resync-front .resync-front .ensures)
 
 same-length-2 : tie.Need-same-length-2
 same-length-2 c = search needs
 
 returns-2 : tie.Need-returns-2
 returns-2 c =
-    let a = c .before .before .before .before .before .before .before .before .before .before .args in
-    lies-put (a .in-work) (a .resynced) (a .from) (a .to) (a .tag .now) (a .work .now) (c .before .before .before .before .before .before .before .if1 .taken)
-    (c .before .n .given .1) (c .before .before .before .before .before .resync-front .ensures)
+    let at-resync-front = c .before .before .before .before .before in
+    let at-if1 = at-resync-front .before .before in
+    let at-start = at-if1 .before .before .before in
+    let a = at-start .args in
+    lies-put (a .in-work) (a .resynced) (a .from) (a .to) (a .tag .now) (a .work .now) (at-if1 .if1 .taken)
+    (c .before .n .given .1) (at-resync-front .resync-front .ensures)
 
 returns-3 : tie.Need-returns-3
 returns-3 c =
-    let a = c .before .before .before .args in
+    let at-start = c .before .before .before in
+    let a = at-start .args in
     lies-stored (a .in-work) (a .resynced) (a .from) (a .to) (a .tag .now) (a .work .now) (c .if1 .left)
 
 pub ready-spec : {M : Type 1} → statement M

@@ -18,8 +18,10 @@ same-length c = search needs
 
 returns : tie.Need-returns
 returns c =
-    let a = c .before .before .before .before .before .before .before .args in
-    front-in-work (a .in-work) (a .from) (a .to) (a .tag .now) (a .work .now) (c .before .before .before .before .if1 .taken) (c .before .resync-into .ensures)
+    let at-if1 = c .before .before .before .before in
+    let at-start = at-if1 .before .before .before in
+    let a = at-start .args in
+    front-in-work (a .in-work) (a .from) (a .to) (a .tag .now) (a .work .now) (at-if1 .if1 .taken) (c .before .resync-into .ensures)
 
 resync-into-requires-2 : tie.Need-resync-into-requires-2
 resync-into-requires-2 c κs = search needs
@@ -29,8 +31,10 @@ same-length-2 c = search needs
 
 returns-2 : tie.Need-returns-2
 returns-2 c =
-    let a = c .before .before .before .before .before .before .before .args in
-    front-apart (a .in-work) (a .from) (a .to) (a .tag .now) (a .work .now) (c .before .before .before .before .if1 .left) (c .before .before .resync-into2 .ensures)
+    let at-if1 = c .before .before .before .before in
+    let at-start = at-if1 .before .before .before in
+    let a = at-start .args in
+    front-apart (a .in-work) (a .from) (a .to) (a .tag .now) (a .work .now) (at-if1 .if1 .left) (c .before .before .resync-into2 .ensures)
 
 pub resync-front-spec : {M : Type 1} → statement M
 resync-front-spec =

@@ -8,7 +8,8 @@ use Rattle.walk.proofs.record.run_inside.Tie as tie
 
 returns : tie.Need-returns
 returns c =
-    let a = c .before .before .before .args in
+    let at-start = c .before .before .before in
+    let a = at-start .args in
     run-none (a .in-work) (a .resynced) (a .version) (a .run) (a .to) (a .tag .now) (a .work .now) (c .if1 .taken)
 
 array-borrow-prefix-none : tie.Need-array-borrow-prefix-none
@@ -25,8 +26,10 @@ same-length c = search needs
 
 returns-2 : tie.Need-returns-2
 returns-2 c =
-    let a = c .before .before .before .before .before .before .before .before .args in
-    run-in-work (a .in-work) (a .resynced) (a .version) (a .run) (a .to) (a .tag .now) (a .work .now) (c .before .before .before .before .if2 .taken)
+    let at-if2 = c .before .before .before .before in
+    let at-start = at-if2 .before .before .before .before in
+    let a = at-start .args in
+    run-in-work (a .in-work) (a .resynced) (a .version) (a .run) (a .to) (a .tag .now) (a .work .now) (at-if2 .if2 .taken)
     (c .before .walk .result) (ap (λ (o : Out). o .0) (c .before .walk .ensures))
 
 walk-in-requires : tie.Need-walk-in-requires
@@ -37,8 +40,11 @@ same-length-2 c = search needs
 
 returns-3 : tie.Need-returns-3
 returns-3 c =
-    let a = c .before .before .before .before .before .before .before .before .before .args in
-    run-behind (a .in-work) (a .resynced) (a .version) (a .run) (a .to) (a .tag .now) (a .work .now) (c .before .before .before .before .before .if2 .left) (c .before .before .before .before .if3 .taken)
+    let at-if3 = c .before .before .before .before in
+    let at-if2 = at-if3 .before in
+    let at-start = at-if2 .before .before .before .before in
+    let a = at-start .args in
+    run-behind (a .in-work) (a .resynced) (a .version) (a .run) (a .to) (a .tag .now) (a .work .now) (at-if2 .if2 .left) (at-if3 .if3 .taken)
     (c .before .before .walk-in .result, c .before .before .walk-in .last .0) (c .before .before .walk-in .ensures)
 
 walk-requires-2 : tie.Need-walk-requires-2
@@ -49,8 +55,11 @@ same-length-3 c = search needs
 
 returns-4 : tie.Need-returns-4
 returns-4 c =
-    let a = c .before .before .before .before .before .before .before .before .before .args in
-    run-apart (a .in-work) (a .resynced) (a .version) (a .run) (a .to) (a .tag .now) (a .work .now) (c .before .before .before .before .before .if2 .left) (c .before .before .before .before .if3 .left)
+    let at-if3 = c .before .before .before .before in
+    let at-if2 = at-if3 .before in
+    let at-start = at-if2 .before .before .before .before in
+    let a = at-start .args in
+    run-apart (a .in-work) (a .resynced) (a .version) (a .run) (a .to) (a .tag .now) (a .work .now) (at-if2 .if2 .left) (at-if3 .if3 .left)
     (c .before .before .walk2 .result, c .before .before .walk2 .last .0) (c .before .before .walk2 .ensures)
 
 pub run-inside-spec : {M : Type 1} → statement M

@@ -64,11 +64,15 @@ same-length-2 c = search needs
 
 returns-2 : tie.Need-returns-2
 returns-2 c =
-    let a = c .before .before .before .before .before .before .before .before .before .args in
-    let S = c .before .before .before .before .source .result .now in
+    let at-parse = c .before .before .before in
+    let at-source = at-parse .before in
+    let at-either = at-source .before .before in
+    let at-start = at-either .before .before .before in
+    let a = at-start .args in
+    let S = at-source .source .result .now in
     let es : S ≡ sourceOf (a .in-work || a .resynced) (a .work .now) (a .tag .now) =
-    c .before .before .before .before .source .ensures ∙ ap (λ (x : Bool). sourceOf x (a .work .now) (a .tag .now)) (c .before .before .before .before .before .before .either .ensures) in
-    shows-refused (a .in-work) (a .resynced) (a .version) (a .kind) (a .from) (a .to) (a .tag .now) (a .work .now) S es (c .before .k .given .0 .0) (sym (c .before .k .given .1) ∙ c .before .before .before .parse .ensures)
+    at-source .source .ensures ∙ ap (λ (x : Bool). sourceOf x (a .work .now) (a .tag .now)) (at-either .either .ensures) in
+    shows-refused (a .in-work) (a .resynced) (a .version) (a .kind) (a .from) (a .to) (a .tag .now) (a .work .now) S es (c .before .k .given .0 .0) (sym (c .before .k .given .1) ∙ at-parse .parse .ensures)
 
 same-length-3 : tie.Need-same-length-3
 same-length-3 c = search needs

@@ -1,0 +1,43 @@
+-- `frame::v2::with_body` meets its contract. Assumes nothing.
+use mathlib.Core.Path.{refl, ap, _∙_}
+use native.Mathlib.Omega.{arith}
+use mathlib.Core.Bool.{false}
+use borrow.Author.Needs.{needs}
+use Rattle.lists.proofs.Bools.{false-not-true}
+use Rattle.format.specs.Numbers.{number}
+use Rattle.format.specs.declared.Version.the-variants.{Id3v22}
+use Rattle.frame.proofs.Headers.{found}
+use Rattle.frame.proofs.Bodies.{short-cut}
+use Rattle.frame.proofs.v2.with_body.Statement.{statement}
+use Rattle.frame.proofs.v2.with_body.Tie as tie
+
+read-few-requires : tie.Need-read-few-requires
+read-few-requires c κs = search needs
+
+cast-id : tie.Need-cast-id
+cast-id c = search needs
+
+read-few-requires-2 : tie.Need-read-few-requires-2
+read-few-requires-2 c κs = search needs
+
+sub-found : tie.Need-sub-found
+sub-found c = search needs
+
+found-requires : tie.Need-found-requires
+found-requires c κs = search needs
+
+returns : tie.Need-returns
+returns c depth shallow =
+    let at-before = c .before .before .before in
+    let at-start = at-before .before in
+    let b = at-start .args .b .now in
+    let id = c .before .before .read-few in
+    let size = c .before .read-few2 in
+    found Id3v22 b (at-start .pre) depth shallow 0 refl (at-start .pre .long)
+    (size .result) (size .ensures .0 ∙ ap number (short-cut 3 3 6 b (omega arith))) (size .result) (omega arith) (λ w. absurd (false-not-true w))
+    (id .result) (id .ensures .0 ∙ ap number (short-cut 3 0 3 b (omega arith))) false false refl refl (c .found .result) (c .found .ensures)
+
+pub with-body-spec : {M : Type 1} → statement M
+with-body-spec =
+    tie.close
+    (tie.spec read-few-requires cast-id read-few-requires-2 sub-found found-requires returns)
