@@ -1,6 +1,8 @@
 // The listing of a tag, line behind line in a lent buffer. What the lines are stands in specs/Lines.antt.
 use format::Record;
 use format::Version;
+use format::numbered::version_number;
+use format::small::least;
 use lines::Placed;
 use lines::end_line;
 use lines::frame_line;
@@ -14,36 +16,17 @@ use reader::Step;
 use reader::headers::header;
 use reader::opening::open;
 ghost use mathlib.Core.Path.{_≡_};
-ghost use Prim.Native.Nat.{_<_, min};
+ghost use Prim.Native.Nat.{_<_};
 ghost use lib.ListN.{length};
 ghost use Rattle.lines.specs.Placed.{placedOf};
 ghost use Rattle.reader.specs.Reader.{headerOf};
 ghost use Rattle.listed.specs.Lines.{recordLine, recordIn, openedLines, frameLines, linesOf};
 ghost use Rattle.listed.specs.Turns.{putLines, turnOf};
-ghost use Rattle.format.specs.Numbered.{versionNumber};
 
 // A listing goes on behind a frame's line, with the moved reader, or is done.
 enum Turn {
     Done(Placed),
     On(usize, Reader),
-}
-
-// The smaller number.
-fn least(a: usize, b: usize) -> usize
-    ensures { λ r. ⌜ r ≡ min a b ⌝ }
-{
-    if a < b { a } else { b }
-}
-
-// The number behind "2." of an edition.
-fn edition(version: Version) -> u8
-    ensures { λ r. ⌜ r ≡ versionNumber version ⌝ }
-{
-    match version {
-        Version::Id3v22 => 2,
-        Version::Id3v23 => 3,
-        Version::Id3v24 => 4,
-    }
 }
 
 // Puts the line of a record whose parts lie in s.
@@ -157,7 +140,7 @@ fn put_tag(work: &mut [u8], out: &mut [u8], tag: &[u8], h: Header) -> Placed
     ensures { λ r. ⌜ (r, (now (work .exit), now (out .exit))) ≡ putLines (linesOf (now (tag .entry)) (now (work .entry))) 0 (now (work .entry)) (now (out .entry)) ⌝ }
 {
     let version = h.version;
-    match tag_line(out, 0, edition(version), h.size, h.flags, h.ext) {
+    match tag_line(out, 0, version_number(version), h.size, h.flags, h.ext) {
         Placed::Upto(at) => put_opened(work, out, tag, at),
         Placed::Full => Placed::Full,
     }

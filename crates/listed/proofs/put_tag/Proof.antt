@@ -5,8 +5,8 @@ use borrow.Author.Needs.{needs}
 use Rattle.listed.proofs.put_tag.Statement.{statement}
 use Rattle.listed.proofs.put_tag.Tie as tie
 
-edition-requires : tie.Need-edition-requires
-edition-requires c κs = search needs
+version-number-requires : tie.Need-version-number-requires
+version-number-requires c κs = search needs
 
 tag-line-requires : tie.Need-tag-line-requires
 tag-line-requires c κs = search needs
@@ -31,7 +31,7 @@ same-length-2 c = search needs
 returns : tie.Need-returns
 returns c =
     let a = c .before .before .before .before .before .before .before .before .before .before .before .before .before .before .before .before .before .before .args in
-    tag-put (a .tag .now) (a .work .now) (a .out .now) (sym (c .before .before .before .before .before .before .before .before .before .before .before .before .before .before .before .before .before .before .pre)) refl (c .before .before .before .before .before .before .before .before .before .before .before .before .before .edition .ensures) (c .before .before .before .before .before .before .before .before .before .before .before .before .tag-line .ensures) (c .before .before .before .before .before .before .before .before .at .given .1) (c .before .before .before .before .put-opened .ensures)
+    tag-put (a .tag .now) (a .work .now) (a .out .now) (sym (c .before .before .before .before .before .before .before .before .before .before .before .before .before .before .before .before .before .before .pre)) refl (c .before .before .before .before .before .before .before .before .before .before .before .before .before .version-number .ensures) (c .before .before .before .before .before .before .before .before .before .before .before .before .tag-line .ensures) (c .before .before .before .before .before .before .before .before .at .given .1) (c .before .before .before .before .put-opened .ensures)
 
 same-length-3 : tie.Need-same-length-3
 same-length-3 c = search needs
@@ -39,13 +39,13 @@ same-length-3 c = search needs
 returns-2 : tie.Need-returns-2
 returns-2 c =
     let a = c .before .before .before .before .before .before .before .before .before .before .args in
-    tag-full (a .tag .now) (a .work .now) (a .out .now) (sym (c .before .before .before .before .before .before .before .before .before .before .pre)) refl (c .before .before .before .before .before .edition .ensures) (c .before .before .before .before .tag-line .ensures) (c .enum-told .given .1)
+    tag-full (a .tag .now) (a .work .now) (a .out .now) (sym (c .before .before .before .before .before .before .before .before .before .before .pre)) refl (c .before .before .before .before .before .version-number .ensures) (c .before .before .before .before .tag-line .ensures) (c .enum-told .given .1)
 
 pub put-tag-spec : {M : Type 1} → statement M
 put-tag-spec =
     tie.close
     (tie.spec
-    edition-requires
+    version-number-requires
     tag-line-requires
     enum-known-at
     put-opened-requires
