@@ -1,6 +1,6 @@
 -- `lines::put_body` meets its contract: calls that put one after another. Assumes nothing.
 use borrow.Author.Needs.{needs}
-use Rattle.lines.proofs.Puts.{andthen, left, front, same}
+use Rattle.lines.proofs.Puts.{andthen, room-left, front, same}
 use Rattle.lines.proofs.put_body.Statement.{statement}
 use Rattle.lines.proofs.put_body.Tie as tie
 
@@ -16,14 +16,14 @@ put-kind-requires : tie.Need-put-kind-requires
 put-kind-requires c κs =
     let k1 = c .before .before .before in
     let s = k1 .before .before .before .before .before in
-    front _ _ (left (k1 .put-numbered .ensures) (s .pre))
+    front _ _ (room-left (k1 .put-numbered .ensures) (s .pre))
 
 put-short-requires : tie.Need-put-short-requires
 put-short-requires c κs =
     let k2 = c .before .before .before in
     let k1 = k2 .before .before .before .before in
     let s = k1 .before .before .before .before .before in
-    front _ _ (left (k2 .put-kind .ensures) (left (k1 .put-numbered .ensures) (s .pre)))
+    front _ _ (room-left (k2 .put-kind .ensures) (room-left (k1 .put-numbered .ensures) (s .pre)))
 
 put-detail-requires : tie.Need-put-detail-requires
 put-detail-requires c κs =
@@ -31,7 +31,7 @@ put-detail-requires c κs =
     let k2 = k3 .before .before .before .before in
     let k1 = k2 .before .before .before .before in
     let s = k1 .before .before .before .before .before in
-    front _ _ (left (k3 .put-short .ensures) (left (k2 .put-kind .ensures) (left (k1 .put-numbered .ensures) (s .pre))))
+    front _ _ (room-left (k3 .put-short .ensures) (room-left (k2 .put-kind .ensures) (room-left (k1 .put-numbered .ensures) (s .pre))))
 
 slice-aggregate-put : tie.Need-slice-aggregate-put
 slice-aggregate-put c = search needs
@@ -43,7 +43,7 @@ put-requires c κs =
     let k2 = k3 .before .before .before .before in
     let k1 = k2 .before .before .before .before in
     let s = k1 .before .before .before .before .before in
-    left (k4 .put-detail .ensures) (left (k3 .put-short .ensures) (left (k2 .put-kind .ensures) (left (k1 .put-numbered .ensures) (s .pre))))
+    room-left (k4 .put-detail .ensures) (room-left (k3 .put-short .ensures) (room-left (k2 .put-kind .ensures) (room-left (k1 .put-numbered .ensures) (s .pre))))
 
 returns : tie.Need-returns
 returns c =

@@ -1,6 +1,6 @@
 -- `lines::put_counted` meets its contract. Assumes nothing.
 use borrow.Author.Needs.{needs}
-use Rattle.lines.proofs.Puts.{andthen, left, front}
+use Rattle.lines.proofs.Puts.{andthen, room-left, front}
 use Rattle.lines.proofs.put_counted.Statement.{statement}
 use Rattle.lines.proofs.put_counted.Tie as tie
 
@@ -11,7 +11,7 @@ slice-aggregate-put : tie.Need-slice-aggregate-put
 slice-aggregate-put c = search needs
 
 put-requires : tie.Need-put-requires
-put-requires c κs = left (c .before .before .before .before .put-numbered .ensures) (c .before .before .before .before .before .before .before .before .pre)
+put-requires c κs = room-left (c .before .before .before .before .put-numbered .ensures) (c .before .before .before .before .before .before .before .before .pre)
 
 same-length : tie.Need-same-length
 same-length c = search needs

@@ -1,7 +1,7 @@
 -- `lines::put_detail` meets its contract: calls that put one after another, or none. Assumes nothing.
 use borrow.Author.Needs.{needs}
 use Rattle.lines.proofs.Parts.{no-detail}
-use Rattle.lines.proofs.Puts.{said, none, andthen, left, front}
+use Rattle.lines.proofs.Puts.{in-words, none, andthen, room-left, front}
 use Rattle.lines.proofs.put_detail.Statement.{statement}
 use Rattle.lines.proofs.put_detail.Tie as tie
 
@@ -22,7 +22,7 @@ put-hex-requires c κs =
     let k1 = c .before .before .before in
     let f = k1 .before .before .before .before in
     let s = f .before .before .before .before in
-    front _ _ (left (k1 .put .ensures) (rw (f .fields .given .1) at (s .pre)))
+    front _ _ (room-left (k1 .put .ensures) (rw (f .fields .given .1) at (s .pre)))
 
 slice-aggregate-put-numbered : tie.Need-slice-aggregate-put-numbered
 slice-aggregate-put-numbered c = search needs
@@ -36,7 +36,7 @@ put-numbered-requires c κs =
     let k1 = k2 .before .before .before .before in
     let f = k1 .before .before .before .before in
     let s = f .before .before .before .before in
-    front _ _ (left (k2 .put-hex .ensures) (left (k1 .put .ensures) (rw (f .fields .given .1) at (s .pre))))
+    front _ _ (room-left (k2 .put-hex .ensures) (room-left (k1 .put .ensures) (rw (f .fields .given .1) at (s .pre))))
 
 slice-aggregate-put-numbered-2 : tie.Need-slice-aggregate-put-numbered-2
 slice-aggregate-put-numbered-2 c = search needs
@@ -48,7 +48,7 @@ put-numbered-requires-2 c κs =
     let k1 = k2 .before .before .before .before in
     let f = k1 .before .before .before .before in
     let s = f .before .before .before .before in
-    left (k3 .put-numbered .ensures) (left (k2 .put-hex .ensures) (left (k1 .put .ensures) (rw (f .fields .given .1) at (s .pre))))
+    room-left (k3 .put-numbered .ensures) (room-left (k2 .put-hex .ensures) (room-left (k1 .put .ensures) (rw (f .fields .given .1) at (s .pre))))
 
 same-length : tie.Need-same-length
 same-length c = search needs
@@ -65,7 +65,7 @@ returns c =
 returns-2 : tie.Need-returns-2
 returns-2 c =
     let a = c .before .before .before .args in
-    said (none (a .out .now) (a .at)) (no-detail (a .fields) (c .match .keys2) 0 (a .user .now) .1)
+    in-words (none (a .out .now) (a .at)) (no-detail (a .fields) (c .match .keys2) 0 (a .user .now) .1)
 
 pub put-detail-spec : {M : Type 1} → statement M
 put-detail-spec =

@@ -1,7 +1,7 @@
 -- `lines::put_frame` meets its contract: calls that put one after another. Assumes nothing.
 use Rattle.format.specs.Listing.{frameLine}
 use borrow.Author.Needs.{needs}
-use Rattle.lines.proofs.Puts.{andthen, left, front, same}
+use Rattle.lines.proofs.Puts.{andthen, room-left, front, same}
 use Rattle.lines.proofs.put_frame.Statement.{statement}
 use Rattle.lines.proofs.put_frame.Tie as tie
 
@@ -22,7 +22,7 @@ unfolding frameLine
 put-requires c κs =
     let k1 = c .before .before .before .before in
     let s = k1 .before .before .before .before .before in
-    front _ _ (left (k1 .put-numbered .ensures) (s .pre))
+    front _ _ (room-left (k1 .put-numbered .ensures) (s .pre))
 
 put-id-requires : tie.Need-put-id-requires
 unfolding frameLine
@@ -30,7 +30,7 @@ put-id-requires c κs =
     let k2 = c .before .before .before in
     let k1 = k2 .before .before .before .before .before in
     let s = k1 .before .before .before .before .before in
-    front _ _ (left (k2 .put .ensures) (left (k1 .put-numbered .ensures) (s .pre)))
+    front _ _ (room-left (k2 .put .ensures) (room-left (k1 .put-numbered .ensures) (s .pre)))
 
 slice-aggregate-put-numbered-2 : tie.Need-slice-aggregate-put-numbered-2
 slice-aggregate-put-numbered-2 c = search needs
@@ -42,7 +42,7 @@ put-numbered-requires-2 c κs =
     let k2 = k3 .before .before .before .before in
     let k1 = k2 .before .before .before .before .before in
     let s = k1 .before .before .before .before .before in
-    front _ _ (left (k3 .put-id .ensures) (left (k2 .put .ensures) (left (k1 .put-numbered .ensures) (s .pre))))
+    front _ _ (room-left (k3 .put-id .ensures) (room-left (k2 .put .ensures) (room-left (k1 .put-numbered .ensures) (s .pre))))
 
 put-body-requires : tie.Need-put-body-requires
 unfolding frameLine
@@ -52,7 +52,7 @@ put-body-requires c κs =
     let k2 = k3 .before .before .before .before in
     let k1 = k2 .before .before .before .before .before in
     let s = k1 .before .before .before .before .before in
-    left (k4 .put-numbered2 .ensures) (left (k3 .put-id .ensures) (left (k2 .put .ensures) (left (k1 .put-numbered .ensures) (s .pre))))
+    room-left (k4 .put-numbered2 .ensures) (room-left (k3 .put-id .ensures) (room-left (k2 .put .ensures) (room-left (k1 .put-numbered .ensures) (s .pre))))
 
 returns : tie.Need-returns
 unfolding frameLine

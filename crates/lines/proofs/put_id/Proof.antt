@@ -2,7 +2,7 @@
 use borrow.Author.Needs.{needs}
 use Rattle.lines.proofs.Numbers.{three-bytes, four-bytes}
 use Rattle.lines.proofs.Parts.{four-long}
-use Rattle.lines.proofs.Puts.{said}
+use Rattle.lines.proofs.Puts.{in-words}
 use Rattle.lines.proofs.put_id.Statement.{statement}
 use Rattle.lines.proofs.put_id.Tie as tie
 
@@ -49,7 +49,7 @@ same-length c = search needs
 returns : tie.Need-returns
 returns c =
     let s = c .before .before .before .before .before .before .before .before .before in
-    rw (c .before .before .before .before .before .before .enum-told .given .1) (said (c .before .before .put .ensures) (three-bytes (s .args .id)))
+    rw (c .before .before .before .before .before .before .enum-told .given .1) (in-words (c .before .before .put .ensures) (three-bytes (s .args .id)))
 
 same-length-2 : tie.Need-same-length-2
 same-length-2 c = search needs
@@ -57,7 +57,7 @@ same-length-2 c = search needs
 returns-2 : tie.Need-returns-2
 returns-2 c =
     let s = c .before .before .before .before .before .before .before in
-    rw (← four-long (s .args .version) (c .before .before .before .before .before .match .keys2)) (said (c .before .before .put2 .ensures) (four-bytes (s .args .id)))
+    rw (← four-long (s .args .version) (c .before .before .before .before .before .match .keys2)) (in-words (c .before .before .put2 .ensures) (four-bytes (s .args .id)))
 
 pub put-id-spec : {M : Type 1} → statement M
 put-id-spec =

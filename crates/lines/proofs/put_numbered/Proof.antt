@@ -1,6 +1,6 @@
 -- `lines::put_numbered` meets its contract. Assumes nothing.
 use borrow.Author.Needs.{needs}
-use Rattle.lines.proofs.Puts.{andthen, left, front}
+use Rattle.lines.proofs.Puts.{andthen, room-left, front}
 use Rattle.lines.proofs.put_numbered.Statement.{statement}
 use Rattle.lines.proofs.put_numbered.Tie as tie
 
@@ -8,7 +8,7 @@ put-requires : tie.Need-put-requires
 put-requires c κs = front _ _ (c .before .before .before .pre)
 
 put-decimal-requires : tie.Need-put-decimal-requires
-put-decimal-requires c κs = left (c .before .before .before .put .ensures) (c .before .before .before .before .before .before .before .pre)
+put-decimal-requires c κs = room-left (c .before .before .before .put .ensures) (c .before .before .before .before .before .before .before .pre)
 
 same-length : tie.Need-same-length
 same-length c = search needs

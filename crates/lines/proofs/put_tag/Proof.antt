@@ -1,7 +1,7 @@
 -- `lines::put_tag` meets its contract: calls that put one after another. Assumes nothing.
 use Rattle.format.specs.Listing.{tagLine}
 use borrow.Author.Needs.{needs}
-use Rattle.lines.proofs.Puts.{andthen, left, front, same}
+use Rattle.lines.proofs.Puts.{andthen, room-left, front, same}
 use Rattle.lines.proofs.put_tag.Statement.{statement}
 use Rattle.lines.proofs.put_tag.Tie as tie
 
@@ -22,7 +22,7 @@ unfolding tagLine
 put-numbered-requires-2 c κs =
     let k1 = c .before .before .before .before in
     let s = k1 .before .before .before .before in
-    front _ _ (left (k1 .put-numbered .ensures) (s .pre))
+    front _ _ (room-left (k1 .put-numbered .ensures) (s .pre))
 
 slice-aggregate-put-numbered-3 : tie.Need-slice-aggregate-put-numbered-3
 slice-aggregate-put-numbered-3 c = search needs
@@ -33,7 +33,7 @@ put-numbered-requires-3 c κs =
     let k2 = c .before .before .before .before in
     let k1 = k2 .before .before .before .before .before in
     let s = k1 .before .before .before .before in
-    front _ _ (left (k2 .put-numbered2 .ensures) (left (k1 .put-numbered .ensures) (s .pre)))
+    front _ _ (room-left (k2 .put-numbered2 .ensures) (room-left (k1 .put-numbered .ensures) (s .pre)))
 
 slice-aggregate-put-numbered-4 : tie.Need-slice-aggregate-put-numbered-4
 slice-aggregate-put-numbered-4 c = search needs
@@ -45,7 +45,7 @@ put-numbered-requires-4 c κs =
     let k2 = k3 .before .before .before .before .before in
     let k1 = k2 .before .before .before .before .before in
     let s = k1 .before .before .before .before in
-    front _ _ (left (k3 .put-numbered3 .ensures) (left (k2 .put-numbered2 .ensures) (left (k1 .put-numbered .ensures) (s .pre))))
+    front _ _ (room-left (k3 .put-numbered3 .ensures) (room-left (k2 .put-numbered2 .ensures) (room-left (k1 .put-numbered .ensures) (s .pre))))
 
 slice-aggregate-put : tie.Need-slice-aggregate-put
 slice-aggregate-put c = search needs
@@ -58,7 +58,7 @@ put-requires c κs =
     let k2 = k3 .before .before .before .before .before in
     let k1 = k2 .before .before .before .before .before in
     let s = k1 .before .before .before .before in
-    left (k4 .put-numbered4 .ensures) (left (k3 .put-numbered3 .ensures) (left (k2 .put-numbered2 .ensures) (left (k1 .put-numbered .ensures) (s .pre))))
+    room-left (k4 .put-numbered4 .ensures) (room-left (k3 .put-numbered3 .ensures) (room-left (k2 .put-numbered2 .ensures) (room-left (k1 .put-numbered .ensures) (s .pre))))
 
 returns : tie.Need-returns
 unfolding tagLine
