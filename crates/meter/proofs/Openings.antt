@@ -33,11 +33,11 @@ pub missing-short : (tag : List ℕ) → length tag < 10 → true ≡ isMissing 
 missing-short tag h = sym (lt-ltb (length tag) (10 + sizeOf tag) (omega arith))
 
 missing-same : (a b : ℕ) → 10 ≤ a → ltb (a - 10) b ≡ ltb a (10 + b)
-missing-same a b h = by (ltb a (10 + b)) refl
+missing-same a b h = by-length (ltb a (10 + b)) refl
   where
-    by : (t : Bool) → ltb a (10 + b) ≡ t → ltb (a - 10) b ≡ t
-    by true e = lt-ltb (a - 10) b (omega (arith, ltb-true a (10 + b) e))
-    by false e = le-ltb (a - 10) b (omega (arith, ltb-false a (10 + b) e))
+    by-length : (t : Bool) → ltb a (10 + b) ≡ t → ltb (a - 10) b ≡ t
+    by-length true e = lt-ltb (a - 10) b (omega (arith, ltb-true a (10 + b) e))
+    by-length false e = le-ltb (a - 10) b (omega (arith, ltb-false a (10 + b) e))
 
 pub missing-long : (tag : List ℕ) {size : ℕ} → 10 ≤ length tag → size ≡ sizeOf tag → ltb (length tag - 10) size ≡ isMissing tag
 missing-long tag h e = rw e (missing-same (length tag) (sizeOf tag) h)
