@@ -12,6 +12,7 @@ use Rattle.lists.proofs.Cuts.{length-cut}
 use Rattle.format.specs.Bytes.{pick, putFront}
 use Rattle.format.specs.Unsynch.{resynchronised}
 use Rattle.format.specs.Header.{versionOf, editionOf, headerRefusal, isWhole, sizeOf, regionStart, regionEnd, regionOf}
+use Rattle.format.specs.Walk.{frameOf}
 use Rattle.format.specs.declared.Version.{Version}
 use Rattle.format.specs.declared.Record.{Record}
 use Rattle.format.specs.declared.Shown.{Shown}
@@ -161,8 +162,8 @@ shown-stopped (Shown.Refused k) r = refl
 shown-stopped (Shown.Frame rec next) r = tt {0}
 
 run-stopped : (w : Bool) (r : Reader) (tag work : List ℕ) → Stopped (runStep w r tag work .0)
-run-stopped false r tag work = shown-stopped _ r
-run-stopped true r tag work = shown-stopped _ r
+run-stopped false r tag work = shown-stopped (frameOf (r .version) false (r .begin) (r .at) (slice (r .at) (r .end) tag) work .0) r
+run-stopped true r tag work = shown-stopped (frameOf (r .version) true (r .begin) (r .at) (slice (r .at) (r .end) work) [] .0) r
 
 stop-stopped : (x : Stop) (r : Reader) (tag work : List ℕ) → r .stop ≡ x → Stopped (stepAs x r tag work .0)
 stop-stopped Stop.Running r tag work is = run-stopped (r .in_work) r tag work

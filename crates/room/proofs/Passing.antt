@@ -47,12 +47,12 @@ has-least v Kind.Raw at b e = omega arith
 body-passed : (resynced : Bool) (go : List ℕ → List ℕ → Out) (kind : Kind) (b room : List ℕ) → bodyOf resynced go kind b room .0 ≡ 0
     → bodyRefusal kind (shownBody resynced b) ≡ 0
 unfolding resyncedOf
-body-passed true go kind b room e = by (ltb (length room) (length (resynchronised b))) e
+body-passed true go kind b room e = by-room (ltb (length room) (length (resynchronised b))) e
   where
-    by : (t : Bool) → pick t (14, room) (behind (resynchronised b) (insideOf go kind (resynchronised b) (drop (length (resynchronised b)) room))) .0 ≡ 0
+    by-room : (t : Bool) → pick t (14, room) (behind (resynchronised b) (insideOf go kind (resynchronised b) (drop (length (resynchronised b)) room))) .0 ≡ 0
         → bodyRefusal kind (resynchronised b) ≡ 0
-    by true e = absurd (omega arith)
-    by false e = inside-passed go kind (resynchronised b) (drop (length (resynchronised b)) room) e .0
+    by-room true e = absurd (omega arith)
+    by-room false e = inside-passed go kind (resynchronised b) (drop (length (resynchronised b)) room) e .0
 body-passed false go kind b room e = inside-passed go kind b room e .0
 
 body-shorter : (resynced : Bool) (b : List ℕ) → length (shownBody resynced b) ≤ length b
