@@ -13,7 +13,7 @@ ghost use Rattle.meter.specs.Glances.{is22, is24, tenOf, sizeBy, Sorted,
 
 // What a glance tells: nothing, the end, or a whole frame with so many bytes of body, which is passed, is passed once it
 // is resynchronised, or is a popularimeter.
-pub enum Glance {
+pub(crate) enum Glance {
     Unclear,
     End,
     Plain(usize),

@@ -33,8 +33,12 @@ same-length c = search needs
 
 returns : tie.Need-returns
 returns c =
-    let a = c .before .before .before .before .before .before .before .before .before .before .before .before .args in
-    user-within (a .version) (a .number) (a .r) (a .at) (a .out .now) (a .s .now) (c .before .before .before .before .before .before .least .ensures) (c .before .before .before .before .before .least2 .ensures) (c .before .before .frame-line .ensures)
+    let at-line = c .before .before in
+    let at-to = at-line .before .before .before in
+    let at-from = at-to .before in
+    let at-known = at-from .before .before .before in
+    let a = at-known .before .before .before .args in
+    user-within (a .version) (a .number) (a .r) (a .at) (a .out .now) {o = at-line .frame-line .last .0} (a .s .now) (at-from .least .ensures) (at-to .least2 .ensures) (at-line .frame-line .ensures)
 
 pub put-line-spec : {M : Type 1} → statement M
 put-line-spec =

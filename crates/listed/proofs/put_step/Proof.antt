@@ -1,5 +1,5 @@
 -- `listed::put_step` meets its contract. Assumes nothing.
-use Rattle.listed.proofs.Puts.{on, full, at-end, at-refusal}
+use Rattle.listed.proofs.Puts.{turn-on, full, at-end, at-refusal}
 use borrow.Author.Needs.{needs}
 use Rattle.listed.proofs.put_step.Statement.{statement}
 use Rattle.listed.proofs.put_step.Tie as tie
@@ -40,7 +40,7 @@ same-length-2 c = search needs
 returns : tie.Need-returns
 returns c =
     let a = c .before .before .before .before .before .before .before .before .before .before .before .before .before .before .before .before .before .before .args in
-    on (a .reader) (a .number) (a .at) (a .tag .now) (a .work .now) (a .out .now) (c .before .before .before .before .before .before .before .before .before .before .before .before .before .step .ensures) (c .before .before .before .before .before .before .before .before .before .«record» .given .1) (c .before .before .before .before .before .put-record .ensures) (c .before .behind .given .1)
+    turn-on (a .reader) (a .number) (a .at) (a .tag .now) (a .work .now) (a .out .now) (c .before .before .before .before .before .before .before .before .before .before .before .before .before .step .ensures) (c .before .before .before .before .before .before .before .before .before .«record» .given .1) (c .before .before .before .before .before .put-record .ensures) (c .before .behind .given .1)
 
 same-length-3 : tie.Need-same-length-3
 same-length-3 c = search needs

@@ -24,12 +24,14 @@ returns c = search needs
 
 returns-2 : tie.Need-returns-2
 returns-2 c =
-    let a = c .before .before .before .before .before .args in
+    let at-r = c .before .before in
+    let a = at-r .before .before .before .args in
     next-ended (a .self) (a .tag .now) (a .work .now) (c .enum-told2 .given .1)
 
 returns-3 : tie.Need-returns-3
 returns-3 c =
-    let a = c .before .before .before .before .before .before .args in
+    let at-r = c .before .before .before in
+    let a = at-r .before .before .before .args in
     next-failed (a .self) (a .tag .now) (a .work .now) (c .before .stop .given .1)
 
 pub next-spec : {M : Type 1} → statement M

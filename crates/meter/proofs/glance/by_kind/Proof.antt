@@ -34,9 +34,10 @@ enum-told-6 c = search needs
 
 returns-3 : tie.Need-returns-3
 returns-3 c =
-    let start = c .before .before .before .before .before in
+    let at-enum-told = c .before .before .before in
+    let start = at-enum-told .before .before in
     let a = start .args in
-    rw (c .before .before .before .enum-told .given .1)
+    rw (at-enum-told .enum-told .given .1)
     (refl, text-at (a .first) (a .size) (a .s .now) (start .pre) (c .before .before .if1 .left) (c .if2 .left))
 
 returns-4 : tie.Need-returns-4

@@ -49,12 +49,17 @@ by-kind-requires c κs = search needs
 
 returns-4 : tie.Need-returns-4
 returns-4 c =
-    let start = c .before .before .before .before .before .before .before .before .before .before .before in
+    let at-kind-of = c .before in
+    let at-if3 = at-kind-of .before .before .before in
+    let at-size-of = at-if3 .before in
+    let at-if2 = at-size-of .before .before in
+    let at-bytes = at-if2 .before .before .before in
+    let start = at-bytes .before in
     let a = start .args in
-    let id = c .before .before .before .before .before .before .before .before .before .read32 in
-    ten-says (a .at) (a .left) (a .s .now) (λ i. omega (arith, c .before .before .before .before .before .before .before .before .before .before .shared-slice-known .given i)) (start .pre) (id .result) (id .ensures) (c .before .before .before .before .before .before .before .before .if1 .left) (c .before .before .before .before .before .before .before .if2 .left)
-    (c .before .before .before .before .before .size-of .result) (c .before .before .before .before .if3 .left) (c .before .kind-of .result) (c .before .kind-of .ensures) (c .by-kind .result) (c .by-kind .ensures) (a .v4)
-    (c .before .before .before .before .before .size-of .ensures ∙ ap (sizeBy (a .v4)) (c .before .before .before .before .before .before .read322 .ensures)) (c .before .before .if4 .taken)
+    let id = at-if2 .before .before .read32 in
+    ten-says (a .at) (a .left) (a .s .now) (λ i. omega (arith, at-bytes .shared-slice-known .given i)) (start .pre) (id .result) (id .ensures) (at-if2 .before .if1 .left) (at-if2 .if2 .left)
+    (at-size-of .size-of .result) (at-if3 .if3 .left) (at-kind-of .kind-of .result) (at-kind-of .kind-of .ensures) (c .by-kind .result) (c .by-kind .ensures) (a .v4)
+    (at-size-of .size-of .ensures ∙ ap (sizeBy (a .v4)) (at-size-of .before .read322 .ensures)) (at-kind-of .before .if4 .taken)
 
 kind-of-requires-2 : tie.Need-kind-of-requires-2
 kind-of-requires-2 c κs = search needs
@@ -70,13 +75,20 @@ with-flag-requires c κs = search needs
 
 returns-5 : tie.Need-returns-5
 returns-5 c =
-    let start = c .before .before .before .before .before .before .before .before .before .before .before .before .before .before in
+    let at-by-kind2 = c .before in
+    let at-kind-of2 = at-by-kind2 .before in
+    let at-if5 = at-kind-of2 .before .before in
+    let at-if3 = at-if5 .before .before .before in
+    let at-size-of = at-if3 .before in
+    let at-if2 = at-size-of .before .before in
+    let at-bytes = at-if2 .before .before .before in
+    let start = at-bytes .before in
     let a = start .args in
-    let id = c .before .before .before .before .before .before .before .before .before .before .before .before .read32 in
+    let id = at-if2 .before .before .read32 in
     rw (c .with-flag .ensures)
-    (ten-says-flagged (a .at) (a .left) (a .s .now) (λ i. omega (arith, c .before .before .before .before .before .before .before .before .before .before .before .before .before .shared-slice-known .given i)) (start .pre) (id .result) (id .ensures) (c .before .before .before .before .before .before .before .before .before .before .before .if1 .left) (c .before .before .before .before .before .before .before .before .before .before .if2 .left)
-    (c .before .before .before .before .before .before .before .before .size-of .result) (c .before .before .before .before .before .before .before .if3 .left) (c .before .before .kind-of2 .result) (c .before .before .kind-of2 .ensures) (c .before .by-kind2 .result) (c .before .by-kind2 .ensures) (a .v4) (c .before .before .before .if6 .taken)
-    (c .before .before .before .before .before .before .before .before .size-of .ensures ∙ ap (sizeBy (a .v4)) (c .before .before .before .before .before .before .before .before .before .read322 .ensures)) (c .before .before .before .before .if5 .taken))
+    (ten-says-flagged (a .at) (a .left) (a .s .now) (λ i. omega (arith, at-bytes .shared-slice-known .given i)) (start .pre) (id .result) (id .ensures) (at-if2 .before .if1 .left) (at-if2 .if2 .left)
+    (at-size-of .size-of .result) (at-if3 .if3 .left) (at-kind-of2 .kind-of2 .result) (at-kind-of2 .kind-of2 .ensures) (at-by-kind2 .by-kind2 .result) (at-by-kind2 .by-kind2 .ensures) (a .v4) (at-kind-of2 .before .if6 .taken)
+    (at-size-of .size-of .ensures ∙ ap (sizeBy (a .v4)) (at-size-of .before .read322 .ensures)) (at-if5 .if5 .taken))
 
 returns-6 : tie.Need-returns-6
 returns-6 c = search needs

@@ -42,11 +42,14 @@ by-kind-requires c κs = search needs
 
 returns-4 : tie.Need-returns-4
 returns-4 c =
-    let start = c .before .before .before .before .before .before .before .before in
+    let at-kind-of = c .before in
+    let at-size = at-kind-of .before .before in
+    let at-if1 = at-size .before .before in
+    let start = at-if1 .before .before .before in
     let a = start .args in
-    let id = c .before .before .before .before .before .before .read32 in
-    six-says (a .at) (a .left) (a .s .now) (λ i. omega (arith, c .before .before .before .before .before .before .before .shared-slice-known .given i)) (start .pre) (id .result / 0x100) (ap (λ (n : ℕ). n / 0x100) (id .ensures)) (c .before .before .before .before .before .if1 .left) (c .before .before .before .before .if2 .left)
-    (c .before .before .before .read322 .result % 0x100_0000) (c .before .before .if3 .left) (ap (λ (n : ℕ). n % 0x100_0000) (c .before .before .before .read322 .ensures)) (c .before .kind-of .result) (c .before .kind-of .ensures) (c .by-kind .result) (c .by-kind .ensures)
+    let id = at-if1 .before .read32 in
+    six-says (a .at) (a .left) (a .s .now) (λ i. omega (arith, at-if1 .before .before .shared-slice-known .given i)) (start .pre) (id .result / 0x100) (ap (λ (n : ℕ). n / 0x100) (id .ensures)) (at-if1 .if1 .left) (at-size .before .if2 .left)
+    (at-size .read322 .result % 0x100_0000) (at-kind-of .before .if3 .left) (ap (λ (n : ℕ). n % 0x100_0000) (at-size .read322 .ensures)) (at-kind-of .kind-of .result) (at-kind-of .kind-of .ensures) (c .by-kind .result) (c .by-kind .ensures)
 
 pub glance6-spec : {M : Type 1} → statement M
 glance6-spec =

@@ -28,7 +28,8 @@ glance6-requires c κs = search needs
 
 returns-3 : tie.Need-returns-3
 returns-3 c =
-    let a = c .before .before .before .before .before .before .args in
+    let at-if1 = c .before .before .before .before in
+    let a = at-if1 .before .before .args in
     rw (is-22 (a .version) (sym (c .before .before .is-22 .ensures) ∙ c .before .if3 .taken))
     (says-from Id3v22 (a .at) 6 (a .last - a .at - 6) (a .last) (a .s .now) (c .glance6 .result) (omega arith) (c .glance6 .ensures))
 
@@ -40,10 +41,12 @@ glance10-requires c κs = search needs
 
 returns-4 : tie.Need-returns-4
 returns-4 c =
-    let a = c .before .before .before .before .before .before .before .args in
-    let ten = is-ten (a .version) (sym (c .before .before .before .is-22 .ensures) ∙ c .before .before .if3 .left) in
-    let said = says-from (tenOf (c .before .is-24 .result)) (a .at) 10 (a .last - a .at - 10) (a .last) (a .s .now) (c .glance10 .result) (omega arith) (c .glance10 .ensures) in
-    rw ten at (rw (c .before .is-24 .ensures) at said)
+    let at-is-24 = c .before in
+    let at-is-22 = at-is-24 .before .before in
+    let a = at-is-22 .before .before .before .before .args in
+    let ten = is-ten (a .version) (sym (at-is-22 .is-22 .ensures) ∙ at-is-24 .before .if3 .left) in
+    let said = says-from (tenOf (at-is-24 .is-24 .result)) (a .at) 10 (a .last - a .at - 10) (a .last) (a .s .now) (c .glance10 .result) (omega arith) (c .glance10 .ensures) in
+    rw ten at (rw (at-is-24 .is-24 .ensures) at said)
 
 pub glance-at-spec : {M : Type 1} → statement M
 glance-at-spec =

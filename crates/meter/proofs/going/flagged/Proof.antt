@@ -23,7 +23,8 @@ same-length c = search needs
 
 returns : tie.Need-returns
 returns c =
-    let at-put = c .before .before .before .before .before in
+    let at-work = c .before .before .before .before in
+    let at-put = at-work .before in
     let a = at-put .before .before .before .before .args in
     rw (c .before .k .given .1) at (flagged-put (resynchronised (slice (a .first) (a .next) (a .tag .now))) (a .next) (a .work .now) (at-put .resync-into .ensures))
 
@@ -32,7 +33,8 @@ same-length-2 c = search needs
 
 returns-2 : tie.Need-returns-2
 returns-2 c =
-    let at-put = c .before .before .before .before .before in
+    let at-work = c .before .before .before .before in
+    let at-put = at-work .before in
     let a = at-put .before .before .before .before .args in
     rw (c .passed .ensures)
     (rw (c .before .enum-told .given .1) at (flagged-put (resynchronised (slice (a .first) (a .next) (a .tag .now))) (a .next) (a .work .now) (at-put .resync-into .ensures)))

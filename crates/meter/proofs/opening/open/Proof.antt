@@ -44,10 +44,13 @@ open-any-requires-2 c κs = search needs
 
 returns-2 : tie.Need-returns-2
 returns-2 c =
-    let a = c .before .before .before .before .before .before .before .before .before .before .before .before .args in
+    let at-front = c .before .before .before .before in
+    let at-front-of = at-front .before .before in
+    let at-read32 = at-front-of .before .before in
+    let a = at-read32 .before .before .before .before .args in
     rw (c .metered .ensures, c .before .is-missing .ensures, c .before .before .plain-reader .ensures)
-    (opens (a .tag .now) (λ i. omega (arith, c .before .before .before .before .before .before .before .before .before .before .shared-slice-known .given i)) (c .before .before .before .before .before .before .before .before .before .if1 .left) (c .before .before .before .before .before .before .before .before .read32 .result) _ (c .before .before .before .before .before .before .before .before .read32 .ensures) refl
-    (c .before .before .before .before .front .given .0 .0) (sym (c .before .before .before .before .before .before .front-of .ensures) ∙ c .before .before .before .before .front .given .1) (a .work .now))
+    (opens (a .tag .now) (λ i. omega (arith, at-read32 .before .before .shared-slice-known .given i)) (at-read32 .before .if1 .left) (at-read32 .read32 .result) _ (at-read32 .read32 .ensures) refl
+    (at-front .front .given .0 .0) (sym (at-front-of .front-of .ensures) ∙ at-front .front .given .1) (a .work .now))
 
 same-length-2 : tie.Need-same-length-2
 same-length-2 c = search needs

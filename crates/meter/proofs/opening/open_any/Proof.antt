@@ -31,21 +31,25 @@ same-length c = search needs
 
 returns : tie.Need-returns
 returns c =
-    let a = c .before .before .before .before .before .before .before .before .before .before .before .args in
-    let made = c .before .before .before .before .before .before .before .«open» in
-    opens-any (a .tag .now) (a .work .now) (made .last .0) (c .before .before .before .opened .given .0 .0) (c .metered .result)
-    (c .metered .ensures ∙ ap (λ (t : Bool). meterAt t (c .before .before .before .opened .given .0 .0)) (c .before .is-missing .ensures))
-    (ap {B = Opened × List ℕ} (λ (x : Opened). (x, made .last .0)) (sym (c .before .before .before .opened .given .1)) ∙ made .ensures)
+    let at-opened = c .before .before .before in
+    let at-open = at-opened .before .before .before .before in
+    let a = at-open .before .before .before .before .args in
+    let made = at-open .«open» in
+    opens-any (a .tag .now) (a .work .now) (made .last .0) (at-opened .opened .given .0 .0) (c .metered .result)
+    (c .metered .ensures ∙ ap (λ (t : Bool). meterAt t (at-opened .opened .given .0 .0)) (c .before .is-missing .ensures))
+    (ap {B = Opened × List ℕ} (λ (x : Opened). (x, made .last .0)) (sym (at-opened .opened .given .1)) ∙ made .ensures)
 
 same-length-2 : tie.Need-same-length-2
 same-length-2 c = search needs
 
 returns-2 : tie.Need-returns-2
 returns-2 c =
-    let a = c .before .before .before .before .before .before .before .before .before .args in
-    let made = c .before .before .before .before .before .«open» in
-    opens-refused (a .tag .now) (a .work .now) (made .last .0) (c .before .opened2 .given .0 .0)
-    (ap {B = Opened × List ℕ} (λ (x : Opened). (x, made .last .0)) (sym (c .before .opened2 .given .1)) ∙ made .ensures)
+    let at-opened2 = c .before in
+    let at-open = at-opened2 .before .before .before .before in
+    let a = at-open .before .before .before .before .args in
+    let made = at-open .«open» in
+    opens-refused (a .tag .now) (a .work .now) (made .last .0) (at-opened2 .opened2 .given .0 .0)
+    (ap {B = Opened × List ℕ} (λ (x : Opened). (x, made .last .0)) (sym (at-opened2 .opened2 .given .1)) ∙ made .ensures)
 
 pub open-any-spec : {M : Type 1} → statement M
 open-any-spec =

@@ -15,8 +15,9 @@ same-length c = search needs
 
 returns : tie.Need-returns
 returns c =
-    let a = c .before .before .before .before .before .before .before .args in
-    gone (a .self) (a .tag .now) (a .work .now) (c .before .before .before .frame-at .ensures) (c .answer .ensures)
+    let at-frame-at = c .before .before .before in
+    let a = at-frame-at .before .before .before .before .args in
+    gone (a .self) (a .tag .now) (a .work .now) (at-frame-at .frame-at .ensures) (c .answer .ensures)
 
 pub go-spec : {M : Type 1} → statement M
 go-spec =

@@ -21,8 +21,9 @@ same-length c = search needs
 
 returns : tie.Need-returns
 returns c =
-    let a = c .before .before .before .before .before .before .before .before .args in
-    running (a .self) (a .tag .now) (a .work .now) (c .before .before .before .before .enum-told .given .1) (c .before .before .go .ensures)
+    let at-enum-told = c .before .before .before .before in
+    let a = at-enum-told .before .before .before .before .args in
+    running (a .self) (a .tag .now) (a .work .now) (at-enum-told .enum-told .given .1) (c .before .before .go .ensures)
 
 returns-2 : tie.Need-returns-2
 returns-2 c =
@@ -31,7 +32,8 @@ returns-2 c =
 
 returns-3 : tie.Need-returns-3
 returns-3 c =
-    let a = c .before .before .before .before .before .args in
+    let at-known = c .before .before .before .before in
+    let a = at-known .before .args in
     failed (a .self) (a .tag .now) (a .work .now) (c .before .stop .given .1)
 
 pub step-spec : {M : Type 1} → statement M

@@ -47,7 +47,7 @@ begun c = record {
 ends : (c : tie.After-end-of) → c .end-of .result ≡ length (cutOf (tag-there c))
 ends c = cut-end (tag-there c) (c .before .synchsafe .ensures) (c .end-of .ensures)
 
-is-there : (c : tie.Else5) → c .before .before .before .before .before .has .result ≡ true
+is-there : (c : tie.Else5) → let at-clear = c .before .before in at-clear .before .before .before .has .result ≡ true
 is-there c = not-false _ (c .if5 .left)
 
 sized : (c : tie.After-synchsafe2)

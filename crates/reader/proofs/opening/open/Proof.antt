@@ -25,8 +25,9 @@ returns c = search needs
 
 returns-2 : tie.Need-returns-2
 returns-2 c =
-    let a = c .before .before .before .before .before .before .args in
-    open-refused (a .tag .now) (a .work .now) _ (sym (c .before .before .before .header .ensures) ∙ c .before .headed2 .given .1)
+    let at-header = c .before .before .before in
+    let a = at-header .before .before .before .args in
+    open-refused (a .tag .now) (a .work .now) _ (sym (at-header .header .ensures) ∙ c .before .headed2 .given .1)
 
 pub open-spec : {M : Type 1} → statement M
 open-spec =
