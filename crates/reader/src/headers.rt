@@ -62,7 +62,7 @@ fn refusal(tag: &[u8]) -> u8
     let flags = tag[5];
     let extended = has(EXTENDED, flags);
     let known = is_version(edition as u64);
-    let clear = flags % 16 == 0;
+    let clear = flags % 0x10 == 0;
     let compressed = (edition == 2) & extended;
     if !known {
         return UNKNOWN_VERSION;

@@ -11,13 +11,18 @@ slice-aggregate-put : tie.Need-slice-aggregate-put
 slice-aggregate-put c = search needs
 
 put-requires : tie.Need-put-requires
-put-requires c κs = room-left (c .before .before .before .before .put-numbered .ensures) (c .before .before .before .before .before .before .before .before .pre)
+put-requires c κs =
+    let at-put-numbered = c .before .before .before .before in
+    room-left (at-put-numbered .put-numbered .ensures) (at-put-numbered .before .before .before .before .pre)
 
 same-length : tie.Need-same-length
 same-length c = search needs
 
 returns : tie.Need-returns
-returns c = andthen (c .before .before .before .before .before .before .before .put-numbered .ensures) (c .before .before .put .ensures)
+returns c =
+    let at-put = c .before .before in
+    let behind-put-numbered = at-put .before .before .before .before in
+    andthen (behind-put-numbered .before .put-numbered .ensures) (c .before .before .put .ensures)
 
 pub put-counted-spec : {M : Type 1} → statement M
 put-counted-spec =

@@ -43,24 +43,24 @@ slice-aggregate-put-numbered-2 c = search needs
 
 put-numbered-requires-2 : tie.Need-put-numbered-requires-2
 put-numbered-requires-2 c κs =
-    let k3 = c .before .before .before .before in
-    let k2 = k3 .before .before .before .before .before in
-    let k1 = k2 .before .before .before .before in
-    let f = k1 .before .before .before .before in
-    let s = f .before .before .before .before in
-    room-left (k3 .put-numbered .ensures) (room-left (k2 .put-hex .ensures) (room-left (k1 .put .ensures) (rw (f .fields .given .1) at (s .pre))))
+    let at-put-numbered = c .before .before .before .before in
+    let behind-put-hex = at-put-numbered .before .before .before .before in
+    let behind-put = behind-put-hex .before .before .before .before in
+    let behind-fields = behind-put .before .before .before .before in
+    let at-known = behind-fields .before .before .before .before in
+    room-left (at-put-numbered .put-numbered .ensures) (room-left (behind-put-hex .before .put-hex .ensures) (room-left (behind-put .before .put .ensures) (rw (behind-fields .before .fields .given .1) at (at-known .before .pre))))
 
 same-length : tie.Need-same-length
 same-length c = search needs
 
 returns : tie.Need-returns
 returns c =
-    let k4 = c .before .before in
-    let k3 = k4 .before .before .before .before .before in
-    let k2 = k3 .before .before .before .before .before in
-    let k1 = k2 .before .before .before .before in
-    let f = k1 .before .before .before .before in
-    rw (f .fields .given .1) (andthen (k1 .put .ensures) (andthen (k2 .put-hex .ensures) (andthen (k3 .put-numbered .ensures) (k4 .put-numbered2 .ensures))))
+    let at-put-numbered2 = c .before .before in
+    let behind-put-numbered = at-put-numbered2 .before .before .before .before in
+    let behind-put-hex = behind-put-numbered .before .before .before .before in
+    let at-put-hex = behind-put-hex .before .before in
+    let at-put = at-put-hex .before .before .before .before in
+    rw (at-put .before .before .before .before .fields .given .1) (andthen (at-put .put .ensures) (andthen (at-put-hex .put-hex .ensures) (andthen (behind-put-numbered .before .put-numbered .ensures) (c .before .before .put-numbered2 .ensures))))
 
 returns-2 : tie.Need-returns-2
 returns-2 c =

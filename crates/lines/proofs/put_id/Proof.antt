@@ -32,8 +32,9 @@ part-put-end c = search needs
 
 put-requires : tie.Need-put-requires
 put-requires c κs =
-    let s = c .before .before .before .before .before .before in
-    rw (c .before .before .before .enum-told .given .1, ← three-bytes (s .args .id)) at (s .pre)
+    let at-enum-told = c .before .before .before in
+    let at-start = at-enum-told .before .before .before in
+    rw (at-enum-told .enum-told .given .1, ← three-bytes (at-start .args .id)) at (at-start .pre)
 
 slice-aggregate-put : tie.Need-slice-aggregate-put
 slice-aggregate-put c = search needs
@@ -48,16 +49,18 @@ same-length c = search needs
 
 returns : tie.Need-returns
 returns c =
-    let s = c .before .before .before .before .before .before .before .before .before in
-    rw (c .before .before .before .before .before .before .enum-told .given .1) (in-words (c .before .before .put .ensures) (three-bytes (s .args .id)))
+    let behind-enum-told = c .before .before .before .before in
+    let at-enum-told = behind-enum-told .before .before in
+    rw (at-enum-told .enum-told .given .1) (in-words (c .before .before .put .ensures) (three-bytes (at-enum-told .before .before .before .args .id)))
 
 same-length-2 : tie.Need-same-length-2
 same-length-2 c = search needs
 
 returns-2 : tie.Need-returns-2
 returns-2 c =
-    let s = c .before .before .before .before .before .before .before in
-    rw (← four-long (s .args .version) (c .before .before .before .before .before .match .keys2)) (in-words (c .before .before .put2 .ensures) (four-bytes (s .args .id)))
+    let behind-match = c .before .before .before in
+    let at-start = behind-match .before .before .before .before in
+    rw (← four-long (at-start .args .version) (behind-match .before .before .match .keys2)) (in-words (c .before .before .put2 .ensures) (four-bytes (at-start .args .id)))
 
 pub put-id-spec : {M : Type 1} → statement M
 put-id-spec =

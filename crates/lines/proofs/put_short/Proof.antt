@@ -19,13 +19,17 @@ same-length : tie.Need-same-length
 same-length c = search needs
 
 returns : tie.Need-returns
-returns c = rw (c .before .before .before .before .before .if1 .taken) (c .before .before .put .ensures)
+returns c =
+    let at-put = c .before .before in
+    rw (at-put .before .before .before .if1 .taken) (c .before .before .put .ensures)
 
 same-length-2 : tie.Need-same-length-2
 same-length-2 c = search needs
 
 returns-2 : tie.Need-returns-2
-returns-2 c = rw (c .before .before .before .before .before .if1 .left) (c .before .before .put2 .ensures)
+returns-2 c =
+    let at-put2 = c .before .before in
+    rw (at-put2 .before .before .before .if1 .left) (c .before .before .put2 .ensures)
 
 pub put-short-spec : {M : Type 1} → statement M
 put-short-spec =

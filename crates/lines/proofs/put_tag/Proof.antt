@@ -30,10 +30,10 @@ slice-aggregate-put-numbered-3 c = search needs
 put-numbered-requires-3 : tie.Need-put-numbered-requires-3
 unfolding tagLine
 put-numbered-requires-3 c κs =
-    let k2 = c .before .before .before .before in
-    let k1 = k2 .before .before .before .before .before in
-    let s = k1 .before .before .before .before in
-    front _ _ (room-left (k2 .put-numbered2 .ensures) (room-left (k1 .put-numbered .ensures) (s .pre)))
+    let at-put-numbered2 = c .before .before .before .before in
+    let behind-put-numbered = at-put-numbered2 .before .before .before .before in
+    let at-known = behind-put-numbered .before .before .before .before in
+    front _ _ (room-left (at-put-numbered2 .put-numbered2 .ensures) (room-left (behind-put-numbered .before .put-numbered .ensures) (at-known .before .pre)))
 
 slice-aggregate-put-numbered-4 : tie.Need-slice-aggregate-put-numbered-4
 slice-aggregate-put-numbered-4 c = search needs
@@ -41,11 +41,11 @@ slice-aggregate-put-numbered-4 c = search needs
 put-numbered-requires-4 : tie.Need-put-numbered-requires-4
 unfolding tagLine
 put-numbered-requires-4 c κs =
-    let k3 = c .before .before .before .before in
-    let k2 = k3 .before .before .before .before .before in
-    let k1 = k2 .before .before .before .before .before in
-    let s = k1 .before .before .before .before in
-    front _ _ (room-left (k3 .put-numbered3 .ensures) (room-left (k2 .put-numbered2 .ensures) (room-left (k1 .put-numbered .ensures) (s .pre))))
+    let at-put-numbered3 = c .before .before .before .before in
+    let behind-put-numbered2 = at-put-numbered3 .before .before .before .before in
+    let behind-put-numbered = behind-put-numbered2 .before .before .before .before in
+    let at-put-numbered = behind-put-numbered .before .before in
+    front _ _ (room-left (at-put-numbered3 .put-numbered3 .ensures) (room-left (behind-put-numbered2 .before .put-numbered2 .ensures) (room-left (at-put-numbered .put-numbered .ensures) (at-put-numbered .before .before .before .before .pre))))
 
 slice-aggregate-put : tie.Need-slice-aggregate-put
 slice-aggregate-put c = search needs
@@ -53,22 +53,24 @@ slice-aggregate-put c = search needs
 put-requires : tie.Need-put-requires
 unfolding tagLine
 put-requires c κs =
-    let k4 = c .before .before .before .before in
-    let k3 = k4 .before .before .before .before .before in
-    let k2 = k3 .before .before .before .before .before in
-    let k1 = k2 .before .before .before .before .before in
-    let s = k1 .before .before .before .before in
-    room-left (k4 .put-numbered4 .ensures) (room-left (k3 .put-numbered3 .ensures) (room-left (k2 .put-numbered2 .ensures) (room-left (k1 .put-numbered .ensures) (s .pre))))
+    let at-put-numbered4 = c .before .before .before .before in
+    let behind-put-numbered3 = at-put-numbered4 .before .before .before .before in
+    let behind-put-numbered2 = behind-put-numbered3 .before .before .before .before in
+    let at-put-numbered2 = behind-put-numbered2 .before .before in
+    let behind-put-numbered = at-put-numbered2 .before .before .before .before in
+    let at-known = behind-put-numbered .before .before .before .before in
+    room-left (at-put-numbered4 .put-numbered4 .ensures) (room-left (behind-put-numbered3 .before .put-numbered3 .ensures) (room-left (at-put-numbered2 .put-numbered2 .ensures) (room-left (behind-put-numbered .before .put-numbered .ensures) (at-known .before .pre))))
 
 returns : tie.Need-returns
 unfolding tagLine
 returns c =
-    let k5 = c .before .before in
-    let k4 = k5 .before .before .before .before .before in
-    let k3 = k4 .before .before .before .before .before in
-    let k2 = k3 .before .before .before .before .before in
-    let k1 = k2 .before .before .before .before .before in
-    andthen (k1 .put-numbered .ensures) (andthen (k2 .put-numbered2 .ensures) (andthen (k3 .put-numbered3 .ensures) (andthen (k4 .put-numbered4 .ensures) (k5 .put .ensures))))
+    let at-put = c .before .before in
+    let behind-put-numbered4 = at-put .before .before .before .before in
+    let behind-put-numbered3 = behind-put-numbered4 .before .before .before .before in
+    let at-put-numbered3 = behind-put-numbered3 .before .before in
+    let behind-put-numbered2 = at-put-numbered3 .before .before .before .before in
+    let behind-put-numbered = behind-put-numbered2 .before .before .before .before in
+    andthen (behind-put-numbered .before .before .put-numbered .ensures) (andthen (behind-put-numbered2 .before .put-numbered2 .ensures) (andthen (at-put-numbered3 .put-numbered3 .ensures) (andthen (behind-put-numbered4 .before .put-numbered4 .ensures) (c .before .before .put .ensures))))
 
 same-length : tie.Need-same-length
 same-length c = same (returns c)

@@ -12,7 +12,9 @@ enum-known-h : tie.Need-enum-known-h
 enum-known-h c = search needs
 
 put-tag-requires : tie.Need-put-tag-requires
-put-tag-requires c κs = sym (c .before .before .before .before .before .header .ensures) ∙ c .before .before .before .h .given .1
+put-tag-requires c κs =
+    let at-h = c .before .before .before in
+    sym (at-h .before .before .header .ensures) ∙ at-h .h .given .1
 
 enum-known-k : tie.Need-enum-known-k
 enum-known-k c = search needs
@@ -34,8 +36,11 @@ same-length-3 c = search needs
 
 returns-2 : tie.Need-returns-2
 returns-2 c =
-    let a = c .before .before .before .before .before .before .before .before .before .before .before .args in
-    not-headed (a .tag .now) (a .work .now) (a .out .now) (c .before .before .before .before .before .before .before .header .ensures) (c .before .before .before .before .before .k .given .1) (c .before .before .refused-line .ensures)
+    let at-refused-line = c .before .before in
+    let at-k = at-refused-line .before .before .before in
+    let at-header = at-k .before .before in
+    let a = at-header .before .before .before .before .args in
+    not-headed (a .tag .now) (a .work .now) (a .out .now) (at-header .header .ensures) (at-k .k .given .1) (c .before .before .refused-line .ensures)
 
 pub list-spec : {M : Type 1} → statement M
 list-spec =

@@ -15,16 +15,18 @@ same-length c = search needs
 
 returns : tie.Need-returns
 returns c =
-    let a = c .before .before .before .before .before .before .before .before .args in
-    in-buffer (a .version) (a .number) (a .r) (a .at) (a .out .now) (a .tag .now) (a .work .now) (c .before .before .before .before .if1 .taken) (c .before .before .put-line .ensures)
+    let at-if1 = c .before .before .before .before in
+    let a = at-if1 .before .before .before .before .args in
+    in-buffer (a .version) (a .number) (a .r) (a .at) (a .out .now) (a .tag .now) (a .work .now) (at-if1 .if1 .taken) (c .before .before .put-line .ensures)
 
 same-length-2 : tie.Need-same-length-2
 same-length-2 c = search needs
 
 returns-2 : tie.Need-returns-2
 returns-2 c =
-    let a = c .before .before .before .before .before .before .before .before .args in
-    in-buffer (a .version) (a .number) (a .r) (a .at) (a .out .now) (a .tag .now) (a .work .now) (c .before .before .before .before .if1 .left) (c .before .before .put-line2 .ensures)
+    let at-if1 = c .before .before .before .before in
+    let a = at-if1 .before .before .before .before .args in
+    in-buffer (a .version) (a .number) (a .r) (a .at) (a .out .now) (a .tag .now) (a .work .now) (at-if1 .if1 .left) (c .before .before .put-line2 .ensures)
 
 pub put-record-spec : {M : Type 1} → statement M
 put-record-spec =

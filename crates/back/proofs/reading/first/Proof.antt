@@ -25,19 +25,27 @@ same-length : tie.Need-same-length
 same-length c = search needs
 
 returns : tie.Need-returns
-returns c = c .before .before .second .ensures ∙ answered (onFirst (c .before .before .before .before .before .before .before .before .before .before .before .before .before .args .tag .now)) (c .before .before .before .before .before .step2 .given .1) (c .before .before .before .before .before .before .before .before .before .step .ensures)
+returns c =
+    let at-second = c .before .before in
+    let at-step2 = at-second .before .before .before in
+    let at-step = at-step2 .before .before .before .before in
+    c .before .before .second .ensures ∙ answered (onFirst (at-step .before .before .before .before .args .tag .now)) (at-step2 .step2 .given .1) (at-step .step .ensures)
 
 same-length-2 : tie.Need-same-length-2
 same-length-2 c = search needs
 
 returns-2 : tie.Need-returns-2
-returns-2 c = answered (onFirst (c .before .before .before .before .before .before .before .before .args .tag .now)) (c .enum-told .given .1) (c .before .before .before .before .step .ensures)
+returns-2 c =
+    let at-step = c .before .before .before .before in
+    answered (onFirst (at-step .before .before .before .before .args .tag .now)) (c .enum-told .given .1) (at-step .step .ensures)
 
 same-length-3 : tie.Need-same-length-3
 same-length-3 c = search needs
 
 returns-3 : tie.Need-returns-3
-returns-3 c = answered (onFirst (c .before .before .before .before .before .before .before .before .args .tag .now)) (c .enum-told2 .given .1) (c .before .before .before .before .step .ensures)
+returns-3 c =
+    let at-step = c .before .before .before .before in
+    answered (onFirst (at-step .before .before .before .before .args .tag .now)) (c .enum-told2 .given .1) (at-step .step .ensures)
 
 pub first-spec : {M : Type 1} → statement M
 first-spec =

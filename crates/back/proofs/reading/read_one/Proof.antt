@@ -23,14 +23,20 @@ same-length c = search needs
 
 returns : tie.Need-returns
 unfolding readOf
-returns c = c .before .before .first .ensures ∙ answered (onOpened (c .before .before .before .before .before .before .before .before .before .before .before .before .before .args .tag .now)) (c .before .before .before .before .before .opened .given .1) (c .before .before .before .before .before .before .before .before .before .«open» .ensures)
+returns c =
+    let at-first = c .before .before in
+    let at-opened = at-first .before .before .before in
+    let at-open = at-opened .before .before .before .before in
+    c .before .before .first .ensures ∙ answered (onOpened (at-open .before .before .before .before .args .tag .now)) (at-opened .opened .given .1) (at-open .«open» .ensures)
 
 same-length-2 : tie.Need-same-length-2
 same-length-2 c = search needs
 
 returns-2 : tie.Need-returns-2
 unfolding readOf
-returns-2 c = answered (onOpened (c .before .before .before .before .before .before .before .before .args .tag .now)) (c .enum-told .given .1) (c .before .before .before .before .«open» .ensures)
+returns-2 c =
+    let at-open = c .before .before .before .before in
+    answered (onOpened (at-open .before .before .before .before .args .tag .now)) (c .enum-told .given .1) (at-open .«open» .ensures)
 
 pub read-one-spec : {M : Type 1} → statement M
 read-one-spec =

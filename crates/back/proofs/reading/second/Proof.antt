@@ -21,19 +21,25 @@ same-length : tie.Need-same-length
 same-length c = search needs
 
 returns : tie.Need-returns
-returns c = answered (onSecond (c .before .before .before .before .before .before .before .before .args .«record»)) (c .enum-told .given .1) (c .before .before .before .before .step .ensures)
+returns c =
+    let at-step = c .before .before .before .before in
+    answered (onSecond (at-step .before .before .before .before .args .«record»)) (c .enum-told .given .1) (at-step .step .ensures)
 
 same-length-2 : tie.Need-same-length-2
 same-length-2 c = search needs
 
 returns-2 : tie.Need-returns-2
-returns-2 c = answered (onSecond (c .before .before .before .before .before .before .before .before .args .«record»)) (c .enum-told2 .given .1) (c .before .before .before .before .step .ensures)
+returns-2 c =
+    let at-step = c .before .before .before .before in
+    answered (onSecond (at-step .before .before .before .before .args .«record»)) (c .enum-told2 .given .1) (at-step .step .ensures)
 
 same-length-3 : tie.Need-same-length-3
 same-length-3 c = search needs
 
 returns-3 : tie.Need-returns-3
-returns-3 c = answered (onSecond (c .before .before .before .before .before .before .before .before .args .«record»)) (c .enum-told3 .given .1) (c .before .before .before .before .step .ensures)
+returns-3 c =
+    let at-step = c .before .before .before .before in
+    answered (onSecond (at-step .before .before .before .before .args .«record»)) (c .enum-told3 .given .1) (at-step .step .ensures)
 
 pub second-spec : {M : Type 1} → statement M
 second-spec =
