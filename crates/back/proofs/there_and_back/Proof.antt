@@ -31,7 +31,7 @@ slice-reshare-prefix-read-one c =
     let at-write-one = at-output .before .before .before in
     let a = at-start at-write-one .args in
     let w = at-write-one .write-one .ensures in
-    tag-within (a .version) (a .mode) (a .padding) (given at-write-one) (a .buffer .now) (a .output .now) (a .work .now) (w .0) (c .before .before .wrote .given .1)
+    tag-within (a .version) (a .mode) (a .padding) (given at-write-one) (a .buffer .now) (a .output .now) (a .work .now) (w .0) (at-wrote .wrote .given .1)
 
 slice-aggregate-read-one : tie.Need-slice-aggregate-read-one
 slice-aggregate-read-one c =

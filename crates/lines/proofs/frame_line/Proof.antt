@@ -36,7 +36,7 @@ put-frame-requires c κs =
     let at-shown-bytes = c .before .before in
     let at-start = at-shown-bytes .before .before .before in
     let a = at-start .args in
-    omega (arith, frame-length (a .number) (a .version) (a .id) (a .place) (a .body) (a .short) (a .fields) (a .user .now) .1, c .before .before .shown-bytes .ensures, c .before .if1 .left, at-start .good .0 .1)
+    omega (arith, frame-length (a .number) (a .version) (a .id) (a .place) (a .body) (a .short) (a .fields) (a .user .now) .1, at-shown-bytes .shown-bytes .ensures, c .before .if1 .left, at-start .good .0 .1)
 
 fits-requires : tie.Need-fits-requires
 fits-requires c κs = search needs

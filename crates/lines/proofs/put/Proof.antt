@@ -37,7 +37,7 @@ loop-again c =
     let at-put-byte = c .before .before in
     let at-loop-test = at-put-byte .before .before .before in (
       omega arith,
-      turn (λ l. l) refl (λ a b. refl) (at-loop-test .before .before .before .before .args .bytes .now) (at-loop-test .before .loop .inv .1) (at-loop-test .loop-test .taken) (c .before .before .put-byte .ensures),
+      turn (λ l. l) refl (λ a b. refl) (at-loop-test .before .before .before .before .args .bytes .now) (at-loop-test .before .loop .inv .1) (at-loop-test .loop-test .taken) (at-put-byte .put-byte .ensures),
     )
 
 same-length : tie.Need-same-length Inv-loop μ-loop

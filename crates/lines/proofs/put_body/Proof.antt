@@ -52,7 +52,7 @@ returns c =
     let behind-put-short = behind-put-detail .before .before .before .before in
     let behind-put-kind = behind-put-short .before .before .before .before in
     let behind-put-numbered = behind-put-kind .before .before .before .before in
-    andthen (behind-put-numbered .before .put-numbered .ensures) (andthen (behind-put-kind .before .put-kind .ensures) (andthen (behind-put-short .before .put-short .ensures) (andthen (behind-put-detail .before .put-detail .ensures) (c .before .before .put .ensures))))
+    andthen (behind-put-numbered .before .put-numbered .ensures) (andthen (behind-put-kind .before .put-kind .ensures) (andthen (behind-put-short .before .put-short .ensures) (andthen (behind-put-detail .before .put-detail .ensures) (at-put .put .ensures))))
 
 same-length : tie.Need-same-length
 same-length c = same (returns c)

@@ -22,7 +22,7 @@ returns : tie.Need-returns
 returns c =
     let at-put = c .before .before in
     let behind-put-numbered = at-put .before .before .before .before in
-    andthen (behind-put-numbered .before .put-numbered .ensures) (c .before .before .put .ensures)
+    andthen (behind-put-numbered .before .put-numbered .ensures) (at-put .put .ensures)
 
 pub put-counted-spec : {M : Type 1} → statement M
 put-counted-spec =

@@ -60,7 +60,7 @@ returns c =
     let behind-put-hex = behind-put-numbered .before .before .before .before in
     let at-put-hex = behind-put-hex .before .before in
     let at-put = at-put-hex .before .before .before .before in
-    rw (at-put .before .before .before .before .fields .given .1) (andthen (at-put .put .ensures) (andthen (at-put-hex .put-hex .ensures) (andthen (behind-put-numbered .before .put-numbered .ensures) (c .before .before .put-numbered2 .ensures))))
+    rw (at-put .before .before .before .before .fields .given .1) (andthen (at-put .put .ensures) (andthen (at-put-hex .put-hex .ensures) (andthen (behind-put-numbered .before .put-numbered .ensures) (at-put-numbered2 .put-numbered2 .ensures))))
 
 returns-2 : tie.Need-returns-2
 returns-2 c =

@@ -63,7 +63,7 @@ returns c =
     let behind-put-id = at-put-numbered2 .before .before .before .before in
     let behind-put = behind-put-id .before .before .before .before in
     let behind-put-numbered = behind-put .before .before .before .before in
-    andthen (behind-put-numbered .before .before .put-numbered .ensures) (andthen (behind-put .before .put .ensures) (andthen (behind-put-id .before .put-id .ensures) (andthen (at-put-numbered2 .put-numbered2 .ensures) (c .before .before .put-body .ensures))))
+    andthen (behind-put-numbered .before .before .put-numbered .ensures) (andthen (behind-put .before .put .ensures) (andthen (behind-put-id .before .put-id .ensures) (andthen (at-put-numbered2 .put-numbered2 .ensures) (at-put-body .put-body .ensures))))
 
 same-length : tie.Need-same-length
 same-length c = same (returns c)

@@ -75,7 +75,7 @@ same-length c = search needs
 returns : tie.Need-returns
 returns c =
     let at-put = c .before .before in
-    rw (at-put .before .before .before .enum-told .given .1) (c .before .before .put .ensures)
+    rw (at-put .before .before .before .enum-told .given .1) (at-put .put .ensures)
 
 same-length-2 : tie.Need-same-length-2
 same-length-2 c = search needs
@@ -83,7 +83,7 @@ same-length-2 c = search needs
 returns-2 : tie.Need-returns-2
 returns-2 c =
     let at-put2 = c .before .before in
-    rw (at-put2 .before .before .before .enum-told2 .given .1) (c .before .before .put2 .ensures)
+    rw (at-put2 .before .before .before .enum-told2 .given .1) (at-put2 .put2 .ensures)
 
 same-length-3 : tie.Need-same-length-3
 same-length-3 c = search needs
@@ -91,7 +91,7 @@ same-length-3 c = search needs
 returns-3 : tie.Need-returns-3
 returns-3 c =
     let at-put3 = c .before .before in
-    rw (at-put3 .before .before .before .enum-told3 .given .1) (c .before .before .put3 .ensures)
+    rw (at-put3 .before .before .before .enum-told3 .given .1) (at-put3 .put3 .ensures)
 
 same-length-4 : tie.Need-same-length-4
 same-length-4 c = search needs
@@ -99,7 +99,7 @@ same-length-4 c = search needs
 returns-4 : tie.Need-returns-4
 returns-4 c =
     let at-put4 = c .before .before in
-    rw (at-put4 .before .before .before .enum-told4 .given .1) (c .before .before .put4 .ensures)
+    rw (at-put4 .before .before .before .enum-told4 .given .1) (at-put4 .put4 .ensures)
 
 same-length-5 : tie.Need-same-length-5
 same-length-5 c = search needs
@@ -107,7 +107,7 @@ same-length-5 c = search needs
 returns-5 : tie.Need-returns-5
 returns-5 c =
     let at-put5 = c .before .before in
-    rw (at-put5 .before .before .before .enum-told5 .given .1) (c .before .before .put5 .ensures)
+    rw (at-put5 .before .before .before .enum-told5 .given .1) (at-put5 .put5 .ensures)
 
 same-length-6 : tie.Need-same-length-6
 same-length-6 c = search needs
@@ -115,7 +115,7 @@ same-length-6 c = search needs
 returns-6 : tie.Need-returns-6
 returns-6 c =
     let at-put6 = c .before .before in
-    rw (at-put6 .before .before .before .enum-told6 .given .1) (c .before .before .put6 .ensures)
+    rw (at-put6 .before .before .before .enum-told6 .given .1) (at-put6 .put6 .ensures)
 
 pub put-kind-spec : {M : Type 1} → statement M
 put-kind-spec =

@@ -18,7 +18,7 @@ same-length c = search needs
 returns : tie.Need-returns
 returns c =
     let at-put-decimal = c .before .before in
-    andthen (at-put-decimal .before .before .before .before .put .ensures) (c .before .before .put-decimal .ensures)
+    andthen (at-put-decimal .before .before .before .before .put .ensures) (at-put-decimal .put-decimal .ensures)
 
 pub put-numbered-spec : {M : Type 1} → statement M
 put-numbered-spec = tie.close (tie.spec put-requires put-decimal-requires same-length returns)

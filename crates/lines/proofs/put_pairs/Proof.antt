@@ -38,7 +38,7 @@ loop-again c =
     let at-put-pair = c .before .before in
     let at-loop-test = at-put-pair .before .before .before in (
       omega arith,
-      turn hexIn no-pairs pairs-join (at-loop-test .before .before .before .before .args .bytes .now) (at-loop-test .before .loop .inv .1) (at-loop-test .loop-test .taken) (c .before .before .put-pair .ensures),
+      turn hexIn no-pairs pairs-join (at-loop-test .before .before .before .before .args .bytes .now) (at-loop-test .before .loop .inv .1) (at-loop-test .loop-test .taken) (at-put-pair .put-pair .ensures),
     )
 
 same-length : tie.Need-same-length Inv-loop μ-loop

@@ -21,7 +21,7 @@ same-length c = search needs
 returns : tie.Need-returns
 returns c =
     let at-put = c .before .before in
-    rw (at-put .before .before .before .if1 .taken) (c .before .before .put .ensures)
+    rw (at-put .before .before .before .if1 .taken) (at-put .put .ensures)
 
 same-length-2 : tie.Need-same-length-2
 same-length-2 c = search needs
@@ -29,7 +29,7 @@ same-length-2 c = search needs
 returns-2 : tie.Need-returns-2
 returns-2 c =
     let at-put2 = c .before .before in
-    rw (at-put2 .before .before .before .if1 .left) (c .before .before .put2 .ensures)
+    rw (at-put2 .before .before .before .if1 .left) (at-put2 .put2 .ensures)
 
 pub put-short-spec : {M : Type 1} → statement M
 put-short-spec =

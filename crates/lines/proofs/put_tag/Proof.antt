@@ -70,7 +70,7 @@ returns c =
     let at-put-numbered3 = behind-put-numbered3 .before .before in
     let behind-put-numbered2 = at-put-numbered3 .before .before .before .before in
     let behind-put-numbered = behind-put-numbered2 .before .before .before .before in
-    andthen (behind-put-numbered .before .before .put-numbered .ensures) (andthen (behind-put-numbered2 .before .put-numbered2 .ensures) (andthen (at-put-numbered3 .put-numbered3 .ensures) (andthen (behind-put-numbered4 .before .put-numbered4 .ensures) (c .before .before .put .ensures))))
+    andthen (behind-put-numbered .before .before .put-numbered .ensures) (andthen (behind-put-numbered2 .before .put-numbered2 .ensures) (andthen (at-put-numbered3 .put-numbered3 .ensures) (andthen (behind-put-numbered4 .before .put-numbered4 .ensures) (at-put .put .ensures))))
 
 same-length : tie.Need-same-length
 same-length c = same (returns c)

@@ -40,7 +40,7 @@ returns-2 c =
     let at-k = at-refused-line .before .before .before in
     let at-header = at-k .before .before in
     let a = at-header .before .before .before .before .args in
-    not-headed (a .tag .now) (a .work .now) (a .out .now) (at-header .header .ensures) (at-k .k .given .1) (c .before .before .refused-line .ensures)
+    not-headed (a .tag .now) (a .work .now) (a .out .now) (at-header .header .ensures) (at-k .k .given .1) (at-refused-line .refused-line .ensures)
 
 pub list-spec : {M : Type 1} → statement M
 list-spec =

@@ -48,7 +48,7 @@ returns-2 c =
     let at-open = at-k .before .before .before .before in
     let at-known = at-open .before .before .before .before in
     let a = at-known .before .args in
-    not-opened (a .tag .now) (a .work .now) (a .at) (a .out .now) (at-open .«open» .ensures) (at-k .k .given .1) (c .before .before .refused-line .ensures)
+    not-opened (a .tag .now) (a .work .now) (a .at) (a .out .now) (at-open .«open» .ensures) (at-k .k .given .1) (at-refused-line .refused-line .ensures)
 
 pub put-opened-spec : {M : Type 1} → statement M
 put-opened-spec =

@@ -88,7 +88,7 @@ returns-4 c =
     let at-step = at-k .before .before .before .before in
     let at-known = at-step .before .before .before .before in
     let a = at-known .before .args in
-    at-refusal (a .reader) (a .number) (a .at) (a .tag .now) (a .work .now) (a .out .now) (at-step .step .ensures) (at-k .k .given .1) (c .before .before .refused-line .ensures)
+    at-refusal (a .reader) (a .number) (a .at) (a .tag .now) (a .work .now) (a .out .now) (at-step .step .ensures) (at-k .k .given .1) (at-refused-line .refused-line .ensures)
 
 pub put-step-spec : {M : Type 1} → statement M
 put-step-spec =

@@ -29,7 +29,7 @@ returns c =
     let at-second = c .before .before in
     let at-step2 = at-second .before .before .before in
     let at-step = at-step2 .before .before .before .before in
-    c .before .before .second .ensures ∙ answered (onFirst (at-step .before .before .before .before .args .tag .now)) (at-step2 .step2 .given .1) (at-step .step .ensures)
+    at-second .second .ensures ∙ answered (onFirst (at-step .before .before .before .before .args .tag .now)) (at-step2 .step2 .given .1) (at-step .step .ensures)
 
 same-length-2 : tie.Need-same-length-2
 same-length-2 c = search needs

@@ -27,7 +27,7 @@ returns c =
     let at-first = c .before .before in
     let at-opened = at-first .before .before .before in
     let at-open = at-opened .before .before .before .before in
-    c .before .before .first .ensures ∙ answered (onOpened (at-open .before .before .before .before .args .tag .now)) (at-opened .opened .given .1) (at-open .«open» .ensures)
+    at-first .first .ensures ∙ answered (onOpened (at-open .before .before .before .before .args .tag .now)) (at-opened .opened .given .1) (at-open .«open» .ensures)
 
 same-length-2 : tie.Need-same-length-2
 same-length-2 c = search needs

@@ -57,7 +57,7 @@ returns-2 c =
     let at-resync-into = at-put .before .before .before .before in
     let at-whole = at-resync-into .before .before .before in
     let on = not-false _ (at-resync-into .before .before .if1 .left) in
-    in-work (is-told at-whole) (work at-whole) on (at-resync-into .resync-into .ensures) (c .before .before .put .given .1) (c .ready2 .ensures)
+    in-work (is-told at-whole) (work at-whole) on (at-resync-into .resync-into .ensures) (at-put .put .given .1) (c .ready2 .ensures)
 
 same-length-2 : tie.Need-same-length-2
 same-length-2 c = search needs
