@@ -18,12 +18,6 @@ given c =
     let a = at-start c .args in
     recOf (a .heading) (a .name .now) (a .names .now) (a .rest .now) (a .deviations .now)
 
-write-one-requires : tie.Need-write-one-requires
-write-one-requires c κs = search needs
-
-enum-known-wrote : tie.Need-enum-known-wrote
-enum-known-wrote c = search needs
-
 slice-reshare-prefix-read-one : tie.Need-slice-reshare-prefix-read-one
 slice-reshare-prefix-read-one c =
     let at-wrote = c .before .before in
@@ -41,27 +35,6 @@ slice-aggregate-read-one c =
     let a = at-start at-write-one .args in
     sym (length-take-le _ (at-write-one .write-one .last .1 .0) (tag-within (a .version) (a .mode) (a .padding) (given at-write-one) (a .buffer .now) (a .output .now) (a .work .now) (at-write-one .write-one .ensures .0) (at-wrote .wrote .given .1)))
 
-read-one-requires : tie.Need-read-one-requires
-read-one-requires c κs = search needs
-
-enum-known-only : tie.Need-enum-known-only
-enum-known-only c = search needs
-
-enum-told : tie.Need-enum-told
-enum-told c = search needs
-
-enum-known-wrote-2 : tie.Need-enum-known-wrote-2
-enum-known-wrote-2 c = search needs
-
-same-length : tie.Need-same-length
-same-length c = search needs
-
-same-length-2 : tie.Need-same-length-2
-same-length-2 c = search needs
-
-same-length-3 : tie.Need-same-length-3
-same-length-3 c = search needs
-
 returns : tie.Need-returns
 returns c =
     let behind-read-one = c .before .before .before .before in
@@ -72,15 +45,6 @@ returns c =
     let w = at-write-one .write-one .ensures in
     back-read (a .version) (a .mode) (a .padding) (given at-write-one) (a .buffer .now) (a .output .now) (a .work .now) (w .0) (w .1) (behind-wrote .before .wrote .given .1) (c .before .only .given .1) (behind-read-one .before .read-one .ensures)
 
-same-length-4 : tie.Need-same-length-4
-same-length-4 c = search needs
-
-same-length-5 : tie.Need-same-length-5
-same-length-5 c = search needs
-
-same-length-6 : tie.Need-same-length-6
-same-length-6 c = search needs
-
 returns-2 : tie.Need-returns-2
 returns-2 c =
     let at-read-one = c .before .before .before .before in
@@ -90,12 +54,6 @@ returns-2 c =
     let a = at-start at-write-one .args in
     let w = at-write-one .write-one .ensures in
     back-read (a .version) (a .mode) (a .padding) (given at-write-one) (a .buffer .now) (a .output .now) (a .work .now) (w .0) (w .1) (at-wrote .wrote .given .1) (c .enum-told .given .1) (at-read-one .read-one .ensures)
-
-same-length-7 : tie.Need-same-length-7
-same-length-7 c = search needs
-
-same-length-8 : tie.Need-same-length-8
-same-length-8 c = search needs
 
 returns-3 : tie.Need-returns-3
 returns-3 c =
@@ -109,22 +67,22 @@ pub there-and-back-spec : {M : Type 1} → statement M
 there-and-back-spec =
     tie.close
     (tie.spec
-    write-one-requires
-    enum-known-wrote
+    (λ c κs. search needs)
+    (λ c. search needs)
     slice-reshare-prefix-read-one
     slice-aggregate-read-one
-    read-one-requires
-    enum-known-only
-    enum-told
-    enum-known-wrote-2
-    same-length
-    same-length-2
-    same-length-3
+    (λ c κs. search needs)
+    (λ c. search needs)
+    (λ c. search needs)
+    (λ c. search needs)
+    (λ c. search needs)
+    (λ c. search needs)
+    (λ c. search needs)
     returns
-    same-length-4
-    same-length-5
-    same-length-6
+    (λ c. search needs)
+    (λ c. search needs)
+    (λ c. search needs)
     returns-2
-    same-length-7
-    same-length-8
+    (λ c. search needs)
+    (λ c. search needs)
     returns-3)

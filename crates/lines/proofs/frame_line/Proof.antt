@@ -17,19 +17,10 @@ line s =
     let a = s .args in
     frameLine (a .number) (bytesOf (idLen (a .version)) (a .id)) (a .place) (a .body) (a .short) (a .fields) (a .user .now)
 
-shown-bytes-requires : tie.Need-shown-bytes-requires
-shown-bytes-requires c κs = search needs
-
 returns : tie.Need-returns
 returns c =
     let a = c .before .before .before .before .args in
     no-room _ _ _ (omega (arith, frame-length (a .number) (a .version) (a .id) (a .place) (a .body) (a .short) (a .fields) (a .user .now) .0, c .before .shown-bytes .ensures, c .if1 .taken))
-
-slice-relend-prefix-put-frame : tie.Need-slice-relend-prefix-put-frame
-slice-relend-prefix-put-frame c = search needs
-
-slice-aggregate-put-frame : tie.Need-slice-aggregate-put-frame
-slice-aggregate-put-frame c = search needs
 
 put-frame-requires : tie.Need-put-frame-requires
 put-frame-requires c κs =
@@ -38,18 +29,12 @@ put-frame-requires c κs =
     let a = at-start .args in
     omega (arith, frame-length (a .number) (a .version) (a .id) (a .place) (a .body) (a .short) (a .fields) (a .user .now) .1, at-shown-bytes .shown-bytes .ensures, c .before .if1 .left, at-start .good .0 .1)
 
-fits-requires : tie.Need-fits-requires
-fits-requires c κs = search needs
-
 put-frame-requires-2 : tie.Need-put-frame-requires-2
 put-frame-requires-2 c κs =
     let behind-put-frame = c .before .before .before .before in
     let at-shown-bytes = behind-put-frame .before .before .before .before in
     let at-start = at-shown-bytes .before .before .before in
     has (line at-start) (at-start .args .at) (at-start .args .out .now) (behind-put-frame .before .put-frame .ensures) (c .before .before .fits2 .ensures) (c .before .if2 .taken) (at-start .good .0 .0)
-
-same-length : tie.Need-same-length
-same-length c = search needs
 
 returns-2 : tie.Need-returns-2
 returns-2 c =
@@ -58,9 +43,6 @@ returns-2 c =
     let at-shown-bytes = at-put-frame .before .before .before in
     let at-start = at-shown-bytes .before .before .before in
     whole (line at-start) (at-start .args .at) (at-start .args .out .now) (at-put-frame .put-frame .ensures) (at-if2 .before .fits2 .ensures) (at-if2 .if2 .taken) (c .before .before .put-frame2 .ensures)
-
-same-length-2 : tie.Need-same-length-2
-same-length-2 c = search needs
 
 returns-3 : tie.Need-returns-3
 returns-3 c =
@@ -73,14 +55,14 @@ pub frame-line-spec : {M : Type 1} → statement M
 frame-line-spec =
     tie.close
     (tie.spec
-    shown-bytes-requires
+    (λ c κs. search needs)
     returns
-    slice-relend-prefix-put-frame
-    slice-aggregate-put-frame
+    (λ c. search needs)
+    (λ c. search needs)
     put-frame-requires
-    fits-requires
+    (λ c κs. search needs)
     put-frame-requires-2
-    same-length
+    (λ c. search needs)
     returns-2
-    same-length-2
+    (λ c. search needs)
     returns-3)

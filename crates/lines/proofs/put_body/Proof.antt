@@ -4,9 +4,6 @@ use Rattle.lines.proofs.Puts.{andthen, room-left, front, same}
 use Rattle.lines.proofs.put_body.Statement.{statement}
 use Rattle.lines.proofs.put_body.Tie as tie
 
-slice-aggregate-put-numbered : tie.Need-slice-aggregate-put-numbered
-slice-aggregate-put-numbered c = search needs
-
 put-numbered-requires : tie.Need-put-numbered-requires
 put-numbered-requires c κs =
     let s = c .before .before .before .before in
@@ -33,9 +30,6 @@ put-detail-requires c κs =
     let at-known = at-put-numbered .before .before .before .before in
     front _ _ (room-left (at-put-short .put-short .ensures) (room-left (at-put-kind .put-kind .ensures) (room-left (at-put-numbered .put-numbered .ensures) (at-known .before .pre))))
 
-slice-aggregate-put : tie.Need-slice-aggregate-put
-slice-aggregate-put c = search needs
-
 put-requires : tie.Need-put-requires
 put-requires c κs =
     let at-put-detail = c .before .before .before .before in
@@ -61,12 +55,12 @@ pub put-body-spec : {M : Type 1} → statement M
 put-body-spec =
     tie.close
     (tie.spec
-    slice-aggregate-put-numbered
+    (λ c. search needs)
     put-numbered-requires
     put-kind-requires
     put-short-requires
     put-detail-requires
-    slice-aggregate-put
+    (λ c. search needs)
     put-requires
     same-length
     returns)

@@ -7,16 +7,10 @@ use Rattle.lines.proofs.put_counted.Tie as tie
 put-numbered-requires : tie.Need-put-numbered-requires
 put-numbered-requires c κs = front _ _ (c .before .before .before .pre)
 
-slice-aggregate-put : tie.Need-slice-aggregate-put
-slice-aggregate-put c = search needs
-
 put-requires : tie.Need-put-requires
 put-requires c κs =
     let at-put-numbered = c .before .before .before .before in
     room-left (at-put-numbered .put-numbered .ensures) (at-put-numbered .before .before .before .before .pre)
-
-same-length : tie.Need-same-length
-same-length c = search needs
 
 returns : tie.Need-returns
 returns c =
@@ -29,7 +23,7 @@ put-counted-spec =
     tie.close
     (tie.spec
     put-numbered-requires
-    slice-aggregate-put
+    (λ c. search needs)
     put-requires
-    same-length
+    (λ c. search needs)
     returns)

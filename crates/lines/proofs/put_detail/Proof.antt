@@ -5,12 +5,6 @@ use Rattle.lines.proofs.Puts.{in-words, none, andthen, room-left, front
 use Rattle.lines.proofs.put_detail.Statement.{statement}
 use Rattle.lines.proofs.put_detail.Tie as tie
 
-enum-known-fields : tie.Need-enum-known-fields
-enum-known-fields c = search needs
-
-slice-aggregate-put : tie.Need-slice-aggregate-put
-slice-aggregate-put c = search needs
-
 put-requires : tie.Need-put-requires
 put-requires c κs =
     let f = c .before .before .before in
@@ -24,12 +18,6 @@ put-hex-requires c κs =
     let s = f .before .before .before .before in
     front _ _ (room-left (k1 .put .ensures) (rw (f .fields .given .1) at (s .pre)))
 
-slice-aggregate-put-numbered : tie.Need-slice-aggregate-put-numbered
-slice-aggregate-put-numbered c = search needs
-
-cast-put-numbered : tie.Need-cast-put-numbered
-cast-put-numbered c = search needs
-
 put-numbered-requires : tie.Need-put-numbered-requires
 put-numbered-requires c κs =
     let k2 = c .before .before .before .before in
@@ -37,9 +25,6 @@ put-numbered-requires c κs =
     let f = k1 .before .before .before .before in
     let s = f .before .before .before .before in
     front _ _ (room-left (k2 .put-hex .ensures) (room-left (k1 .put .ensures) (rw (f .fields .given .1) at (s .pre))))
-
-slice-aggregate-put-numbered-2 : tie.Need-slice-aggregate-put-numbered-2
-slice-aggregate-put-numbered-2 c = search needs
 
 put-numbered-requires-2 : tie.Need-put-numbered-requires-2
 put-numbered-requires-2 c κs =
@@ -49,9 +34,6 @@ put-numbered-requires-2 c κs =
     let behind-fields = behind-put .before .before .before .before in
     let at-known = behind-fields .before .before .before .before in
     room-left (at-put-numbered .put-numbered .ensures) (room-left (behind-put-hex .before .put-hex .ensures) (room-left (behind-put .before .put .ensures) (rw (behind-fields .before .fields .given .1) at (at-known .before .pre))))
-
-same-length : tie.Need-same-length
-same-length c = search needs
 
 returns : tie.Need-returns
 returns c =
@@ -71,15 +53,15 @@ pub put-detail-spec : {M : Type 1} → statement M
 put-detail-spec =
     tie.close
     (tie.spec
-    enum-known-fields
-    slice-aggregate-put
+    (λ c. search needs)
+    (λ c. search needs)
     put-requires
     put-hex-requires
-    slice-aggregate-put-numbered
-    cast-put-numbered
+    (λ c. search needs)
+    (λ c. search needs)
     put-numbered-requires
-    slice-aggregate-put-numbered-2
+    (λ c. search needs)
     put-numbered-requires-2
-    same-length
+    (λ c. search needs)
     returns
     returns-2)

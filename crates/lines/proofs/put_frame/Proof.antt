@@ -5,17 +5,11 @@ use Rattle.lines.proofs.Puts.{andthen, room-left, front, same}
 use Rattle.lines.proofs.put_frame.Statement.{statement}
 use Rattle.lines.proofs.put_frame.Tie as tie
 
-slice-aggregate-put-numbered : tie.Need-slice-aggregate-put-numbered
-slice-aggregate-put-numbered c = search needs
-
 put-numbered-requires : tie.Need-put-numbered-requires
 unfolding frameLine
 put-numbered-requires c κs =
     let s = c .before .before .before .before in
     front _ _ (s .pre)
-
-slice-aggregate-put : tie.Need-slice-aggregate-put
-slice-aggregate-put c = search needs
 
 put-requires : tie.Need-put-requires
 unfolding frameLine
@@ -31,9 +25,6 @@ put-id-requires c κs =
     let behind-put-numbered = at-put .before .before .before .before in
     let at-bytes = behind-put-numbered .before .before .before .before in
     front _ _ (room-left (at-put .put .ensures) (room-left (behind-put-numbered .before .put-numbered .ensures) (at-bytes .before .before .pre)))
-
-slice-aggregate-put-numbered-2 : tie.Need-slice-aggregate-put-numbered-2
-slice-aggregate-put-numbered-2 c = search needs
 
 put-numbered-requires-2 : tie.Need-put-numbered-requires-2
 unfolding frameLine
@@ -72,12 +63,12 @@ pub put-frame-spec : {M : Type 1} → statement M
 put-frame-spec =
     tie.close
     (tie.spec
-    slice-aggregate-put-numbered
+    (λ c. search needs)
     put-numbered-requires
-    slice-aggregate-put
+    (λ c. search needs)
     put-requires
     put-id-requires
-    slice-aggregate-put-numbered-2
+    (λ c. search needs)
     put-numbered-requires-2
     put-body-requires
     same-length

@@ -12,13 +12,10 @@ put-decimal-requires c κs =
     let at-put = c .before .before .before in
     room-left (at-put .put .ensures) (at-put .before .before .before .before .pre)
 
-same-length : tie.Need-same-length
-same-length c = search needs
-
 returns : tie.Need-returns
 returns c =
     let at-put-decimal = c .before .before in
     andthen (at-put-decimal .before .before .before .before .put .ensures) (at-put-decimal .put-decimal .ensures)
 
 pub put-numbered-spec : {M : Type 1} → statement M
-put-numbered-spec = tie.close (tie.spec put-requires put-decimal-requires same-length returns)
+put-numbered-spec = tie.close (tie.spec put-requires put-decimal-requires (λ c. search needs) returns)

@@ -5,17 +5,11 @@ use Rattle.lines.proofs.Puts.{andthen, room-left, front, same}
 use Rattle.lines.proofs.put_tag.Statement.{statement}
 use Rattle.lines.proofs.put_tag.Tie as tie
 
-slice-aggregate-put-numbered : tie.Need-slice-aggregate-put-numbered
-slice-aggregate-put-numbered c = search needs
-
 put-numbered-requires : tie.Need-put-numbered-requires
 unfolding tagLine
 put-numbered-requires c κs =
     let s = c .before .before .before in
     front _ _ (s .pre)
-
-slice-aggregate-put-numbered-2 : tie.Need-slice-aggregate-put-numbered-2
-slice-aggregate-put-numbered-2 c = search needs
 
 put-numbered-requires-2 : tie.Need-put-numbered-requires-2
 unfolding tagLine
@@ -23,9 +17,6 @@ put-numbered-requires-2 c κs =
     let k1 = c .before .before .before .before in
     let s = k1 .before .before .before .before in
     front _ _ (room-left (k1 .put-numbered .ensures) (s .pre))
-
-slice-aggregate-put-numbered-3 : tie.Need-slice-aggregate-put-numbered-3
-slice-aggregate-put-numbered-3 c = search needs
 
 put-numbered-requires-3 : tie.Need-put-numbered-requires-3
 unfolding tagLine
@@ -35,9 +26,6 @@ put-numbered-requires-3 c κs =
     let at-known = behind-put-numbered .before .before .before .before in
     front _ _ (room-left (at-put-numbered2 .put-numbered2 .ensures) (room-left (behind-put-numbered .before .put-numbered .ensures) (at-known .before .pre)))
 
-slice-aggregate-put-numbered-4 : tie.Need-slice-aggregate-put-numbered-4
-slice-aggregate-put-numbered-4 c = search needs
-
 put-numbered-requires-4 : tie.Need-put-numbered-requires-4
 unfolding tagLine
 put-numbered-requires-4 c κs =
@@ -46,9 +34,6 @@ put-numbered-requires-4 c κs =
     let behind-put-numbered = behind-put-numbered2 .before .before .before .before in
     let at-put-numbered = behind-put-numbered .before .before in
     front _ _ (room-left (at-put-numbered3 .put-numbered3 .ensures) (room-left (behind-put-numbered2 .before .put-numbered2 .ensures) (room-left (at-put-numbered .put-numbered .ensures) (at-put-numbered .before .before .before .before .pre))))
-
-slice-aggregate-put : tie.Need-slice-aggregate-put
-slice-aggregate-put c = search needs
 
 put-requires : tie.Need-put-requires
 unfolding tagLine
@@ -79,15 +64,15 @@ pub put-tag-spec : {M : Type 1} → statement M
 put-tag-spec =
     tie.close
     (tie.spec
-    slice-aggregate-put-numbered
+    (λ c. search needs)
     put-numbered-requires
-    slice-aggregate-put-numbered-2
+    (λ c. search needs)
     put-numbered-requires-2
-    slice-aggregate-put-numbered-3
+    (λ c. search needs)
     put-numbered-requires-3
-    slice-aggregate-put-numbered-4
+    (λ c. search needs)
     put-numbered-requires-4
-    slice-aggregate-put
+    (λ c. search needs)
     put-requires
     same-length
     returns)

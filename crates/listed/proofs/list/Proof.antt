@@ -5,34 +5,10 @@ use borrow.Author.Needs.{needs}
 use Rattle.listed.proofs.list.Statement.{statement}
 use Rattle.listed.proofs.list.Tie as tie
 
-header-requires : tie.Need-header-requires
-header-requires c κs = search needs
-
-enum-known-h : tie.Need-enum-known-h
-enum-known-h c = search needs
-
 put-tag-requires : tie.Need-put-tag-requires
 put-tag-requires c κs =
     let at-h = c .before .before .before in
     sym (at-h .before .before .header .ensures) ∙ at-h .h .given .1
-
-enum-known-k : tie.Need-enum-known-k
-enum-known-k c = search needs
-
-refused-line-requires : tie.Need-refused-line-requires
-refused-line-requires c κs = search needs
-
-same-length : tie.Need-same-length
-same-length c = search needs
-
-same-length-2 : tie.Need-same-length-2
-same-length-2 c = search needs
-
-returns : tie.Need-returns
-returns c = search needs
-
-same-length-3 : tie.Need-same-length-3
-same-length-3 c = search needs
 
 returns-2 : tie.Need-returns-2
 returns-2 c =
@@ -46,13 +22,13 @@ pub list-spec : {M : Type 1} → statement M
 list-spec =
     tie.close
     (tie.spec
-    header-requires
-    enum-known-h
+    (λ c κs. search needs)
+    (λ c. search needs)
     put-tag-requires
-    enum-known-k
-    refused-line-requires
-    same-length
-    same-length-2
-    returns
-    same-length-3
+    (λ c. search needs)
+    (λ c κs. search needs)
+    (λ c. search needs)
+    (λ c. search needs)
+    (λ c. search needs)
+    (λ c. search needs)
     returns-2)

@@ -19,12 +19,6 @@ loop-holds c =
     let a = c .before .before .before .args in
     begins (a .tag .now) (a .work .now) (a .out .now) (a .at) (a .reader)
 
-put-step-requires : tie.Need-put-step-requires Inv-loop μ-loop
-put-step-requires c κs = search needs
-
-enum-known-placed : tie.Need-enum-known-placed Inv-loop μ-loop
-enum-known-placed c = search needs
-
 same-length : tie.Need-same-length Inv-loop μ-loop
 same-length c =
     let at-out = c .before .before .before .before in
@@ -43,12 +37,6 @@ returns c =
     let at-put-step = at-out .before .before .before in
     let at-loop-test = at-put-step .before .before .before in
     last (at-loop-test .before .loop .inv) (at-loop-test .loop-test .taken) (at-put-step .put-step .ensures) (c .before .placed .given .1)
-
-enum-known-next : tie.Need-enum-known-next Inv-loop μ-loop
-enum-known-next c = search needs
-
-add-number : tie.Need-add-number Inv-loop μ-loop
-add-number c = search needs
 
 loop-less : tie.Need-loop-less Inv-loop μ-loop
 loop-less c = omega arith
@@ -77,13 +65,13 @@ put-frames-spec =
     Inv-loop
     μ-loop
     loop-holds
-    put-step-requires
-    enum-known-placed
+    (λ c κs. search needs)
+    (λ c. search needs)
     same-length
     same-length-2
     returns
-    enum-known-next
-    add-number
+    (λ c. search needs)
+    (λ c. search needs)
     loop-less
     loop-again
     same-length-3

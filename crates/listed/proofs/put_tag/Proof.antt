@@ -5,15 +5,6 @@ use borrow.Author.Needs.{needs}
 use Rattle.listed.proofs.put_tag.Statement.{statement}
 use Rattle.listed.proofs.put_tag.Tie as tie
 
-version-number-requires : tie.Need-version-number-requires
-version-number-requires c κs = search needs
-
-tag-line-requires : tie.Need-tag-line-requires
-tag-line-requires c κs = search needs
-
-enum-known-at : tie.Need-enum-known-at
-enum-known-at c = search needs
-
 put-opened-requires : tie.Need-put-opened-requires
 put-opened-requires c κs =
     let at-at = c .before .before .before in
@@ -22,15 +13,6 @@ put-opened-requires c κs =
     let at-start = at-known .before .before in
     let a = at-start .args in
     there (a .tag .now) (a .h) (at-start .pre)
-
-enum-told : tie.Need-enum-told
-enum-told c = search needs
-
-same-length : tie.Need-same-length
-same-length c = search needs
-
-same-length-2 : tie.Need-same-length-2
-same-length-2 c = search needs
 
 returns : tie.Need-returns
 returns c =
@@ -41,9 +23,6 @@ returns c =
     let at-start = at-known .before .before in
     let a = at-start .args in
     tag-put (a .tag .now) (a .work .now) (a .out .now) (sym (at-start .pre)) refl (at-tag-line .before .version-number .ensures) (at-tag-line .tag-line .ensures) (at-at .at .given .1) (at-put-opened .put-opened .ensures)
-
-same-length-3 : tie.Need-same-length-3
-same-length-3 c = search needs
 
 returns-2 : tie.Need-returns-2
 returns-2 c =
@@ -57,13 +36,13 @@ pub put-tag-spec : {M : Type 1} → statement M
 put-tag-spec =
     tie.close
     (tie.spec
-    version-number-requires
-    tag-line-requires
-    enum-known-at
+    (λ c κs. search needs)
+    (λ c κs. search needs)
+    (λ c. search needs)
     put-opened-requires
-    enum-told
-    same-length
-    same-length-2
+    (λ c. search needs)
+    (λ c. search needs)
+    (λ c. search needs)
     returns
-    same-length-3
+    (λ c. search needs)
     returns-2)

@@ -6,21 +6,6 @@ use borrow.Author.Needs.{needs}
 use Rattle.back.proofs.reading.read_one.Statement.{statement}
 use Rattle.back.proofs.reading.read_one.Tie as tie
 
-open-requires : tie.Need-open-requires
-open-requires c κs = search needs
-
-enum-known-opened : tie.Need-enum-known-opened
-enum-known-opened c = search needs
-
-first-requires : tie.Need-first-requires
-first-requires c κs = search needs
-
-enum-told : tie.Need-enum-told
-enum-told c = search needs
-
-same-length : tie.Need-same-length
-same-length c = search needs
-
 returns : tie.Need-returns
 unfolding readOf
 returns c =
@@ -28,9 +13,6 @@ returns c =
     let at-opened = at-first .before .before .before in
     let at-open = at-opened .before .before .before .before in
     at-first .first .ensures ∙ answered (onOpened (at-open .before .before .before .before .args .tag .now)) (at-opened .opened .given .1) (at-open .«open» .ensures)
-
-same-length-2 : tie.Need-same-length-2
-same-length-2 c = search needs
 
 returns-2 : tie.Need-returns-2
 unfolding readOf
@@ -42,11 +24,11 @@ pub read-one-spec : {M : Type 1} → statement M
 read-one-spec =
     tie.close
     (tie.spec
-    open-requires
-    enum-known-opened
-    first-requires
-    enum-told
-    same-length
+    (λ c κs. search needs)
+    (λ c. search needs)
+    (λ c κs. search needs)
+    (λ c. search needs)
+    (λ c. search needs)
     returns
-    same-length-2
+    (λ c. search needs)
     returns-2)

@@ -27,30 +27,6 @@ adds c known =
     let r = recOf (a .heading) (a .name .now) (a .names .now) (a .rest .now) (a .deviations .now) in
     answered (onAdded (a .padding) (a .output .now)) {o = addOf (a .writer) r (a .buffer .now)} known (c .add .ensures .0)
 
-add-requires : tie.Need-add-requires
-add-requires c κs = search needs
-
-enum-known-added : tie.Need-enum-known-added
-enum-known-added c = search needs
-
-finish-requires : tie.Need-finish-requires
-finish-requires c κs = search needs
-
-enum-known-finished : tie.Need-enum-known-finished
-enum-known-finished c = search needs
-
-enum-known-finished-2 : tie.Need-enum-known-finished-2
-enum-known-finished-2 c = search needs
-
-enum-known-added-2 : tie.Need-enum-known-added-2
-enum-known-added-2 c = search needs
-
-same-length : tie.Need-same-length
-same-length c = search needs
-
-same-length-2 : tie.Need-same-length-2
-same-length-2 c = search needs
-
 returns : tie.Need-returns
 returns c =
     let at-finished = c .before in
@@ -60,12 +36,6 @@ returns c =
     let b = at-add .add .last .1 .0 in
     let finishes = answered {C = Writing} (λ (f : Finished) (o : List ℕ). (wroteAs f, (b, o))) (at-finished .finished .given .1) (at-finish .finish .ensures) in
     (finishes ∙ adds at-add (at-added .added .given .1), at-add .add .ensures .1)
-
-same-length-3 : tie.Need-same-length-3
-same-length-3 c = search needs
-
-same-length-4 : tie.Need-same-length-4
-same-length-4 c = search needs
 
 returns-2 : tie.Need-returns-2
 returns-2 c =
@@ -77,9 +47,6 @@ returns-2 c =
     let finishes = answered {C = Writing} (λ (f : Finished) (o : List ℕ). (wroteAs f, (b, o))) (at-finished .finished2 .given .1) (at-finish .finish .ensures) in
     (finishes ∙ adds at-add (at-added .added .given .1), tt)
 
-same-length-5 : tie.Need-same-length-5
-same-length-5 c = search needs
-
 returns-3 : tie.Need-returns-3
 returns-3 c =
     let at-added = c .before in
@@ -89,17 +56,17 @@ pub add-one-spec : {M : Type 1} → statement M
 add-one-spec =
     tie.close
     (tie.spec
-    add-requires
-    enum-known-added
-    finish-requires
-    enum-known-finished
-    enum-known-finished-2
-    enum-known-added-2
-    same-length
-    same-length-2
+    (λ c κs. search needs)
+    (λ c. search needs)
+    (λ c κs. search needs)
+    (λ c. search needs)
+    (λ c. search needs)
+    (λ c. search needs)
+    (λ c. search needs)
+    (λ c. search needs)
     returns
-    same-length-3
-    same-length-4
+    (λ c. search needs)
+    (λ c. search needs)
     returns-2
-    same-length-5
+    (λ c. search needs)
     returns-3)

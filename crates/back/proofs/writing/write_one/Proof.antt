@@ -7,24 +7,6 @@ use borrow.Author.Needs.{needs}
 use Rattle.back.proofs.writing.write_one.Statement.{statement}
 use Rattle.back.proofs.writing.write_one.Tie as tie
 
-begin-requires : tie.Need-begin-requires
-begin-requires c κs = search needs
-
-enum-known-begun : tie.Need-enum-known-begun
-enum-known-begun c = search needs
-
-add-one-requires : tie.Need-add-one-requires
-add-one-requires c κs = search needs
-
-enum-known-begun-2 : tie.Need-enum-known-begun-2
-enum-known-begun-2 c = search needs
-
-same-length : tie.Need-same-length
-same-length c = search needs
-
-same-length-2 : tie.Need-same-length-2
-same-length-2 c = search needs
-
 returns : tie.Need-returns
 unfolding writeOf
 returns c =
@@ -51,11 +33,11 @@ pub write-one-spec : {M : Type 1} → statement M
 write-one-spec =
     tie.close
     (tie.spec
-    begin-requires
-    enum-known-begun
-    add-one-requires
-    enum-known-begun-2
-    same-length
-    same-length-2
+    (λ c κs. search needs)
+    (λ c. search needs)
+    (λ c κs. search needs)
+    (λ c. search needs)
+    (λ c. search needs)
+    (λ c. search needs)
     returns
     returns-2)

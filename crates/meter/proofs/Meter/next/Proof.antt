@@ -4,24 +4,6 @@ use Rattle.meter.proofs.Meets.{next-ended, next-failed}
 use Rattle.meter.proofs.Meter.next.Statement.{statement}
 use Rattle.meter.proofs.Meter.next.Tie as tie
 
-enum-told : tie.Need-enum-told
-enum-told c = search needs
-
-run-requires : tie.Need-run-requires
-run-requires c κs = search needs
-
-enum-told-2 : tie.Need-enum-told-2
-enum-told-2 c = search needs
-
-enum-known-stop : tie.Need-enum-known-stop
-enum-known-stop c = search needs
-
-same-length : tie.Need-same-length
-same-length c = search needs
-
-returns : tie.Need-returns
-returns c = search needs
-
 returns-2 : tie.Need-returns-2
 returns-2 c =
     let at-r = c .before .before in
@@ -38,11 +20,11 @@ pub next-spec : {M : Type 1} → statement M
 next-spec =
     tie.close
     (tie.spec
-    enum-told
-    run-requires
-    enum-told-2
-    enum-known-stop
-    same-length
-    returns
+    (λ c. search needs)
+    (λ c κs. search needs)
+    (λ c. search needs)
+    (λ c. search needs)
+    (λ c. search needs)
+    (λ c. search needs)
     returns-2
     returns-3)

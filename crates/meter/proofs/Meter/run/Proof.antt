@@ -51,42 +51,15 @@ module _ (c : tie.After-meet Inv-loop μ-loop) {met : Met} (is : c .meet .result
       let L = at-loop c .loop in
       goes-on (a .self) (a .tag .now) (a .work .now) (L .work) (c .meet .last .0) (L .at) (L .frames) (L .short) (L .compressed) (L .inv .1) met met-here
 
-meet-requires : tie.Need-meet-requires Inv-loop μ-loop
-meet-requires c κs = search needs
-
-enum-told : tie.Need-enum-told Inv-loop μ-loop
-enum-told c = search needs
-
-moved-requires : tie.Need-moved-requires Inv-loop μ-loop
-moved-requires c κs = search needs
-
-same-length : tie.Need-same-length Inv-loop μ-loop
-same-length c = search needs
-
 returns : tie.Need-returns Inv-loop μ-loop
 returns c =
     let at-ended = c .before in
     rw (c .moved .ensures) (rest-is (at-ended .before .before .before .before) (at-ended .enum-told .given .1))
 
-enum-known-k : tie.Need-enum-known-k Inv-loop μ-loop
-enum-known-k c = search needs
-
-moved-requires-2 : tie.Need-moved-requires-2 Inv-loop μ-loop
-moved-requires-2 c κs = search needs
-
-same-length-2 : tie.Need-same-length-2 Inv-loop μ-loop
-same-length-2 c = search needs
-
 returns-2 : tie.Need-returns-2 Inv-loop μ-loop
 returns-2 c =
     let at-refused = c .before .before in
     rw (c .moved2 .ensures) (rest-is (at-refused .before .before .before .before) (at-refused .k .given .1))
-
-enum-known-next : tie.Need-enum-known-next Inv-loop μ-loop
-enum-known-next c = search needs
-
-one-more-requires : tie.Need-one-more-requires Inv-loop μ-loop
-one-more-requires c κs = search needs
 
 loop-less : tie.Need-loop-less Inv-loop μ-loop
 loop-less c =
@@ -102,18 +75,6 @@ loop-again c =
     let at-meet = at-passed .before .before .before .before in
     (at-meet .meet .kept .0 ∙ at-loop at-meet .loop .inv .0, rw (c .one-more .ensures) (rest-is at-meet (at-passed .next .given .1)))
 
-enum-known-next-2 : tie.Need-enum-known-next-2 Inv-loop μ-loop
-enum-known-next-2 c = search needs
-
-one-more-requires-2 : tie.Need-one-more-requires-2 Inv-loop μ-loop
-one-more-requires-2 c κs = search needs
-
-moved-requires-3 : tie.Need-moved-requires-3 Inv-loop μ-loop
-moved-requires-3 c κs = search needs
-
-same-length-3 : tie.Need-same-length-3 Inv-loop μ-loop
-same-length-3 c = search needs
-
 returns-3 : tie.Need-returns-3 Inv-loop μ-loop
 returns-3 c =
     let at-found = c .before .before .before in
@@ -126,21 +87,21 @@ run-spec =
     Inv-loop
     μ-loop
     loop-holds
-    meet-requires
-    enum-told
-    moved-requires
-    same-length
+    (λ c κs. search needs)
+    (λ c. search needs)
+    (λ c κs. search needs)
+    (λ c. search needs)
     returns
-    enum-known-k
-    moved-requires-2
-    same-length-2
+    (λ c. search needs)
+    (λ c κs. search needs)
+    (λ c. search needs)
     returns-2
-    enum-known-next
-    one-more-requires
+    (λ c. search needs)
+    (λ c κs. search needs)
     loop-less
     loop-again
-    enum-known-next-2
-    one-more-requires-2
-    moved-requires-3
-    same-length-3
+    (λ c. search needs)
+    (λ c κs. search needs)
+    (λ c κs. search needs)
+    (λ c. search needs)
     returns-3)

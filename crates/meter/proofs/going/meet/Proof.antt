@@ -51,30 +51,6 @@ module _ (c : tie.After-glance-at) where
         at-start c .good,
       )
 
-source-requires : tie.Need-source-requires
-source-requires c κs = search needs
-
-least-requires : tie.Need-least-requires
-least-requires c κs = search needs
-
-glance-at-requires : tie.Need-glance-at-requires
-glance-at-requires c κs = search needs
-
-enum-told : tie.Need-enum-told
-enum-told c = search needs
-
-pass-at-requires : tie.Need-pass-at-requires
-pass-at-requires c κs = search needs
-
-enum-told-2 : tie.Need-enum-told-2
-enum-told-2 c = search needs
-
-enum-known-size : tie.Need-enum-known-size
-enum-known-size c = search needs
-
-head-len-requires : tie.Need-head-len-requires
-head-len-requires c κs = search needs
-
 add-passed : tie.Need-add-passed
 add-passed c =
     let at-plain = c .before .before in
@@ -86,24 +62,6 @@ add-passed-2 c =
     let at-plain = c .before .before in
     let at-glance = at-plain .before .before in
     omega (arith, fits at-glance (says at-glance (at-plain .size .given .1) .0) (c .head-len .ensures .0))
-
-passed-requires : tie.Need-passed-requires
-passed-requires c κs = search needs
-
-enum-known-size-2 : tie.Need-enum-known-size-2
-enum-known-size-2 c = search needs
-
-pass-at-requires-2 : tie.Need-pass-at-requires-2
-pass-at-requires-2 c κs = search needs
-
-same-length : tie.Need-same-length
-same-length c = search needs
-
-returns : tie.Need-returns
-returns c = search needs
-
-head-len-requires-2 : tie.Need-head-len-requires-2
-head-len-requires-2 c κs = search needs
 
 add-first : tie.Need-add-first
 add-first c =
@@ -117,15 +75,6 @@ add-flagged c =
     let at-glance = at-flagged .before .before in
     omega (arith, fits at-glance (says at-glance (at-flagged .size2 .given .1) .0) (c .before .head-len2 .ensures .0))
 
-flagged-requires : tie.Need-flagged-requires
-flagged-requires c κs = search needs
-
-enum-known-size-3 : tie.Need-enum-known-size-3
-enum-known-size-3 c = search needs
-
-head-len-requires-3 : tie.Need-head-len-requires-3
-head-len-requires-3 c κs = search needs
-
 add-first-2 : tie.Need-add-first-2
 add-first-2 c =
     let at-meter = c .before .before in
@@ -138,29 +87,11 @@ add-next c =
     let at-glance = at-meter .before .before in
     omega (arith, fits at-glance (says at-glance (at-meter .size3 .given .1) .0) (c .head-len3 .ensures .0))
 
-parse-requires : tie.Need-parse-requires
-parse-requires c κs = search needs
-
-read-as-requires : tie.Need-read-as-requires
-read-as-requires c κs = search needs
-
-same-length-2 : tie.Need-same-length-2
-same-length-2 c = search needs
-
-returns-2 : tie.Need-returns-2
-returns-2 c = search needs
-
-same-length-3 : tie.Need-same-length-3
-same-length-3 c = search needs
-
 returns-3 : tie.Need-returns-3
 returns-3 c =
     let at-glance = c .before .before in
     let a = at-start at-glance .args in
     λ begin. meets-end (a .version) (a .in-work) begin (a .at) (a .end) (a .tag .now) (a .work .now) (says at-glance (c .enum-told2 .given .1))
-
-same-length-4 : tie.Need-same-length-4
-same-length-4 c = search needs
 
 returns-4 : tie.Need-returns-4
 returns-4 c =
@@ -169,9 +100,6 @@ returns-4 c =
     let a = at-start at-glance .args in
     λ begin. rw (c .passed .ensures, c .before .head-len .ensures .0)
     (meets-plain (a .version) (a .in-work) begin (a .at) (a .end) (a .tag .now) (a .work .now) _ (says at-glance (at-plain .size .given .1)))
-
-same-length-5 : tie.Need-same-length-5
-same-length-5 c = search needs
 
 returns-5 : tie.Need-returns-5
 returns-5 c =
@@ -182,9 +110,6 @@ returns-5 c =
     let a = at-start at-glance .args in
     λ begin. meets-flagged (a .version) (a .in-work) begin (a .at) (a .end) (a .tag .now) (a .work .now) _ (at-head-len .before .if1 .left) (says at-glance (at-flagged .size2 .given .1))
     (rw (at-head-len .head-len2 .ensures .0) at (at-passed .flagged .ensures))
-
-same-length-6 : tie.Need-same-length-6
-same-length-6 c = search needs
 
 returns-6 : tie.Need-returns-6
 returns-6 c =
@@ -199,38 +124,38 @@ pub meet-spec : {M : Type 1} → statement M
 meet-spec =
     tie.close
     (tie.spec
-    source-requires
-    least-requires
-    glance-at-requires
-    enum-told
-    pass-at-requires
-    enum-told-2
-    enum-known-size
-    head-len-requires
+    (λ c κs. search needs)
+    (λ c κs. search needs)
+    (λ c κs. search needs)
+    (λ c. search needs)
+    (λ c κs. search needs)
+    (λ c. search needs)
+    (λ c. search needs)
+    (λ c κs. search needs)
     add-passed
     add-passed-2
-    passed-requires
-    enum-known-size-2
-    pass-at-requires-2
-    same-length
-    returns
-    head-len-requires-2
+    (λ c κs. search needs)
+    (λ c. search needs)
+    (λ c κs. search needs)
+    (λ c. search needs)
+    (λ c. search needs)
+    (λ c κs. search needs)
     add-first
     add-flagged
-    flagged-requires
-    enum-known-size-3
-    head-len-requires-3
+    (λ c κs. search needs)
+    (λ c. search needs)
+    (λ c κs. search needs)
     add-first-2
     add-next
-    parse-requires
-    read-as-requires
-    same-length-2
-    returns-2
-    same-length-3
+    (λ c κs. search needs)
+    (λ c κs. search needs)
+    (λ c. search needs)
+    (λ c. search needs)
+    (λ c. search needs)
     returns-3
-    same-length-4
+    (λ c. search needs)
     returns-4
-    same-length-5
+    (λ c. search needs)
     returns-5
-    same-length-6
+    (λ c. search needs)
     returns-6)

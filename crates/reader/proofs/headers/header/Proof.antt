@@ -10,9 +10,6 @@ use Rattle.reader.proofs.headers.header.Tie as tie
 taken : (c : tie.Else1) → Accepted (c .before .before .before .args .tag .now)
 taken c = accepted _ (sym (c .before .refusal .ensures) ∙ c .if1 .left)
 
-refusal-requires : tie.Need-refusal-requires
-refusal-requires c κs = search needs
-
 returns : tie.Need-returns
 returns c = refused _ (c .before .refusal .ensures) (c .if1 .taken)
 
@@ -22,17 +19,11 @@ shared-slice-read-version-of c = omega (arith, taken (c .before))
 cast-version-of : tie.Need-cast-version-of
 cast-version-of c = omega (arith, c .shared-slice-known2 .given 3)
 
-version-of-requires : tie.Need-version-of-requires
-version-of-requires c κs = search needs
-
 shared-slice-read-t9 : tie.Need-shared-slice-read-t9
 shared-slice-read-t9 c = omega (arith, taken (c .before .before .before))
 
 synchsafe-requires : tie.Need-synchsafe-requires
 synchsafe-requires c κs = omega (arith, taken (c .before .before .before))
-
-extended-size-requires : tie.Need-extended-size-requires
-extended-size-requires c κs = search needs
 
 returns-2 : tie.Need-returns-2
 unfolding headerOf
@@ -46,12 +37,12 @@ pub header-spec : {M : Type 1} → statement M
 header-spec =
     tie.close
     (tie.spec
-    refusal-requires
+    (λ c κs. search needs)
     returns
     shared-slice-read-version-of
     cast-version-of
-    version-of-requires
+    (λ c κs. search needs)
     shared-slice-read-t9
     synchsafe-requires
-    extended-size-requires
+    (λ c κs. search needs)
     returns-2)

@@ -57,9 +57,6 @@ sized c =
     let at-there = at-end .before .before in
     by-size (begun (at-clear at-end)) (at-there .before .if4 .left) (is-there at-there) (ends at-end) (c .before .if6 .left) (c .synchsafe2 .ensures)
 
-begins-requires : tie.Need-begins-requires
-begins-requires c κs = search needs
-
 returns : tie.Need-returns
 returns c = no-tag _ (sym (c .before .begins .ensures) ∙ not-true _ (c .if1 .taken))
 
@@ -69,14 +66,8 @@ shared-slice-read-edition c = omega (arith, is-long (c .before))
 shared-slice-read-flags : tie.Need-shared-slice-read-flags
 shared-slice-read-flags c = omega (arith, is-long (c .before .before))
 
-has-requires : tie.Need-has-requires
-has-requires c κs = search needs
-
 cast-is-version : tie.Need-cast-is-version
 cast-is-version c = omega (arith, c .before .before .shared-slice-known2 .given 3)
-
-is-version-requires : tie.Need-is-version-requires
-is-version-requires c κs = search needs
 
 returns-2 : tie.Need-returns-2
 returns-2 c = unknown-version _ (is-tag (at-tag (c .before))) (sym (c .before .is-version .ensures) ∙ not-true _ (c .if2 .taken))
@@ -93,17 +84,11 @@ returns-5 c = no-extended (begun (c .before .before)) (c .before .if4 .left) (no
 synchsafe-requires : tie.Need-synchsafe-requires
 synchsafe-requires c κs = let at-clear = c .before .before in is-long (at-tag (at-clear .before .before))
 
-end-of-requires : tie.Need-end-of-requires
-end-of-requires c κs = search needs
-
 returns-6 : tie.Need-returns-6
 returns-6 c =
     let at-end = c .before in
     let at-there = at-end .before .before in
     missing-bytes (begun (at-clear at-end)) (at-there .before .if4 .left) (is-there at-there) (ends at-end) (c .if6 .taken)
-
-synchsafe-requires-2 : tie.Need-synchsafe-requires-2
-synchsafe-requires-2 c κs = search needs
 
 returns-7 : tie.Need-returns-7
 returns-7 c = sized (c .before) .0 (c .if7 .taken)
@@ -115,20 +100,20 @@ pub refusal-spec : {M : Type 1} → statement M
 refusal-spec =
     tie.close
     (tie.spec
-    begins-requires
+    (λ c κs. search needs)
     returns
     shared-slice-read-edition
     shared-slice-read-flags
-    has-requires
+    (λ c κs. search needs)
     cast-is-version
-    is-version-requires
+    (λ c κs. search needs)
     returns-2
     returns-3
     returns-4
     returns-5
     synchsafe-requires
-    end-of-requires
+    (λ c κs. search needs)
     returns-6
-    synchsafe-requires-2
+    (λ c κs. search needs)
     returns-7
     returns-8)

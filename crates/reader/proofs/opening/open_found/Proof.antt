@@ -22,34 +22,10 @@ is-told c = record {
   says = c .is-whole .ensures;
 }
 
-region-of-requires : tie.Need-region-of-requires
-region-of-requires c κs = search needs
-
-is-whole-requires : tie.Need-is-whole-requires
-is-whole-requires c κs = search needs
-
-ready-requires : tie.Need-ready-requires
-ready-requires c κs = search needs
-
 returns : tie.Need-returns
 returns c =
     let at-whole = c .before .before in
     in-tag (is-told at-whole) (work at-whole) (not-true _ (c .before .if1 .taken)) (c .ready .ensures)
-
-resync-into-requires : tie.Need-resync-into-requires
-resync-into-requires c κs = search needs
-
-enum-known-put : tie.Need-enum-known-put
-enum-known-put c = search needs
-
-ready-requires-2 : tie.Need-ready-requires-2
-ready-requires-2 c κs = search needs
-
-enum-known-put-2 : tie.Need-enum-known-put-2
-enum-known-put-2 c = search needs
-
-same-length : tie.Need-same-length
-same-length c = search needs
 
 returns-2 : tie.Need-returns-2
 returns-2 c =
@@ -58,9 +34,6 @@ returns-2 c =
     let at-whole = at-resync-into .before .before .before in
     let on = not-false _ (at-resync-into .before .before .if1 .left) in
     in-work (is-told at-whole) (work at-whole) on (at-resync-into .resync-into .ensures) (at-put .put .given .1) (c .ready2 .ensures)
-
-same-length-2 : tie.Need-same-length-2
-same-length-2 c = search needs
 
 returns-3 : tie.Need-returns-3
 returns-3 c =
@@ -74,15 +47,15 @@ pub open-found-spec : {M : Type 1} → statement M
 open-found-spec =
     tie.close
     (tie.spec
-    region-of-requires
-    is-whole-requires
-    ready-requires
+    (λ c κs. search needs)
+    (λ c κs. search needs)
+    (λ c κs. search needs)
     returns
-    resync-into-requires
-    enum-known-put
-    ready-requires-2
-    enum-known-put-2
-    same-length
+    (λ c κs. search needs)
+    (λ c. search needs)
+    (λ c κs. search needs)
+    (λ c. search needs)
+    (λ c. search needs)
     returns-2
-    same-length-2
+    (λ c. search needs)
     returns-3)
