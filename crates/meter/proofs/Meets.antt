@@ -2,8 +2,8 @@
 use mathlib.Core.Path.{_≡_, refl, sym, ap, _∙_}
 use Prim.Native.Nat.{ℕ, _+_, _-_, _≤_, _<_, min}
 use native.Mathlib.Omega.{arith}
-use mathlib.Core.Bool.{Bool, true, false, _&&_, _||_}
-use mathlib.Core.List.{List, [], _∷_}
+use mathlib.Core.Bool.{Bool, true, false, _||_}
+use mathlib.Core.List.{List, []}
 use lib.ListN.{length, take, drop}
 use lib.Seq.{slice}
 use lib.Dec.{ltb, eqb}
@@ -14,7 +14,7 @@ use Rattle.format.specs.Unsynch.{resynchronised}
 use Rattle.format.specs.Ids.{kindOf, kindNumber}
 use Rattle.format.specs.Frame.{headLen, headOf}
 use Rattle.format.specs.Record.{bodyRefusal, runOf, partsOf}
-use Rattle.format.specs.Walk.{Out, behind, shownKind, isResynced, insideOf, resyncedOf, bodyOf, walked, recordOf, shownOf, onShown, frameOf}
+use Rattle.format.specs.Walk.{Out, isResynced, insideOf, resyncedOf, bodyOf, walked, recordOf, onShown, frameOf}
 use Rattle.format.specs.declared.Version.{Version}
 use Rattle.format.specs.declared.Kind.{Kind}
 use Rattle.format.specs.declared.Fields.{Fields}
@@ -22,29 +22,26 @@ use Rattle.format.specs.declared.Head.{Head}
 use Rattle.format.specs.declared.Record.{Record}
 use Rattle.format.specs.declared.Shown.{Shown}
 use Rattle.format.proofs.Checks.{of-picked}
-use Rattle.format.proofs.Moves.{Moves, moves}
+use Rattle.format.proofs.Moves.{moves}
 use Rattle.frame.specs.declared.body.Parsed.{Parsed}
 use Rattle.frame.specs.Bodies.{parsedOf}
 use Rattle.unsynch.specs.declared.Put.{Put}
 use Rattle.unsynch.specs.Puts.{intoOf}
 use Rattle.walk.specs.declared.passing.Met.{Met}
 use Rattle.walk.specs.Sources.{sourceOf, frameIn}
-use Rattle.walk.specs.Passing.{isMeterId, metBy, metAs, passIn, readAs, passOf}
+use Rattle.walk.specs.Passing.{metBy, metAs, passIn, readAs, passOf}
 use Rattle.walk.proofs.Sources.{walk-none}
 use Rattle.walk.proofs.Passes.{Here, here, pass-nothing, pass-body-refused, pass-over, pass-meter, pass-in-work, pass-apart}
-use Rattle.reader.specs.Reader.{answerOf, movedTo, Stepped, runStep, stepOf}
+use Rattle.reader.specs.Reader.{answerOf, movedTo, Stepped, stepOf}
 use Rattle.reader.specs.declared.Stop.{Stop}
-use Rattle.reader.specs.declared.Reader.{Reader}
-use Rattle.reader.specs.declared.Step.{Step}
 use Rattle.reader.proofs.Opens.{put-as}
 use Rattle.reader.proofs.Steps.{gone, running, ended, failed}
 use Rattle.meter.specs.declared.Meter.{Meter}
-use Rattle.meter.specs.declared.Metered.{Metered}
 use Rattle.meter.specs.declared.Next.{Next}
 use Rattle.meter.specs.declared.glance.Glance.{Glance}
-use Rattle.meter.specs.Meter.{oneMore, passedOver, meteredAs, meteredIn, Nexted, orOn, onStep, nextOf}
-use Rattle.meter.specs.Glances.{Passes, Whole, bodyIn, Says}
-use Rattle.meter.specs.Meets.{flaggedOf, movedAs, stoppedBy, metNext}
+use Rattle.meter.specs.Meter.{passedOver, meteredAs, Nexted, orOn, onStep, nextOf}
+use Rattle.meter.specs.Glances.{Passes, Whole, Says}
+use Rattle.meter.specs.Meets.{flaggedOf, movedAs, metNext}
 use Rattle.meter.proofs.Nexts.{next-eq}
 
 abbrev pub Answer : Type 0

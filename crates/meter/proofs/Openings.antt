@@ -2,15 +2,15 @@
 use mathlib.Core.Path.{_≡_, refl, sym, ap, _∙_}
 use Prim.Native.Nat.{ℕ, _+_, _-_, _*_, _/_, _%_, _≤_, _<_, min}
 use native.Mathlib.Omega.{arith}
-use mathlib.Core.Bool.{Bool, true, false, not, _&&_, and-false}
+use mathlib.Core.Bool.{Bool, true, false, and-false}
 use mathlib.Core.List.{List}
-use lib.ListN.{length, take, getD, length-take}
+use lib.ListN.{length, take, length-take}
 use lib.Seq.{slice}
-use lib.Dec.{ltb, leb, eqb}
+use lib.Dec.{ltb, eqb}
 use borrow.Author.Tests.{eqb-true, le-leb, lt-ltb, le-ltb, ltb-true, ltb-false}
-use Rattle.format.specs.Bytes.{pick, has, named}
+use Rattle.format.specs.Bytes.{pick}
 use Rattle.format.specs.Numbers.{number}
-use Rattle.format.specs.Header.{editionOf, flagsOf, sizeOf, versionOf, isWhole, cutOf, isExtended, extOf, headerRefusal, regionStart, regionEnd}
+use Rattle.format.specs.Header.{editionOf, flagsOf, sizeOf, versionOf, isWhole, cutOf, isExtended, extOf, headerRefusal}
 use Rattle.format.specs.Numbered.{isVersion}
 use Rattle.format.specs.declared.Version.{Version}
 use Rattle.format.specs.declared.Version.the-variants.{Id3v22, Id3v23, Id3v24}
@@ -20,7 +20,7 @@ use Rattle.reader.specs.Reader.{readerAt, openOf}
 use Rattle.reader.specs.Headers.{isTag}
 use Rattle.reader.specs.declared.Reader.{Reader}
 use Rattle.reader.specs.declared.Opened.{Opened}
-use Rattle.reader.proofs.Refusals.{Begun, no-extended}
+use Rattle.reader.proofs.Refusals.{no-extended}
 use Rattle.meter.specs.Meter.{isMissing, meterAt, openedAs, meterOpenOf}
 use Rattle.meter.specs.Openings.{frontIf, frontOf}
 use Rattle.meter.specs.declared.opening.Front.{Front}

@@ -1,7 +1,6 @@
 -- `meter::Meter::run` meets its contract. Assumes nothing.
 use mathlib.Core.Path.{_≡_, refl, sym, ap, _∙_}
 use Prim.Native.Nat.{ℕ, _-_}
-use mathlib.Core.List.{List}
 use lib.ListN.{length}
 use borrow.Author.Needs.{needs}
 use Rattle.walk.specs.declared.passing.Met.{Met}
@@ -9,7 +8,6 @@ use Rattle.walk.specs.Passing.{passIn}
 use Rattle.reader.specs.declared.Stop.{Stop}
 use Rattle.meter.specs.Meter.{nextOf}
 use Rattle.meter.specs.Meets.{movedAs, metNext}
-use Rattle.meter.specs.declared.Meter.{Meter}
 use Rattle.meter.proofs.Meets.{Answer, Same, begins, goes-on, passed-less}
 use Rattle.meter.proofs.Meter.run.Statement.{statement}
 use Rattle.meter.proofs.Meter.run.Tie as tie

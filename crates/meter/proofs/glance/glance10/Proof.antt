@@ -1,7 +1,6 @@
 -- `meter::glance::glance10` meets its contract. Assumes nothing.
 use borrow.Author.Needs.{needs}
 use mathlib.Core.Path.{ap, _∙_}
-use Prim.Native.Nat.{ℕ}
 use native.Mathlib.Omega.{arith}
 use Rattle.meter.specs.Glances.{sizeBy}
 use Rattle.meter.proofs.Glances.{ten-end, ten-says, ten-says-flagged}

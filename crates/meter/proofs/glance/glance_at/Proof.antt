@@ -4,7 +4,7 @@ use mathlib.Core.Path.{sym, _∙_}
 use Prim.Native.Nat.{_-_}
 use native.Mathlib.Omega.{arith}
 use Rattle.format.specs.declared.Version.the-variants.{Id3v22}
-use Rattle.meter.specs.Glances.{is24, tenOf}
+use Rattle.meter.specs.Glances.{tenOf}
 use Rattle.meter.proofs.Glances.{says-none, says-from, is-22, is-ten}
 use Rattle.meter.proofs.glance.glance_at.Statement.{statement}
 use Rattle.meter.proofs.glance.glance_at.Tie as tie

@@ -8,7 +8,6 @@ use Prim.Native.Nat.{ℕ, _+_, _^_, _<_}
 use lib.ListN.{length}
 use lib.Seq.{slice}
 use Rattle.format.specs.Frame.{headLen}
-use Rattle.format.specs.declared.Version.{Version}
 use Rattle.walk.specs.Sources.{sourceOf}
 use Rattle.meter.specs.Glances.{Whole, Says}
 use Rattle.meter.specs.declared.glance.Glance.{Glance}

@@ -7,7 +7,6 @@ use Prim.Native.Nat.{ℕ}
 use Rattle.reader.specs.declared.Opened.{Opened}
 use Rattle.meter.specs.Meter.{meterAt}
 use Rattle.meter.proofs.Openings.{opens-any, opens-refused}
-use Rattle.reader.specs.declared.Reader.{Reader}
 use Rattle.meter.proofs.opening.open_any.Statement.{statement}
 use Rattle.meter.proofs.opening.open_any.Tie as tie
 
