@@ -21,13 +21,13 @@ pub enum Back {
 }
 
 // How long the tag is that was written, or the number of a refusal.
-pub enum Wrote {
+pub(crate) enum Wrote {
     Tag(usize),
     Refused(u8),
 }
 
 // The record that is the only one of a tag.
-pub enum Only {
+pub(crate) enum Only {
     One(Record),
     Other,
 }
@@ -47,8 +47,10 @@ pub fn there_and_back(
     rest: &[u8],
     deviations: &[u32],
 ) -> Back
-    ensures { λ q. ⌜ (q, (now (buffer .exit), (now (output .exit), now (work .exit)))) ≡ backOf version mode padding (recOf heading (now (name .entry)) (now (names .entry)) (now (rest .entry)) (now (deviations .entry))) (now (buffer .entry)) (now (output .entry)) (now (work .entry)) ⌝ }
-    ensures { λ q. ⌜ (wroteCount (writeOf version mode padding (recOf heading (now (name .entry)) (now (names .entry)) (now (rest .entry)) (now (deviations .entry))) (now (buffer .entry)) (now (output .entry)) .0) ≤ length (now (work .entry)) → Kept (recOf heading (now (name .entry)) (now (names .entry)) (now (rest .entry)) (now (deviations .entry))) q (now (output .exit)) (now (work .exit))) ⌝ }
+    ensures { λ q. ⌜ (let r = recOf heading (now (name .entry)) (now (names .entry)) (now (rest .entry)) (now (deviations .entry)) in
+        (q, (now (buffer .exit), (now (output .exit), now (work .exit)))) ≡ backOf version mode padding r (now (buffer .entry)) (now (output .entry)) (now (work .entry))) ⌝ }
+    ensures { λ q. ⌜ (let r = recOf heading (now (name .entry)) (now (names .entry)) (now (rest .entry)) (now (deviations .entry)) in
+        wroteCount (writeOf version mode padding r (now (buffer .entry)) (now (output .entry)) .0) ≤ length (now (work .entry)) → Kept r q (now (output .exit)) (now (work .exit))) ⌝ }
 {
     let wrote = write_one(
         buffer,

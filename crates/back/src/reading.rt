@@ -11,7 +11,8 @@ ghost use Rattle.back.specs.Trips.{onSecond, onFirst, readOf};
 
 // The record, where the next step meets the end.
 fn second(work: &mut [u8], tag: &[u8], reader: Reader, record: Record) -> Only
-    ensures { λ q. ⌜ (q, now (work .exit)) ≡ onSecond «record» (stepOf reader (now (tag .entry)) (now (work .entry)) .0) (stepOf reader (now (tag .entry)) (now (work .entry)) .1) ⌝ }
+    ensures { λ q. ⌜ (let o = stepOf reader (now (tag .entry)) (now (work .entry)) in
+        (q, now (work .exit)) ≡ onSecond «record» (o .0) (o .1)) ⌝ }
 {
     let step = reader.step(work, tag);
     match step {
@@ -23,7 +24,8 @@ fn second(work: &mut [u8], tag: &[u8], reader: Reader, record: Record) -> Only
 
 // The record that the next step shows, where the step behind it meets the end.
 fn first(work: &mut [u8], tag: &[u8], reader: Reader) -> Only
-    ensures { λ q. ⌜ (q, now (work .exit)) ≡ onFirst (now (tag .entry)) (stepOf reader (now (tag .entry)) (now (work .entry)) .0) (stepOf reader (now (tag .entry)) (now (work .entry)) .1) ⌝ }
+    ensures { λ q. ⌜ (let o = stepOf reader (now (tag .entry)) (now (work .entry)) in
+        (q, now (work .exit)) ≡ onFirst (now (tag .entry)) (o .0) (o .1)) ⌝ }
 {
     let step = reader.step(work, tag);
     match step {

@@ -23,7 +23,8 @@ fn add_one(
     rest: &[u8],
     deviations: &[u32],
 ) -> Wrote
-    ensures { λ q. ⌜ (q, (now (buffer .exit), now (output .exit))) ≡ onAdded padding (now (output .entry)) (addOf writer (recOf heading (now (name .entry)) (now (names .entry)) (now (rest .entry)) (now (deviations .entry))) (now (buffer .entry)) .0) (addOf writer (recOf heading (now (name .entry)) (now (names .entry)) (now (rest .entry)) (now (deviations .entry))) (now (buffer .entry)) .1) ⌝ }
+    ensures { λ q. ⌜ (let o = addOf writer (recOf heading (now (name .entry)) (now (names .entry)) (now (rest .entry)) (now (deviations .entry))) (now (buffer .entry)) in
+        (q, (now (buffer .exit), now (output .exit))) ≡ onAdded padding (now (output .entry)) (o .0) (o .1)) ⌝ }
     ensures { λ q. ⌜ FitsIn q (recOf heading (now (name .entry)) (now (names .entry)) (now (rest .entry)) (now (deviations .entry))) ⌝ }
 {
     let added = writer.add(buffer, heading, name, names, rest, deviations);
@@ -52,7 +53,8 @@ pub(crate) fn write_one(
     rest: &[u8],
     deviations: &[u32],
 ) -> Wrote
-    ensures { λ q. ⌜ (q, (now (buffer .exit), now (output .exit))) ≡ writeOf version mode padding (recOf heading (now (name .entry)) (now (names .entry)) (now (rest .entry)) (now (deviations .entry))) (now (buffer .entry)) (now (output .entry)) ⌝ }
+    ensures { λ q. ⌜ (let r = recOf heading (now (name .entry)) (now (names .entry)) (now (rest .entry)) (now (deviations .entry)) in
+        (q, (now (buffer .exit), now (output .exit))) ≡ writeOf version mode padding r (now (buffer .entry)) (now (output .entry))) ⌝ }
     ensures { λ q. ⌜ FitsIn q (recOf heading (now (name .entry)) (now (names .entry)) (now (rest .entry)) (now (deviations .entry))) ⌝ }
 {
     let begun = begin(version, mode, false);

@@ -47,13 +47,13 @@ module _ (v : Version) (w : Bool) (tag tag′ : List ℕ) (begin end begin′ en
         ∙ sym (slice-drop at′ k end′ (source w tag′ work′))
         ∙ ap (slice (at′ + k) end′) (sym (source-then w tag′ work′ left))
 
-    by : (x : Head) → headOf v 1 s ≡ x
+    by-head : (x : Head) → headOf v 1 s ≡ x
         → readFrom (suc n) tag (reader v w begin at end) work ≡ readFrom (suc n) tag′ (reader v w begin′ at′ end′) work′
-    by Head.Nothing e =
+    by-head Head.Nothing e =
         end-read v n begin at end tag work w e ∙ sym (end-read v n begin′ at′ end′ tag′ work′ w (sym (ap (headOf v 1) bytes) ∙ e))
-    by (Head.Refused k) e =
+    by-head (Head.Refused k) e =
         refused-read v n begin at end tag work w e ∙ sym (refused-read v n begin′ at′ end′ tag′ work′ w (sym (ap (headOf v 1) bytes) ∙ e))
-    by (Head.Found id c f short start len) e =
+    by-head (Head.Found id c f short start len) e =
         let k = start + len in
         let x = sightOf v s (roomOf w work) in
         let g = goOn n tag (reader v w begin (at + k) end) work in
@@ -66,7 +66,7 @@ module _ (v : Version) (w : Bool) (tag tag′ : List ℕ) (begin end begin′ en
   pub same-read : (n : ℕ) → Same n
   unfolding readFrom
   same-read zero at at′ work work′ bytes rooms = refl
-  same-read (suc n) at at′ work work′ bytes rooms = by n (same-read n) at at′ work work′ bytes rooms (headOf v 1 (slice at end (source w tag work))) refl
+  same-read (suc n) at at′ work work′ bytes rooms = by-head n (same-read n) at at′ work work′ bytes rooms (headOf v 1 (slice at end (source w tag work))) refl
 
 -- ---- a tag
 

@@ -42,11 +42,11 @@ openBy k whole v start end region work =
 -- a header that is refused
 opens-not : (tag work : List ℕ) → (headerRefusal tag ≡ 0 → ⊥) → openOf tag work ≡ (Opened.Refused (headerRefusal tag), work)
 unfolding openOf
-opens-not tag work ne = by _ (eqb (headerRefusal tag) 0) refl
+opens-not tag work ne = by-header _ (eqb (headerRefusal tag) 0) refl
   where
-    by : (o : Opened × List ℕ) (t : Bool) → eqb (headerRefusal tag) 0 ≡ t → pick (not t) (Opened.Refused (headerRefusal tag), work) o ≡ (Opened.Refused (headerRefusal tag), work)
-    by o true e = absurd (ne (eqb-true (headerRefusal tag) 0 e))
-    by o false e = refl
+    by-header : (o : Opened × List ℕ) (t : Bool) → eqb (headerRefusal tag) 0 ≡ t → pick (not t) (Opened.Refused (headerRefusal tag), work) o ≡ (Opened.Refused (headerRefusal tag), work)
+    by-header o true e = absurd (ne (eqb-true (headerRefusal tag) 0 e))
+    by-header o false e = refl
 
 -- the checks before the size of the extended header, and that one
 abbrev fiveChecks : List ℕ → List ℕ

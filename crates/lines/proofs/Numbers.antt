@@ -96,12 +96,12 @@ hex-length (x ∷ s) = omega (arith, pairs-length (x ∷ s))
 
 -- ---- an id's bytes
 
-pub three-bytes : (n : ℕ) → n / 65536 % 256 ∷ n / 256 % 256 ∷ n % 256 ∷ [] ≡ bytesOf 3 n
+pub three-bytes : (n : ℕ) → n / 0x1_0000 % 256 ∷ n / 256 % 256 ∷ n % 256 ∷ [] ≡ bytesOf 3 n
 unfolding digits
 three-bytes n =
     let e : n % 256 ≡ n / 1 % 256 = omega arith in
-    ap (λ (x : ℕ). n / 65536 % 256 ∷ n / 256 % 256 ∷ x ∷ []) e
+    ap (λ (x : ℕ). n / 0x1_0000 % 256 ∷ n / 256 % 256 ∷ x ∷ []) e
 
-pub four-bytes : (n : ℕ) → n / 16777216 % 256 ∷ n / 65536 % 256 ∷ n / 256 % 256 ∷ n % 256 ∷ [] ≡ bytesOf 4 n
+pub four-bytes : (n : ℕ) → n / 0x100_0000 % 256 ∷ n / 0x1_0000 % 256 ∷ n / 256 % 256 ∷ n % 256 ∷ [] ≡ bytesOf 4 n
 unfolding digits
-four-bytes n = ap (λ (l : List ℕ). n / 16777216 % 256 ∷ l) (three-bytes n)
+four-bytes n = ap (λ (l : List ℕ). n / 0x100_0000 % 256 ∷ l) (three-bytes n)

@@ -11,6 +11,9 @@ ghost use Rattle.format.specs.Ids.{idLen};
 ghost use Rattle.format.specs.Listing.{decimal, hexDigit, hexIn, hex, wordKind, wordShort, detail, tagLine, frameLine, endLine, refusedLine};
 ghost use Rattle.lines.specs.Placed.{placedOf, Room, Wrote, shown, bodyPart, counted};
 
+// With ten added to it the letter A, the first hexadecimal digit that is none of 0-9.
+const A_LESS_10: u8 = b'A' - 10;
+
 // The place behind a line that was put; or there was no room for all of it, and nothing is written.
 pub enum Placed {
     Upto(usize),
@@ -51,10 +54,10 @@ fn put_decimal(out: &mut [u8], at: usize, n: u64) -> usize
     ensures { λ r. ⌜ Wrote (now (out .entry)) at (decimal n) (now (out .exit)) r ⌝ }
 {
     if n < 10 {
-        return put_byte(out, at, 48 + n as u8);
+        return put_byte(out, at, b'0' + n as u8);
     }
     let next = put_decimal(out, at, n / 10);
-    put_byte(out, next, 48 + (n % 10) as u8)
+    put_byte(out, next, b'0' + (n % 10) as u8)
 }
 
 // A digit of sixteen, 0-9 and A-F.
@@ -62,7 +65,7 @@ fn hex_digit(d: u8) -> u8
     requires { ⌜ d < 16 ⌝ }
     ensures { λ r. ⌜ r ≡ hexDigit d ⌝ }
 {
-    if d < 10 { 48 + d } else { 55 + d }
+    if d < 10 { b'0' + d } else { A_LESS_10 + d }
 }
 
 // A byte in hexadecimal.
@@ -94,7 +97,7 @@ fn put_hex(out: &mut [u8], at: usize, bytes: &[u8]) -> usize
     ensures { λ r. ⌜ Wrote (now (out .entry)) at (hex (now (bytes .entry))) (now (out .exit)) r ⌝ }
 {
     if bytes.len() == 0 {
-        put_byte(out, at, 45)
+        put_byte(out, at, b'-')
     } else {
         put_pairs(out, at, bytes)
     }
@@ -115,10 +118,10 @@ fn put_id(out: &mut [u8], at: usize, version: Version, id: u32) -> usize
     ensures { λ r. ⌜ Wrote (now (out .entry)) at (bytesOf (idLen version) id) (now (out .exit)) r ⌝ }
 {
     let bytes = [
-        (id / 16777216 % 256) as u8,
-        (id / 65536 % 256) as u8,
-        (id / 256 % 256) as u8,
-        (id % 256) as u8,
+        (id / 0x100_0000 % 0x100) as u8,
+        (id / 0x1_0000 % 0x100) as u8,
+        (id / 0x100 % 0x100) as u8,
+        (id % 0x100) as u8,
     ];
     if let Version::Id3v22 = version {
         put(out, at, &bytes[1..])

@@ -72,8 +72,8 @@ module _ (r : Reader) (n at : ℕ) (tag work out : List ℕ) {x : Step} {w : Lis
     framed : _≡_ {A = Turned} (goOn r′ p, (w, o)) (turnOf r n at tag work out)
     framed = ap {B = Turned} (λ (q : PutLine). (goOn r′ (q .0), (w, q .1))) puts ∙ turned is
 
-    pub on : {q : ℕ} → p ≡ Placed.Upto q → _≡_ {A = Turned} (Turn.On q r′, (w, o)) (turnOf r n at tag work out)
-    on e = rw e at framed
+    pub turn-on : {q : ℕ} → p ≡ Placed.Upto q → _≡_ {A = Turned} (Turn.On q r′, (w, o)) (turnOf r n at tag work out)
+    turn-on e = rw e at framed
 
     pub full : p ≡ Placed.Full → _≡_ {A = Turned} (Turn.Done Placed.Full, (w, o)) (turnOf r n at tag work out)
     full e = rw e at framed
@@ -97,11 +97,11 @@ afterTurn go (Turn.On q r) w o = go q r w o
 -- no line follows
 alone : (t w work : List ℕ) (at : ℕ) (out : List ℕ) → putLines (line t w ∷ []) at work out ≡ (placedOf t at out .0, (w, placedOf t at out .1))
 unfolding putLines
-alone t w work at out = by (placedOf t at out .0) (placedOf t at out .1)
+alone t w work at out = by-placed (placedOf t at out .0) (placedOf t at out .1)
   where
-    by : (p : Placed) (o : List ℕ) → onPlaced (λ q s. putLines [] q w s) w p o ≡ (p, (w, o))
-    by (Placed.Upto q) o = refl
-    by Placed.Full o = refl
+    by-placed : (p : Placed) (o : List ℕ) → onPlaced (λ q s. putLines [] q w s) w p o ≡ (p, (w, o))
+    by-placed (Placed.Upto q) o = refl
+    by-placed Placed.Full o = refl
 
 module _ (f : ℕ) (tag : List ℕ) (r : Reader) (n : ℕ) (work : List ℕ) (at : ℕ) (out : List ℕ) where
   next : ℕ → Reader → List ℕ → List ℕ → Outcome
@@ -111,12 +111,12 @@ module _ (f : ℕ) (tag : List ℕ) (r : Reader) (n : ℕ) (work : List ℕ) (at
       → putLines (onStep (frameLines f tag) n tag x w) at work out
       ≡ (let t : Turned = turnAs x n at tag w out in afterTurn next (t .0) (t .1 .0) (t .1 .1))
   unfolding putLines afterTurn next
-  by-step (Step.Frame rec r′) w = by (placedOf (recordIn (r′ .version) n rec tag w) at out .0) (placedOf (recordIn (r′ .version) n rec tag w) at out .1)
+  by-step (Step.Frame rec r′) w = by-placed (placedOf (recordIn (r′ .version) n rec tag w) at out .0) (placedOf (recordIn (r′ .version) n rec tag w) at out .1)
     where
-      by : (p : Placed) (o : List ℕ)
+      by-placed : (p : Placed) (o : List ℕ)
           → onPlaced (λ q s. putLines (frameLines f tag r′ (n + 1) w) q w s) w p o ≡ afterTurn next (goOn r′ p) w o
-      by (Placed.Upto q) o = refl
-      by Placed.Full o = refl
+      by-placed (Placed.Upto q) o = refl
+      by-placed Placed.Full o = refl
   by-step (Step.End r′) w = alone (endLine n) w work at out
   by-step (Step.Refused k r′) w = alone (refusedLine k) w work at out
 
@@ -139,12 +139,12 @@ module _ (f : ℕ) (tag : List ℕ) (r : Reader) (n : ℕ) (work : List ℕ) (at
   -- the first step says what the work buffer is
   pub any-work : (work′ : List ℕ) → putLines (frameLines (suc f) tag r n work) at work′ out ≡ putLines (frameLines (suc f) tag r n work) at work out
   unfolding frameLines putLines
-  any-work work′ = by (stepOf r tag work .0) (stepOf r tag work .1)
+  any-work work′ = by-answer (stepOf r tag work .0) (stepOf r tag work .1)
     where
-      by : (x : Step) (w : List ℕ) → putLines (onStep (frameLines f tag) n tag x w) at work′ out ≡ putLines (onStep (frameLines f tag) n tag x w) at work out
-      by (Step.Frame rec r′) w = refl
-      by (Step.End r′) w = refl
-      by (Step.Refused k r′) w = refl
+      by-answer : (x : Step) (w : List ℕ) → putLines (onStep (frameLines f tag) n tag x w) at work′ out ≡ putLines (onStep (frameLines f tag) n tag x w) at work out
+      by-answer (Step.Frame rec r′) w = refl
+      by-answer (Step.End r′) w = refl
+      by-answer (Step.Refused k r′) w = refl
 
 -- frames are listed from r₀ on, and n of them are: r and at say where the listing goes on
 pub record Listing (tag work₀ out₀ : List ℕ) (at₀ : ℕ) (r₀ : Reader) (work out : List ℕ) (at : ℕ) (r : Reader) (n : ℕ) : Type 0 where
@@ -170,26 +170,26 @@ module _ {tag work₀ out₀ : List ℕ} {at₀ : ℕ} {r₀ : Reader} {work out
       sym (ap (λ (k : ℕ). putLines (frameLines k tag r n work) at work out) none) ∙ l .rest
 
   module _ (more : n < length tag) {t : Turn} {w o : List ℕ} (e : _≡_ {A = Turned} (t, (w, o)) (turnOf r n at tag work out)) where
-    left : ℕ
-    left = length tag - (n + 1)
+    steps-left : ℕ
+    steps-left = length tag - (n + 1)
 
-    from-here : putLines (frameLines (suc left) tag r n work) at work out ≡ putLines (frameLines (length tag) tag r₀ 0 work₀) at₀ work₀ out₀
-    unfolding left
+    from-here : putLines (frameLines (suc steps-left) tag r n work) at work out ≡ putLines (frameLines (length tag) tag r₀ 0 work₀) at₀ work₀ out₀
+    unfolding steps-left
     from-here =
         let one : suc (length tag - (n + 1)) ≡ length tag - n = omega arith in
         ap (λ (k : ℕ). putLines (frameLines k tag r n work) at work out) one ∙ l .rest
 
     pub last : {p : Placed} → t ≡ Turn.Done p → _≡_ {A = Outcome} (p, (w, o)) (putLines (frameLines (length tag) tag r₀ 0 work₀) at₀ work₀ out₀)
-    last is = done left tag r n work at out e is ∙ from-here
+    last is = done steps-left tag r n work at out e is ∙ from-here
 
     pub again : length w ≡ length work → length o ≡ length out → {q : ℕ} {r′ : Reader} → t ≡ Turn.On q r′
         → Listing tag work₀ out₀ at₀ r₀ w o q r′ (n + 1)
-    unfolding left
+    unfolding steps-left
     again works outs is = record {
       within = omega arith;
       works = works ∙ l .works;
       outs = outs ∙ l .outs;
-      rest = goes-on left tag r n work at out e is ∙ from-here;
+      rest = goes-on steps-left tag r n work at out e is ∙ from-here;
     }
 
 -- ---- a tag

@@ -34,17 +34,17 @@ none at out = record { behind = omega arith; bytes = refl; within = λ h. h }
 -- a line that was put
 placed : (t : List ℕ) (at : ℕ) (out : List ℕ) {p : ℕ} {o : List ℕ} → placedOf t at out ≡ (Placed.Upto p, o) → Holds t at out p o
 unfolding placedOf
-placed t at out {p} {o} e = by (leb (at + length t) (length out)) refl e
+placed t at out {p} {o} e = by-room (leb (at + length t) (length out)) refl e
   where
-    by : (b : Bool) → leb (at + length t) (length out) ≡ b
+    by-room : (b : Bool) → leb (at + length t) (length out) ≡ b
         → _≡_ {A = Placed × List ℕ} (pick b (Placed.Upto (at + length t), sets out at t) (Placed.Full, out)) (Placed.Upto p, o)
         → Holds t at out p o
-    by true is e =
+    by-room true is e =
         let q : Placed.Upto (at + length t) ≡ Placed.Upto p = ap (λ (x : Placed × List ℕ). x .0) e in
         let ends : p ≡ at + length t = cc in
         let same : o ≡ sets out at t = sym (ap (λ (x : Placed × List ℕ). x .1) e) in
         record { behind = ends; bytes = same; within = λ h. rw same (omega (arith, length-sets out at t, leb-true (at + length t) (length out) is)) }
-    by false is e =
+    by-room false is e =
         let q : Placed.Full ≡ Placed.Upto p = ap (λ (x : Placed × List ℕ). x .0) e in
         absurd (let z : _≡_ {A = ℕ} 0 1 = cc in omega arith)
 
@@ -56,13 +56,13 @@ holds [] at work out {q} {w} {o} e =
     let ends : q ≡ at = cc in
     let same : o ≡ out = sym (ap (λ (x : Outcome). x .1 .1) e) in
     rw (ends, same) (none at out)
-holds (l ∷ ls) at work out {q} {w} {o} e = by (placedOf (l .text) at out .0) (placedOf (l .text) at out .1) refl (λ p s d. holds ls p (l .work) s d) e
+holds (l ∷ ls) at work out {q} {w} {o} e = by-placed (placedOf (l .text) at out .0) (placedOf (l .text) at out .1) refl (λ p s d. holds ls p (l .work) s d) e
   where
-    by : (p : Placed) (s : List ℕ) → placedOf (l .text) at out ≡ (p, s)
+    by-placed : (p : Placed) (s : List ℕ) → placedOf (l .text) at out ≡ (p, s)
         → ((k : ℕ) (x : List ℕ) → putLines ls k (l .work) x ≡ (Placed.Upto q, (w, o)) → Holds (textOf ls) k x q o)
         → onPlaced (λ k x. putLines ls k (l .work) x) (l .work) p s ≡ (Placed.Upto q, (w, o)) → Holds (l .text ++ textOf ls) at out q o
-    by (Placed.Upto p) s put go e = join (placed (l .text) at out put) (go p s e)
-    by Placed.Full s put go e =
+    by-placed (Placed.Upto p) s put go e = join (placed (l .text) at out put) (go p s e)
+    by-placed Placed.Full s put go e =
         let p : Placed.Full ≡ Placed.Upto q = ap (λ (x : Outcome). x .0) e in
         absurd (let z : _≡_ {A = ℕ} 0 1 = cc in omega arith)
 

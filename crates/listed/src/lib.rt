@@ -1,6 +1,8 @@
 // The listing of a tag, line behind line in a lent buffer. What the lines are stands in specs/Lines.antt.
 use format::Record;
 use format::Version;
+use format::numbered::version_number;
+use format::small::least;
 use lines::Placed;
 use lines::end_line;
 use lines::frame_line;
@@ -14,36 +16,17 @@ use reader::Step;
 use reader::headers::header;
 use reader::opening::open;
 ghost use mathlib.Core.Path.{_≡_};
-ghost use Prim.Native.Nat.{_<_, min};
+ghost use Prim.Native.Nat.{_<_};
 ghost use lib.ListN.{length};
 ghost use Rattle.lines.specs.Placed.{placedOf};
 ghost use Rattle.reader.specs.Reader.{headerOf};
 ghost use Rattle.listed.specs.Lines.{recordLine, recordIn, openedLines, frameLines, linesOf};
 ghost use Rattle.listed.specs.Turns.{putLines, turnOf};
-ghost use Rattle.format.specs.Numbered.{versionNumber};
 
 // A listing goes on behind a frame's line, with the moved reader, or is done.
 enum Turn {
     Done(Placed),
     On(usize, Reader),
-}
-
-// The smaller number.
-fn least(a: usize, b: usize) -> usize
-    ensures { λ r. ⌜ r ≡ min a b ⌝ }
-{
-    if a < b { a } else { b }
-}
-
-// The number behind "2." of an edition.
-fn edition(version: Version) -> u8
-    ensures { λ r. ⌜ r ≡ versionNumber version ⌝ }
-{
-    match version {
-        Version::Id3v22 => 2,
-        Version::Id3v23 => 3,
-        Version::Id3v24 => 4,
-    }
 }
 
 // Puts the line of a record whose parts lie in s.
@@ -122,7 +105,8 @@ fn put_step(
 
 // Puts the lines of the frames from the reader's place on, and the last line. A tag has fewer frames than bytes.
 fn put_frames(work: &mut [u8], out: &mut [u8], tag: &[u8], at: usize, reader: Reader) -> Placed
-    ensures { λ r. ⌜ (r, (now (work .exit), now (out .exit))) ≡ putLines (frameLines (length (now (tag .entry))) (now (tag .entry)) reader 0 (now (work .entry))) at (now (work .entry)) (now (out .entry)) ⌝ }
+    ensures { λ r. ⌜ (let lines = frameLines (length (now (tag .entry))) (now (tag .entry)) reader 0 (now (work .entry)) in
+        (r, (now (work .exit), now (out .exit))) ≡ putLines lines at (now (work .entry)) (now (out .entry))) ⌝ }
 {
     let mut behind = at;
     let mut moved = reader;
@@ -143,7 +127,8 @@ fn put_frames(work: &mut [u8], out: &mut [u8], tag: &[u8], at: usize, reader: Re
 // Opens the tag and puts the lines behind its header's.
 fn put_opened(work: &mut [u8], out: &mut [u8], tag: &[u8], at: usize) -> Placed
     requires { ⌜ 0 < length (now tag) ⌝ }
-    ensures { λ r. ⌜ (r, (now (work .exit), now (out .exit))) ≡ putLines (openedLines (now (tag .entry)) (now (work .entry))) at (now (work .entry)) (now (out .entry)) ⌝ }
+    ensures { λ r. ⌜ (let lines = openedLines (now (tag .entry)) (now (work .entry)) in
+        (r, (now (work .exit), now (out .exit))) ≡ putLines lines at (now (work .entry)) (now (out .entry))) ⌝ }
 {
     match open(work, tag) {
         Opened::Ready(r) => put_frames(work, out, tag, at, r),
@@ -154,10 +139,11 @@ fn put_opened(work: &mut [u8], out: &mut [u8], tag: &[u8], at: usize) -> Placed
 // Puts the lines of the tag whose header is h.
 fn put_tag(work: &mut [u8], out: &mut [u8], tag: &[u8], h: Header) -> Placed
     requires { ⌜ headerOf (now tag) ≡ Headed.Found h ⌝ }
-    ensures { λ r. ⌜ (r, (now (work .exit), now (out .exit))) ≡ putLines (linesOf (now (tag .entry)) (now (work .entry))) 0 (now (work .entry)) (now (out .entry)) ⌝ }
+    ensures { λ r. ⌜ (let lines = linesOf (now (tag .entry)) (now (work .entry)) in
+        (r, (now (work .exit), now (out .exit))) ≡ putLines lines 0 (now (work .entry)) (now (out .entry))) ⌝ }
 {
     let version = h.version;
-    match tag_line(out, 0, edition(version), h.size, h.flags, h.ext) {
+    match tag_line(out, 0, version_number(version), h.size, h.flags, h.ext) {
         Placed::Upto(at) => put_opened(work, out, tag, at),
         Placed::Full => Placed::Full,
     }
@@ -166,7 +152,8 @@ fn put_tag(work: &mut [u8], out: &mut [u8], tag: &[u8], h: Header) -> Placed
 // Lists a tag: the header's line, one for each frame of the top level, and the last line, with the end or a refusal. They
 // are put one behind the other from the front of `out` on; where one has no room, the listing stops there.
 pub fn list(work: &mut [u8], out: &mut [u8], tag: &[u8]) -> Placed
-    ensures { λ r. ⌜ (r, (now (work .exit), now (out .exit))) ≡ putLines (linesOf (now (tag .entry)) (now (work .entry))) 0 (now (work .entry)) (now (out .entry)) ⌝ }
+    ensures { λ r. ⌜ (let lines = linesOf (now (tag .entry)) (now (work .entry)) in
+        (r, (now (work .exit), now (out .exit))) ≡ putLines lines 0 (now (work .entry)) (now (out .entry))) ⌝ }
 {
     match header(tag) {
         Headed::Found(h) => put_tag(work, out, tag, h),

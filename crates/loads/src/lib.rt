@@ -1,4 +1,8 @@
 // Numbers of several bytes, by one load where the bytes around them are there.
+use format::small::half;
+use format::small::least;
+use format::small::wide;
+use format::small::wide64;
 ghost use mathlib.Core.Path.{_≡_};
 ghost use mathlib.Core.Bool.{true};
 ghost use Prim.Native.Nat.{_+_, _-_, _*_, _/_, _%_, _^_, _≤_, _<_, min};
@@ -6,13 +10,6 @@ ghost use lib.ListN.{length, take};
 ghost use lib.Seq.{slice};
 ghost use Rattle.format.specs.Numbers.{number};
 ghost use Rattle.loads.specs.Loads.{Little, Near};
-
-// A byte as a wider number.
-fn wide(x: u8) -> u32
-    ensures { λ r. ⌜ (r ≡ x) × (r < 256) ⌝ }
-{
-    x as u32
-}
 
 // Four bytes from `at` on as one number, the first lowest: one load.
 fn little(s: &[u8], at: usize) -> u32
@@ -75,20 +72,6 @@ pub fn read32(s: &[u8], at: usize) -> u32
     read_whole(s, at)
 }
 
-// A byte as a number of 64 bits.
-fn wide64(x: u8) -> u64
-    ensures { λ r. ⌜ (r ≡ x) × (r < 256) ⌝ }
-{
-    x as u64
-}
-
-// A number of 32 bits as one of 64.
-fn half(x: u32) -> u64
-    ensures { λ r. ⌜ (r ≡ x) × (r < 0x100000000) ⌝ }
-{
-    x as u64
-}
-
 // The number that eight bytes from `at` on make: one load.
 fn read_eight(s: &[u8], at: usize) -> u64
     requires { ⌜ at + 8 ≤ length (now s) ⌝ }
@@ -128,18 +111,11 @@ fn read_some(s: &[u8], from: usize, to: usize, most: usize) -> u64
     n
 }
 
-// No more than eight.
-fn up_to_eight(n: usize) -> usize
-    ensures { λ r. ⌜ (r ≡ min n 8) × (r ≤ 8) ⌝ }
-{
-    if n < 8 { n } else { 8 }
-}
-
 // The same, of more than eight bytes the first eight.
 pub fn read_few(s: &[u8], from: usize, to: usize, most: usize) -> u64
     ensures { λ r. ⌜ (r ≡ number (take (min most 8) (slice from to (now (s .entry))))) × (r < 256 ^ min most 8) ⌝ }
 {
-    read_some(s, from, to, up_to_eight(most))
+    read_some(s, from, to, least(most, 8))
 }
 
 // Whether a part of a slice of `len` bytes has one to eight bytes, and eight bytes end where it ends.

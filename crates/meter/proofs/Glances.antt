@@ -1,20 +1,20 @@
 -- What a glance tells is so: laws of headers and bodies that are plain. Assumes nothing.
 use mathlib.Core.Path.{_≡_, refl, sym, ap, _∙_}
-use Prim.Native.Nat.{ℕ, suc, _+_, _-_, _*_, _/_, _%_, _^_, _≤_, _<_, min}
+use Prim.Native.Nat.{ℕ, _+_, _-_, _*_, _/_, _%_, _^_, _≤_, _<_, min}
 use native.Mathlib.Nat.{mod-eq-of-lt}
 use native.Mathlib.Omega.{arith}
 use mathlib.Core.Bool.{Bool, true, false}
 use mathlib.Core.List.{List, [], _∷_}
-use lib.ListN.{length, take, drop, getD}
+use lib.ListN.{length, take, getD}
 use lib.Seq.{slice, getD-drop, getD-take}
-use lib.Bits.{bitAnd, bitOr, and-high, and-block, or-zero-l}
+use lib.Bits.{bitAnd, and-high, and-block, or-zero-l}
 use lib.Dec.{ltb, eqb·suc-zero}
 use borrow.Author.Tests.{le-ltb, lt-ltb, lt-leb, ne-eqb}
 use Rattle.lists.proofs.Parts.{each-drop, each-take}
 use Rattle.lists.proofs.Cuts.{length-cut, take-drop}
-use Rattle.lists.proofs.Slices.{slice-none, slice-drop, take-drop-take}
+use Rattle.lists.proofs.Slices.{slice-drop, take-drop-take}
 use Rattle.format.specs.Bytes.{first, pick}
-use Rattle.format.specs.Numbers.{digits, onto, number, bytesOf, fromSynchsafe}
+use Rattle.format.specs.Numbers.{digits, number}
 use Rattle.format.specs.Unsynch.{resync, resynchronised}
 use Rattle.format.specs.Ids.{idLen, utf8From, isUtf8, kindOf}
 use Rattle.format.specs.Text.{textRefusal}

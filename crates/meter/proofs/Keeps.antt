@@ -27,8 +27,8 @@ Goes m (Next.End m′) = Moved m Stop.Ended m′
 Goes m (Next.Refused k m′) = Moved m (Stop.Failed k) m′
 
 module _ (m : Meter) (at frames : ℕ) (short compressed : Bool) where
-  by : (stop : Stop) → Moved m stop (movedAs at frames short compressed stop m)
-  by stop = record { at = at; frames = frames; short = short; compressed = compressed; same = refl }
+  moved-itself : (stop : Stop) → Moved m stop (movedAs at frames short compressed stop m)
+  moved-itself stop = record { at = at; frames = frames; short = short; compressed = compressed; same = refl }
 
   further : {stop : Stop} {m′ : Meter} → Moved (movedAs at frames short compressed Stop.Running m) stop m′ → Moved m stop m′
   further o = record { at = o .at; frames = o .frames; short = o .short; compressed = o .compressed; same = o .same }
@@ -43,13 +43,13 @@ module _ (tag : List ℕ) (go : Meter → List ℕ → Nexted) (m : Meter) (work
   met-goes : (met : Met) (left : List ℕ)
       → _≡_ {A = Met × List ℕ} (met, left) (passIn (m .reader .version) (m .reader .in_work) (m .reader .begin) (m .reader .at) (m .reader .end) tag work)
       → Goes m (metNext go m met left .0)
-  met-goes Met.Nothing left e = by m _ _ _ _ Stop.Ended
-  met-goes (Met.Refused k) left e = by m _ _ _ _ (Stop.Failed k)
+  met-goes Met.Nothing left e = moved-itself m _ _ _ _ Stop.Ended
+  met-goes (Met.Refused k) left e = moved-itself m _ _ _ _ (Stop.Failed k)
   met-goes (Met.Passed next short packed) left e =
       let r = m .reader in
       let m′ : Meter = movedAs next (oneMore (m .frames)) (m .short || short) (m .compressed || packed) Stop.Running m in
       goes-further m _ _ _ _ (go m′ left .0) (later m′ left refl (passed-less (r .version) (r .in_work) (r .begin) (r .at) (r .end) tag work next short packed e))
-  met-goes (Met.Popularimeter next inWork user rating counter) left e = by m _ _ _ _ Stop.Running
+  met-goes (Met.Popularimeter next inWork user rating counter) left e = moved-itself m _ _ _ _ Stop.Running
 
 goes-in : (n : ℕ) (m : Meter) (tag work : List ℕ) → leftOf (m .reader) < n → m .reader .stop ≡ Stop.Running → Goes m (nextOf m tag work .0)
 goes-in zero m tag work h is = absurd (omega arith)

@@ -2,8 +2,8 @@
 use mathlib.Core.Path.{_≡_, refl, sym, ap, _∙_}
 use Prim.Native.Nat.{ℕ, _+_, _-_, _≤_, _<_, min}
 use native.Mathlib.Omega.{arith}
-use mathlib.Core.Bool.{Bool, true, false, _&&_, _||_}
-use mathlib.Core.List.{List, [], _∷_}
+use mathlib.Core.Bool.{Bool, true, false, _||_}
+use mathlib.Core.List.{List, []}
 use lib.ListN.{length, take, drop}
 use lib.Seq.{slice}
 use lib.Dec.{ltb, eqb}
@@ -14,7 +14,7 @@ use Rattle.format.specs.Unsynch.{resynchronised}
 use Rattle.format.specs.Ids.{kindOf, kindNumber}
 use Rattle.format.specs.Frame.{headLen, headOf}
 use Rattle.format.specs.Record.{bodyRefusal, runOf, partsOf}
-use Rattle.format.specs.Walk.{Out, behind, shownKind, isResynced, insideOf, resyncedOf, bodyOf, walked, recordOf, shownOf, onShown, frameOf}
+use Rattle.format.specs.Walk.{Out, isResynced, insideOf, resyncedOf, bodyOf, walked, recordOf, onShown, frameOf}
 use Rattle.format.specs.declared.Version.{Version}
 use Rattle.format.specs.declared.Kind.{Kind}
 use Rattle.format.specs.declared.Fields.{Fields}
@@ -22,29 +22,27 @@ use Rattle.format.specs.declared.Head.{Head}
 use Rattle.format.specs.declared.Record.{Record}
 use Rattle.format.specs.declared.Shown.{Shown}
 use Rattle.format.proofs.Checks.{of-picked}
-use Rattle.format.proofs.Moves.{Moves, moves}
+use Rattle.format.proofs.Moves.{moves}
 use Rattle.frame.specs.declared.body.Parsed.{Parsed}
 use Rattle.frame.specs.Bodies.{parsedOf}
 use Rattle.unsynch.specs.declared.Put.{Put}
 use Rattle.unsynch.specs.Puts.{intoOf}
 use Rattle.walk.specs.declared.passing.Met.{Met}
 use Rattle.walk.specs.Sources.{sourceOf, frameIn}
-use Rattle.walk.specs.Passing.{isMeterId, metBy, metAs, passIn, readAs, passOf}
+use Rattle.walk.specs.Passing.{metBy, metAs, passIn, readAs, passOf}
 use Rattle.walk.proofs.Sources.{walk-none}
 use Rattle.walk.proofs.Onwards.{Here, here}
 use Rattle.walk.proofs.Passes.{pass-nothing, pass-body-refused, pass-over, pass-meter, pass-in-work, pass-apart}
-use Rattle.reader.specs.Reader.{answerOf, movedTo, Stepped, runStep, stepOf}
+use Rattle.reader.specs.Reader.{answerOf, movedTo, Stepped, stepOf}
 use Rattle.reader.specs.declared.Stop.{Stop}
-use Rattle.reader.specs.declared.Reader.{Reader}
-use Rattle.reader.specs.declared.Step.{Step}
+use Rattle.reader.proofs.Opens.{put-as}
 use Rattle.reader.proofs.Steps.{gone, running, ended, failed}
 use Rattle.meter.specs.declared.Meter.{Meter}
-use Rattle.meter.specs.declared.Metered.{Metered}
 use Rattle.meter.specs.declared.Next.{Next}
 use Rattle.meter.specs.declared.glance.Glance.{Glance}
-use Rattle.meter.specs.Meter.{oneMore, passedOver, meteredAs, meteredIn, Nexted, orOn, onStep, nextOf}
-use Rattle.meter.specs.Glances.{Passes, Whole, bodyIn, Says}
-use Rattle.meter.specs.Meets.{flaggedOf, movedAs, stoppedBy, metNext}
+use Rattle.meter.specs.Meter.{passedOver, meteredAs, Nexted, orOn, onStep, nextOf}
+use Rattle.meter.specs.Glances.{Passes, Whole, Says}
+use Rattle.meter.specs.Meets.{flaggedOf, movedAs, metNext}
 use Rattle.meter.proofs.Nexts.{next-eq}
 
 abbrev pub Answer : Type 0
@@ -52,9 +50,9 @@ Answer = Met × List ℕ
 
 -- ---- a glance at the frames' bytes, up to their end or to where the frames do
 
-pub told : (v : Version) (w : Bool) (at end last : ℕ) (s tag work : List ℕ) (g : Glance) → s ≡ sourceOf w work tag → last ≡ min end (length s)
+pub says-here : (v : Version) (w : Bool) (at end last : ℕ) (s tag work : List ℕ) (g : Glance) → s ≡ sourceOf w work tag → last ≡ min end (length s)
     → Says v (slice at last s) g → Says v (slice at end (sourceOf w work tag)) g
-told v w at end last s tag work g es el p = rw es at (rw (slice-cut at end last s el) at p)
+says-here v w at end last s tag work g es el p = rw es at (rw (slice-cut at end last s el) at p)
 
 -- ---- a body that passes
 
@@ -105,42 +103,31 @@ module _ (v : Version) (w : Bool) (begin at end : ℕ) (tag work : List ℕ) whe
       (λ room. pass-over v w begin at end bytes room h (kindOf v (says .0 .id)) false refl refl
       (sym (passes-inside v (kindOf v (says .0 .id)) (slice (at + headLen v) (at + headLen v + n) bytes) room body)) refl (passes-other (kindOf v (says .0 .id)) (slice (at + headLen v) (at + headLen v + n) bytes) body) false refl)
 
-  pub meets-meter : (n : ℕ) → Says v (slice at end bytes) (Glance.Meter n) → {met : Met} {parsed : Parsed}
-      → parsed ≡ parsedOf v Kind.Popularimeter (at + headLen v) (slice (at + headLen v) (at + headLen v + n) bytes)
-      → ((id place from len : ℕ) → met ≡ readAs v parsed (recordOf id false false place w from len) (at + headLen v + n))
+  pub meets-meter : (n : ℕ) → Says v (slice at end bytes) (Glance.Meter n) → {head : ℕ} → head ≡ headLen v → {s : List ℕ} → s ≡ bytes → {met : Met} {parsed : Parsed}
+      → parsed ≡ parsedOf v Kind.Popularimeter (at + head) (slice (at + head) (at + head + n) s)
+      → ((id place from len : ℕ) → met ≡ readAs v parsed (recordOf id false false place w from len) (at + head + n))
       → _≡_ {A = Answer} (met, work) (passIn v w begin at end tag work)
-  meets-meter n says {met} ep er =
+  meets-meter n says is-head is-source {met} {parsed} ep er =
       let h = found-here n false (says .0) in
+      let is : (id place from len : ℕ) → met ≡ readAs v parsed (recordOf id false false place w from len) (at + headLen v + n) = λ id place from len. rw is-head at (er id place from len) in
       in-place w refl met
-      (λ room. pass-meter v w begin at end bytes room h (kindOf v (says .0 .id)) false refl refl (rw (says .1)) refl ep (er _ _ _ _))
+      (λ room. pass-meter v w begin at end bytes room h (kindOf v (says .0 .id)) false refl refl (rw (says .1)) refl (rw (is-head, is-source) at ep) (is _ _ _ _))
 
 -- ---- a body put at the front of the room
 
-module _ (u : List ℕ) (next : ℕ) (room room′ : List ℕ) where
-  pub flagged-refused : {k : ℕ} → _≡_ {A = Put × List ℕ} (Put.Refused k, room′) (intoOf u room) → _≡_ {A = Answer} (Met.Refused k, room′) (flaggedOf u next room)
-  flagged-refused {k} e = by (ltb (length room) (length u)) e
-    where
-      by : (t : Bool) → _≡_ {A = Put × List ℕ} (Put.Refused k, room′) (pick t (Put.Refused 14, room) (Put.Bytes (length u), putFront u room))
-          → _≡_ {A = Answer} (Met.Refused k, room′) (pick t (Met.Refused 14, room) (Met.Passed next false false, putFront u room))
-      by true h =
-          let f : Put.Refused k ≡ Put.Refused 14 = ap (λ (o : Put × List ℕ). o .0) h in
-          let z : k ≡ 14 = cc in
-          rw (z, ap (λ (o : Put × List ℕ). o .1) h)
-      by false h = absurd (let f : Put.Refused k ≡ Put.Bytes (length u) = ap (λ (o : Put × List ℕ). o .0) h in let z : _≡_ {A = ℕ} 0 1 = cc in omega arith)
+abbrev metPut : ℕ → Put → Met
+metPut next (Put.Bytes n) = Met.Passed next false false
+metPut next (Put.Refused k) = Met.Refused k
 
-  pub flagged-put : {n : ℕ} → _≡_ {A = Put × List ℕ} (Put.Bytes n, room′) (intoOf u room) → _≡_ {A = Answer} (Met.Passed next false false, room′) (flaggedOf u next room)
-  flagged-put {n} e = by (ltb (length room) (length u)) e
-    where
-      by : (t : Bool) → _≡_ {A = Put × List ℕ} (Put.Bytes n, room′) (pick t (Put.Refused 14, room) (Put.Bytes (length u), putFront u room))
-          → _≡_ {A = Answer} (Met.Passed next false false, room′) (pick t (Met.Refused 14, room) (Met.Passed next false false, putFront u room))
-      by true h = absurd (let f : Put.Bytes n ≡ Put.Refused 14 = ap (λ (o : Put × List ℕ). o .0) h in let z : _≡_ {A = ℕ} 0 1 = cc in omega arith)
-      by false h = rw (ap (λ (o : Put × List ℕ). o .1) h)
+pub flagged-put : (u : List ℕ) (next : ℕ) (room : List ℕ) {put : Put} {left : List ℕ} → _≡_ {A = Put × List ℕ} (put, left) (intoOf u room)
+    → _≡_ {A = Answer} (metPut next put, left) (flaggedOf u next room)
+flagged-put u next room e = ap {B = Answer} (λ (o : Put × List ℕ). (metPut next (o .0), o .1)) e ∙ put-as (metPut next) u room
 
 -- a body that is resynchronised and then passes
 flagged-here : (v : Version) (begin at end : ℕ) (tag work : List ℕ) (n : ℕ) → Says v (slice at end tag) (Glance.Flagged n)
     → flaggedOf (resynchronised (slice (at + headLen v) (at + headLen v + n) tag)) (at + headLen v + n) work ≡ passIn v false begin at end tag work
 unfolding resyncedOf
-flagged-here v begin at end tag work n says = pass-apart v false begin at end tag work refl (by (ltb (length work) (length u)) refl)
+flagged-here v begin at end tag work n says = pass-apart v false begin at end tag work refl (by-room (ltb (length work) (length u)) refl)
   where
     h : Here v at end tag (says .0 .id) false true false (headLen v) n
     h = here v at end tag (says .0 .id) false true false (headLen v) n (sym (says .0 .head))
@@ -160,10 +147,10 @@ flagged-here v begin at end tag work n says = pass-apart v false begin at end ta
     put : ltb (length work) (length u) ≡ false → _≡_ {A = Out} (0, putFront u work) (resyncedOf (walked false v 2) kind u work)
     put e = rw (e, passes-inside v kind u (drop (length u) work) body)
 
-    by : (t : Bool) → ltb (length work) (length u) ≡ t
+    by-room : (t : Bool) → ltb (length work) (length u) ≡ t
         → _≡_ {A = Answer} (pick t (Met.Refused 14, work) (Met.Passed (at + headLen v + n) false false, putFront u work)) (passOf v false begin at (slice at end tag) work)
-    by true e = pass-body-refused v false begin at end tag work h kind true refl refl (full e) (λ z. omega arith)
-    by false e = pass-over v false begin at end tag work h kind true refl refl (put e) refl (passes-other kind u body) false refl
+    by-room true e = pass-body-refused v false begin at end tag work h kind true refl refl (full e) (λ z. omega arith)
+    by-room false e = pass-over v false begin at end tag work h kind true refl refl (put e) refl (passes-other kind u body) false refl
 
 pub meets-flagged : (v : Version) (w : Bool) (begin at end : ℕ) (tag work : List ℕ) (n : ℕ) → w ≡ false → Says v (slice at end (sourceOf w work tag)) (Glance.Flagged n)
     → {o : Answer} → o ≡ flaggedOf (resynchronised (slice (at + headLen v) (at + headLen v + n) tag)) (at + headLen v + n) work → o ≡ passIn v w begin at end tag work

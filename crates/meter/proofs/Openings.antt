@@ -2,24 +2,25 @@
 use mathlib.Core.Path.{_≡_, refl, sym, ap, _∙_}
 use Prim.Native.Nat.{ℕ, _+_, _-_, _*_, _/_, _%_, _≤_, _<_, min}
 use native.Mathlib.Omega.{arith}
-use mathlib.Core.Bool.{Bool, true, false, not, _&&_, and-false}
+use mathlib.Core.Bool.{Bool, true, false, and-false}
 use mathlib.Core.List.{List}
-use lib.ListN.{length, take, getD, length-take}
+use lib.ListN.{length, take, length-take}
 use lib.Seq.{slice}
-use lib.Dec.{ltb, leb, eqb}
+use lib.Dec.{ltb, eqb}
 use borrow.Author.Tests.{eqb-true, le-leb, lt-ltb, le-ltb, ltb-true, ltb-false}
-use Rattle.format.specs.Bytes.{pick, has, named}
+use Rattle.format.specs.Bytes.{pick}
 use Rattle.format.specs.Numbers.{number}
-use Rattle.format.specs.Header.{editionOf, flagsOf, sizeOf, versionOf, isWhole, cutOf, isExtended, extOf, headerRefusal, regionStart, regionEnd}
+use Rattle.format.specs.Header.{editionOf, flagsOf, sizeOf, versionOf, isWhole, cutOf, isExtended, extOf, headerRefusal}
+use Rattle.format.specs.Numbered.{isVersion}
 use Rattle.format.specs.declared.Version.{Version}
 use Rattle.format.specs.declared.Version.the-variants.{Id3v22, Id3v23, Id3v24}
 use Rattle.format.proofs.Numbers.{Digits}
 use Rattle.loads.proofs.Words.{number-four, first-three}
 use Rattle.reader.specs.Reader.{readerAt, openOf}
-use Rattle.reader.specs.Headers.{isTag, isKnown}
+use Rattle.reader.specs.Headers.{isTag}
 use Rattle.reader.specs.declared.Reader.{Reader}
 use Rattle.reader.specs.declared.Opened.{Opened}
-use Rattle.reader.proofs.Refusals.{Begun, no-extended}
+use Rattle.reader.proofs.Refusals.{no-extended}
 use Rattle.meter.specs.Meter.{isMissing, meterAt, openedAs, meterOpenOf}
 use Rattle.meter.specs.Openings.{frontIf, frontOf}
 use Rattle.meter.specs.declared.opening.Front.{Front}
@@ -32,11 +33,11 @@ pub missing-short : (tag : List ℕ) → length tag < 10 → true ≡ isMissing 
 missing-short tag h = sym (lt-ltb (length tag) (10 + sizeOf tag) (omega arith))
 
 missing-same : (a b : ℕ) → 10 ≤ a → ltb (a - 10) b ≡ ltb a (10 + b)
-missing-same a b h = by (ltb a (10 + b)) refl
+missing-same a b h = by-length (ltb a (10 + b)) refl
   where
-    by : (t : Bool) → ltb a (10 + b) ≡ t → ltb (a - 10) b ≡ t
-    by true e = lt-ltb (a - 10) b (omega (arith, ltb-true a (10 + b) e))
-    by false e = le-ltb (a - 10) b (omega (arith, ltb-false a (10 + b) e))
+    by-length : (t : Bool) → ltb a (10 + b) ≡ t → ltb (a - 10) b ≡ t
+    by-length true e = lt-ltb (a - 10) b (omega (arith, ltb-true a (10 + b) e))
+    by-length false e = le-ltb (a - 10) b (omega (arith, ltb-false a (10 + b) e))
 
 pub missing-long : (tag : List ℕ) {size : ℕ} → 10 ≤ length tag → size ≡ sizeOf tag → ltb (length tag - 10) size ≡ isMissing tag
 missing-long tag h e = rw e (missing-same (length tag) (sizeOf tag) h)
@@ -45,12 +46,12 @@ missing-long tag h e = rw e (missing-same (length tag) (sizeOf tag) h)
 
 record Plain (tag : List ℕ) (v : Version) : Type 0 where
   edition : versionOf (editionOf tag) ≡ v
-  known : isKnown (editionOf tag) ≡ true
+  known : isVersion (editionOf tag) ≡ true
   clear : eqb (flagsOf tag % 16) 0 ≡ true
   short : isExtended tag ≡ false
   apart : isWhole tag ≡ false
 
-none-plain : (tag : List ℕ) (e : ℕ) (v : Version) → editionOf tag ≡ e → versionOf e ≡ v → isKnown e ≡ true → flagsOf tag ≡ 0 → Plain tag v
+none-plain : (tag : List ℕ) (e : ℕ) (v : Version) → editionOf tag ≡ e → versionOf e ≡ v → isVersion e ≡ true → flagsOf tag ≡ 0 → Plain tag v
 none-plain tag e v is is-v is-known f =
     record { edition = rw is is-v; known = rw is is-known; clear = rw f; short = rw f; apart = rw f }
 
@@ -93,7 +94,7 @@ module _ (tag : List ℕ) (bytes : Digits 256 tag) (long : 10 ≤ length tag) wh
     abbrev Begins : Version → Type 0
     Begins v = (isTag tag ≡ true) × Plain tag v
 
-    begins-with : (e : ℕ) (v : Version) → e < 256 → front ≡ 0x49_4433 * 256 + e → versionOf e ≡ v → isKnown e ≡ true → flags ≡ 0 → Begins v
+    begins-with : (e : ℕ) (v : Version) → e < 256 → front ≡ 0x49_4433 * 256 + e → versionOf e ≡ v → isVersion e ≡ true → flags ≡ 0 → Begins v
     begins-with e v h is is-v is-known f =
         let first = sym is-front ∙ is in
         (begins e h first, none-plain tag e v (edition-of e h first) is-v is-known (sym is-flags ∙ f))

@@ -11,9 +11,12 @@ ghost use lib.ListN.{length};
 ghost use lib.Seq.{slice};
 ghost use Rattle.meter.specs.Glances.{is22, is24, tenOf, sizeBy, Sorted, withFlag, Says};
 
+// The 2.4 frame flag for unsynchronised bytes.
+const UNSYNCHRONISED: u8 = 0x02;
+
 // What a glance tells: nothing, the end, or a whole frame with so many bytes of body, which is passed, is passed once it
 // is resynchronised, or is a popularimeter.
-pub enum Glance {
+pub(crate) enum Glance {
     Unclear,
     End,
     Plain(usize),
@@ -91,7 +94,7 @@ fn glance10(s: &[u8], at: usize, left: usize, v4: bool) -> Glance
     if flags == 0 {
         return by_kind(s, kind_of(Version::Id3v24, id), at + 10, size);
     }
-    if flags == 2 {
+    if flags == UNSYNCHRONISED {
         if v4 {
             return with_flag(by_kind(s, kind_of(Version::Id3v24, id), at + 10, size));
         }

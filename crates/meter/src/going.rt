@@ -5,6 +5,8 @@ use crate::Next;
 use crate::glance::Glance;
 use crate::glance::glance_at;
 use format::Version;
+use format::numbered::head_len;
+use format::small::least;
 use frame::popularimeter::parse;
 use reader::Reader;
 use reader::Stop;
@@ -17,37 +19,18 @@ use walk::passing::read_as;
 use walk::record::source;
 ghost use mathlib.Core.Path.{_≡_};
 ghost use mathlib.Core.Bool.{false};
-ghost use Prim.Native.Nat.{ℕ, _≤_, min};
+ghost use Prim.Native.Nat.{ℕ};
 ghost use lib.Seq.{slice};
 ghost use Rattle.format.specs.Unsynch.{resynchronised};
-ghost use Rattle.format.specs.Frame.{headLen};
 ghost use Rattle.walk.specs.Passing.{passIn};
 ghost use Rattle.meter.specs.Meter.{oneMore, nextOf};
 ghost use Rattle.meter.specs.Meets.{flaggedOf, movedAs};
-
-// The smaller of two numbers.
-pub(crate) fn least(a: usize, b: usize) -> usize
-    ensures { λ r. ⌜ r ≡ min a b ⌝ }
-{
-    if a < b { a } else { b }
-}
 
 // One more, or 0 behind the largest.
 fn one_more(n: u64) -> u64
     ensures { λ r. ⌜ r ≡ oneMore n ⌝ }
 {
     wrapping_add_u64(n, 1)
-}
-
-// How many bytes a frame's header has.
-fn head_len(version: Version) -> usize
-    ensures { λ r. ⌜ (r ≡ headLen version) × (r ≤ 10) ⌝ }
-{
-    match version {
-        Version::Id3v22 => 6,
-        Version::Id3v23 => 10,
-        Version::Id3v24 => 10,
-    }
 }
 
 // A frame that is passed over, with nothing to mark.

@@ -1,8 +1,8 @@
 // Opening a meter.
 use crate::Meter;
 use crate::MeterOpened;
-use crate::going::least;
 use format::Version;
+use format::small::least;
 use loads::read32;
 use reader::Opened;
 use reader::Reader;

@@ -248,8 +248,8 @@ all-kept v [] = refl
 all-kept v (r ∷ rs) = ap (λ (l : List Rec). r ∷ l) (all-kept v rs)
 
 -- with the mark off
-pub told : (version mode padding : ℕ) (rs : List Rec) (tag : List ℕ) (w : Written version mode padding rs tag)
+pub told-written : (version mode padding : ℕ) (rs : List Rec) (tag : List ℕ) (w : Written version mode padding rs tag)
     → Told version mode padding rs tag (finishedCount (finishOf (w .last) padding (w .collected) (w .output) .0))
-told version mode padding rs tag w =
+told-written version mode padding rs tag w =
     subst (λ (l : List Rec). Told version mode padding l tag (finishedCount (finishOf (w .last) padding (w .collected) (w .output) .0)))
     (all-kept (versionOf version) rs) (told-as version mode false padding rs tag w)

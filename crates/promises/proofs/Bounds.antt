@@ -1,102 +1,55 @@
 -- Any bytes: few frames, every reading ends, and a reader that stopped stays stopped. Assumes nothing.
-use mathlib.Core.Path.{_≡_, refl, sym, ap, _∙_}
-use Prim.Native.Nat.{ℕ, zero, suc, _+_, _*_, _-_, _≤_, min}
+use mathlib.Core.Path.{_≡_, refl, sym, ap, subst}
+use Prim.Native.Nat.{ℕ, zero, suc, _+_, _*_, _≤_}
 use native.Mathlib.Omega.{arith}
 use mathlib.Core.Bool.{Bool, true, false, not}
 use mathlib.Core.List.{List, []}
-use lib.ListN.{length, take, length-take, length-drop}
+use lib.ListN.{length, length-take}
 use lib.Seq.{slice}
-use lib.Dec.{ltb, leb, eqb}
-use borrow.Author.Tests.{eqb-true, leb-true, not-false}
-use Rattle.lists.proofs.Bools.{and-true}
-use Rattle.format.specs.Bytes.{pick, putFront, named}
-use Rattle.format.specs.Numbers.{number}
+use lib.Dec.{ltb, eqb}
+use borrow.Author.Tests.{eqb-true, not-false}
+use Rattle.lists.proofs.Cuts.{length-cut}
+use Rattle.format.specs.Bytes.{pick, putFront}
 use Rattle.format.specs.Unsynch.{resynchronised}
 use Rattle.format.specs.Header.{versionOf, editionOf, headerRefusal, isWhole, sizeOf, regionStart, regionEnd, regionOf}
 use Rattle.format.specs.Walk.{frameOf}
 use Rattle.format.specs.declared.Version.{Version}
 use Rattle.format.specs.declared.Record.{Record}
 use Rattle.format.specs.declared.Shown.{Shown}
-use Rattle.format.proofs.Checks.{of-picked, none-else, first-none}
+use Rattle.format.proofs.Checks.{of-picked}
 use Rattle.format.proofs.Unsynch.{resync-shorter}
-use Rattle.format.proofs.Moves.{Moves, moves}
-use Rattle.reader.specs.Reader.{readerAt, openWhole, openOf, answerOf, movedTo, runStep, stepAs, stepOf}
+use Rattle.walk.specs.Sources.{sourceOf}
+use Rattle.reader.specs.Reader.{readerAt, openWhole, openOf, answerOf, runStep, stepAs, stepOf}
 use Rattle.reader.specs.Answers.{stepNumber, stepRecord, stepReader}
 use Rattle.reader.specs.declared.Stop.{Stop}
 use Rattle.reader.specs.declared.Reader.{Reader}
 use Rattle.reader.specs.declared.Opened.{Opened}
 use Rattle.reader.specs.declared.Step.{Step}
+use Rattle.reader.proofs.Refusals.{accepted}
+use Rattle.reader.proofs.Steps.{ended, failed, answered, answered-moves}
 use Rattle.promises.specs.Reading.{refused, unfinished, endingOf, Reading, onStep, readFrom, onOpen, readFor}
 use Rattle.promises.specs.Promises.{FewFrames, Finishes, Stays, StaysRefused, StaysEnded}
 
 -- ---- how many bytes a reader has before it
 
 -- in the work buffer or in the tag
-abbrev pub aheadIn : Bool → Reader → List ℕ → List ℕ → ℕ
-aheadIn inWork r tag work = length (slice (r .at) (r .end) (pick inWork work tag))
-
 abbrev pub ahead : Reader → List ℕ → List ℕ → ℕ
-ahead r tag work = aheadIn (r .in_work) r tag work
-
-length-slice : (from to : ℕ) (s : List ℕ) → length (slice from to s) ≡ min to (length s) - from
-length-slice from to s = simp (length-drop, length-take)
-
--- behind a frame at least six bytes fewer
-fewer : (at end next : ℕ) (s : List ℕ) → Moves at (length (slice at end s)) next → length (slice next end s) + 6 ≤ length (slice at end s)
-fewer at end next s m = omega (arith, m .six, m .within, length-slice at end s, length-slice next end s)
+ahead r tag work = length (slice (r .at) (r .end) (sourceOf (r .in_work) work tag))
 
 -- ---- a step
 
--- what a running reader finds
-abbrev shown : Bool → Reader → List ℕ → List ℕ → Shown
-shown false r tag work = frameOf (r .version) false (r .begin) (r .at) (slice (r .at) (r .end) tag) work .0
-shown true r tag work = frameOf (r .version) true (r .begin) (r .at) (slice (r .at) (r .end) work) [] .0
+module _ (r : Reader) (tag work : List ℕ) (rec : Record) (r′ : Reader) (e : stepOf r tag work .0 ≡ Step.Frame rec r′) where
+  -- A frame takes at least six of the bytes before the reader.
+  pub step-ahead : ahead r′ tag (stepOf r tag work .1) + 6 ≤ ahead r tag work
+  step-ahead =
+      let a = answered r tag work rec r′ e in
+      let m = answered-moves r tag work rec r′ e in
+      let s = sourceOf (r .in_work) work tag in
+      rw (a .moved, a .same) (omega (arith, m .six, m .within, length-cut (r .at) (r .end) s, length-cut (a .next) (r .end) s))
 
-shows : (t : Bool) (r : Reader) (tag work : List ℕ) → runStep t r tag work .0 ≡ answerOf (shown t r tag work) r
-shows false r tag work = refl
-shows true r tag work = refl
-
--- a frame is answered: the reader is the same but for its place
-frame-shown : (o : Shown) (r : Reader) (rec : Record) (r′ : Reader) → answerOf o r ≡ Step.Frame rec r′
-    → (next : ℕ) × ((o ≡ Shown.Frame rec next) × (r′ ≡ movedTo next r))
-frame-shown Shown.Nothing r rec r′ e = absurd (let z : _≡_ {A = ℕ} 0 1 = cc in omega arith)
-frame-shown (Shown.Refused k) r rec r′ e = absurd (let z : _≡_ {A = ℕ} 0 1 = cc in omega arith)
-frame-shown (Shown.Frame rec′ next) r rec r′ e = (next, (cc, cc))
-
-run-ahead : (t : Bool) (r : Reader) (tag work : List ℕ) (rec : Record) (r′ : Reader) → runStep t r tag work .0 ≡ Step.Frame rec r′
-    → (r′ .in_work ≡ r .in_work) × (aheadIn t r′ tag (runStep t r tag work .1) + 6 ≤ aheadIn t r tag work)
-run-ahead false r tag work rec r′ e =
-    let m = frame-shown (shown false r tag work) r rec r′ e in
-    rw (m .1 .1) (refl, fewer (r .at) (r .end) (m .0) tag (moves (r .version) false (r .begin) (r .at) (slice (r .at) (r .end) tag) work (m .1 .0)))
-run-ahead true r tag work rec r′ e =
-    let m = frame-shown (shown true r tag work) r rec r′ e in
-    rw (m .1 .1) (refl, fewer (r .at) (r .end) (m .0) work (moves (r .version) true (r .begin) (r .at) (slice (r .at) (r .end) work) [] (m .1 .0)))
-
-stop-ahead : (x : Stop) (r : Reader) (tag work : List ℕ) (rec : Record) (r′ : Reader) → stepAs x r tag work .0 ≡ Step.Frame rec r′
-    → ahead r′ tag (stepAs x r tag work .1) + 6 ≤ ahead r tag work
-stop-ahead Stop.Running r tag work rec r′ e =
-    let a = run-ahead (r .in_work) r tag work rec r′ e in
-    rw (a .0) (a .1)
-stop-ahead Stop.Ended r tag work rec r′ e = absurd (let z : _≡_ {A = ℕ} 0 1 = cc in omega arith)
-stop-ahead (Stop.Failed k) r tag work rec r′ e = absurd (let z : _≡_ {A = ℕ} 0 1 = cc in omega arith)
-
--- A frame takes at least six of the bytes before the reader.
-pub step-ahead : (r : Reader) (tag work : List ℕ) (rec : Record) (r′ : Reader) → stepOf r tag work .0 ≡ Step.Frame rec r′
-    → ahead r′ tag (stepOf r tag work .1) + 6 ≤ ahead r tag work
-unfolding stepOf
-step-ahead r tag work rec r′ e = stop-ahead (r .stop) r tag work rec r′ e
-
-stop-version : (x : Stop) (r : Reader) (tag work : List ℕ) (rec : Record) (r′ : Reader) → stepAs x r tag work .0 ≡ Step.Frame rec r′ → r′ .version ≡ r .version
-stop-version Stop.Running r tag work rec r′ e =
-    let m = frame-shown (shown (r .in_work) r tag work) r rec r′ (sym (shows (r .in_work) r tag work) ∙ e) in
-    ap (λ (x : Reader). x .version) (m .1 .1)
-stop-version Stop.Ended r tag work rec r′ e = cc
-stop-version (Stop.Failed k) r tag work rec r′ e = cc
-
--- The edition stays.
-pub step-version : (r : Reader) (tag work : List ℕ) (rec : Record) (r′ : Reader) → stepOf r tag work .0 ≡ Step.Frame rec r′ → r′ .version ≡ r .version
-unfolding stepOf
-step-version r tag work rec r′ e = stop-version (r .stop) r tag work rec r′ e
+  -- The edition stays.
+  pub step-version : r′ .version ≡ r .version
+  step-version = ap (λ (x : Reader). x .version) (answered r tag work rec r′ e .moved)
 
 -- ---- any number of steps
 
@@ -129,57 +82,57 @@ from-bounded (suc n) tag r work = step-bounded n tag r work (from-bounded n tag)
 
 -- ---- opening
 
--- a tag that is not refused has its ten bytes
-ten-there : (tag : List ℕ) → headerRefusal tag ≡ 0 → 10 ≤ length tag
-unfolding headerRefusal
-ten-there tag e =
-    let t = and-true (leb 10 (length tag)) (eqb (number (take 3 tag)) (named "ID3")) (none-else _ 0 (first-none _ _ e .0)) in
-    leb-true 10 (length tag) (t .0)
+-- a reader that was opened has at least ten bytes fewer before it than the tag has, and they end with the tag
+pub record Within (tag : List ℕ) (r : Reader) (bytes : ℕ) : Type 0 where
+  pub few : bytes + 10 ≤ length tag
+  pub place : r .at + bytes ≤ length tag
 
--- and the region lies behind them
-region-short : (tag : List ℕ) → 10 ≤ length tag → length (regionOf tag) + 10 ≤ length tag
-region-short tag h =
-    omega (arith, length-slice (regionStart tag) (regionEnd tag) tag, length-take (10 + sizeOf tag) tag)
+abbrev pub Opens : List ℕ → Opened × List ℕ → Type 0
+Opens tag o = (r : Reader) → o .0 ≡ Opened.Ready r → Within tag r (ahead r tag (o .1))
 
--- a reader that was opened has at least ten bytes fewer before it than the tag has
-abbrev pub Within : List ℕ → Opened × List ℕ → Type 0
-Within tag o = (r : Reader) → o .0 ≡ Opened.Ready r → ahead r tag (o .1) + 10 ≤ length tag
+refused-opens : (tag work : List ℕ) (k : ℕ) → Opens tag (Opened.Refused k, work)
+refused-opens tag work k r e = absurd (let z : _≡_ {A = ℕ} 0 1 = cc in omega arith)
 
-refused-within : (tag work : List ℕ) (k : ℕ) → Within tag (Opened.Refused k, work)
-refused-within tag work k r e = absurd (let z : _≡_ {A = ℕ} 0 1 = cc in omega arith)
+ready-opens : (tag work : List ℕ) (r : Reader) → Within tag r (ahead r tag work) → Opens tag (Opened.Ready r, work)
+ready-opens tag work r h r′ e = let q : r′ ≡ r = cc in rw q h
 
-ready-within : (tag work : List ℕ) (r : Reader) → ahead r tag work + 10 ≤ length tag → Within tag (Opened.Ready r, work)
-ready-within tag work r h r′ e = let q : r′ ≡ r = cc in rw q h
-
-whole-within : (v : Version) (u tag work : List ℕ) → length u + 10 ≤ length tag → Within tag (openWhole v u work)
+whole-opens : (v : Version) (u tag work : List ℕ) → length u + 10 ≤ length tag → Opens tag (openWhole v u work)
 unfolding openWhole
-whole-within v u tag work h =
-    of-picked (Within tag) (ltb (length work) (length u))
-    (λ t. refused-within tag work 14)
-    (λ t. ready-within tag (putFront u work) (readerAt v true 0 (length u)) (omega (arith, length-slice 0 (length u) (putFront u work))))
+whole-opens v u tag work h =
+    let n = length-cut 0 (length u) (putFront u work) in
+    of-picked (Opens tag) (ltb (length work) (length u))
+    (λ t. refused-opens tag work 14)
+    (λ t. ready-opens tag (putFront u work) (readerAt v true 0 (length u)) (record { few = omega (arith, n); place = omega (arith, n) }))
 
-pub open-within : (tag work : List ℕ) → Within tag (openOf tag work)
+module _ (tag : List ℕ) (ten : 10 ≤ length tag) where
+  region-few : length (regionOf tag) + 10 ≤ length tag
+  region-few = omega (arith, length-cut (regionStart tag) (regionEnd tag) tag, length-take (10 + sizeOf tag) tag)
+
+  region-place : regionStart tag + length (regionOf tag) ≤ length tag
+  region-place = omega (arith, length-cut (regionStart tag) (regionEnd tag) tag, length-take (10 + sizeOf tag) tag)
+
+  region-opens : (work : List ℕ)
+      → Opens tag
+      (pick (isWhole tag) (openWhole (versionOf (editionOf tag)) (resynchronised (regionOf tag)) work)
+      (Opened.Ready (readerAt (versionOf (editionOf tag)) false (regionStart tag) (regionEnd tag)), work))
+  region-opens work =
+      of-picked (Opens tag) (isWhole tag)
+      (λ t. whole-opens (versionOf (editionOf tag)) (resynchronised (regionOf tag)) tag work (omega (arith, resync-shorter false (regionOf tag), region-few)))
+      (λ t. ready-opens tag work (readerAt (versionOf (editionOf tag)) false (regionStart tag) (regionEnd tag)) (record { few = region-few; place = region-place }))
+
+pub open-within : (tag work : List ℕ) → Opens tag (openOf tag work)
 unfolding openOf
 open-within tag work =
-    of-picked (Within tag) (not (eqb (headerRefusal tag) 0))
-    (λ t. refused-within tag work (headerRefusal tag))
-    (λ t. frames-within (ten-there tag (eqb-true _ _ (not-false _ t))))
-  where
-    frames-within : 10 ≤ length tag
-        → Within tag
-        (pick (isWhole tag) (openWhole (versionOf (editionOf tag)) (resynchronised (regionOf tag)) work)
-        (Opened.Ready (readerAt (versionOf (editionOf tag)) false (regionStart tag) (regionEnd tag)), work))
-    frames-within h =
-        of-picked (Within tag) (isWhole tag)
-        (λ t. whole-within (versionOf (editionOf tag)) (resynchronised (regionOf tag)) tag work (omega (arith, resync-shorter false (regionOf tag), region-short tag h)))
-        (λ t. ready-within tag work (readerAt (versionOf (editionOf tag)) false (regionStart tag) (regionEnd tag)) (region-short tag h))
+    of-picked (Opens tag) (not (eqb (headerRefusal tag) 0))
+    (λ t. refused-opens tag work (headerRefusal tag))
+    (λ t. region-opens tag (accepted tag (eqb-true _ _ (not-false _ t)) .begun) work)
 
 -- ---- the promises
 
-open-bounded : (n : ℕ) (tag : List ℕ) (o : Opened) (work : List ℕ) → Within tag (o, work) → Bounded n 10 (onOpen n tag o work) (length tag)
+open-bounded : (n : ℕ) (tag : List ℕ) (o : Opened) (work : List ℕ) → Opens tag (o, work) → Bounded n 10 (onOpen n tag o work) (length tag)
 open-bounded n tag (Opened.Ready r) work h =
     let b = from-bounded n tag r work in
-    let w = h r refl in
+    let w = h r refl .few in
     record { few = omega (arith, b .few); long = λ u. omega (arith, b .long u) }
 open-bounded n tag (Opened.Refused k) work h = record { few = omega arith; long = λ u. absurd (refused-not k u) }
 
@@ -197,38 +150,37 @@ finishes tag work e =
 
 -- ---- a reader that stopped
 
-shown-refused : (o : Shown) (r : Reader) (k : ℕ) (r′ : Reader) → answerOf o r ≡ Step.Refused k r′ → r′ .stop ≡ Stop.Failed k
-shown-refused Shown.Nothing r k r′ e = cc
-shown-refused (Shown.Refused j) r k r′ e = cc
-shown-refused (Shown.Frame rec next) r k r′ e = cc
+-- a step without a record leaves a reader that stopped as it answers
+abbrev Stopped : Step → Type 0
+Stopped (Step.Frame rec r′) = Unit {0}
+Stopped (Step.End r′) = r′ .stop ≡ Stop.Ended
+Stopped (Step.Refused k r′) = r′ .stop ≡ Stop.Failed k
 
-shown-end : (o : Shown) (r r′ : Reader) → answerOf o r ≡ Step.End r′ → r′ .stop ≡ Stop.Ended
-shown-end Shown.Nothing r r′ e = cc
-shown-end (Shown.Refused j) r r′ e = cc
-shown-end (Shown.Frame rec next) r r′ e = cc
+shown-stopped : (o : Shown) (r : Reader) → Stopped (answerOf o r)
+shown-stopped Shown.Nothing r = refl
+shown-stopped (Shown.Refused k) r = refl
+shown-stopped (Shown.Frame rec next) r = tt {0}
 
-step-refused : (x : Stop) (r : Reader) (tag work : List ℕ) (k : ℕ) (r′ : Reader) → r .stop ≡ x → stepAs x r tag work .0 ≡ Step.Refused k r′
-    → r′ .stop ≡ Stop.Failed k
-step-refused Stop.Running r tag work k r′ h e =
-    shown-refused (shown (r .in_work) r tag work) r k r′ (sym (shows (r .in_work) r tag work) ∙ e)
-step-refused Stop.Ended r tag work k r′ h e = cc
-step-refused (Stop.Failed j) r tag work k r′ h e = cc
+run-stopped : (w : Bool) (r : Reader) (tag work : List ℕ) → Stopped (runStep w r tag work .0)
+run-stopped false r tag work = shown-stopped (frameOf (r .version) false (r .begin) (r .at) (slice (r .at) (r .end) tag) work .0) r
+run-stopped true r tag work = shown-stopped (frameOf (r .version) true (r .begin) (r .at) (slice (r .at) (r .end) work) [] .0) r
 
-step-end : (x : Stop) (r : Reader) (tag work : List ℕ) (r′ : Reader) → r .stop ≡ x → stepAs x r tag work .0 ≡ Step.End r′ → r′ .stop ≡ Stop.Ended
-step-end Stop.Running r tag work r′ h e =
-    shown-end (shown (r .in_work) r tag work) r r′ (sym (shows (r .in_work) r tag work) ∙ e)
-step-end Stop.Ended r tag work r′ h e = cc
-step-end (Stop.Failed j) r tag work r′ h e = cc
+stop-stopped : (x : Stop) (r : Reader) (tag work : List ℕ) → r .stop ≡ x → Stopped (stepAs x r tag work .0)
+stop-stopped Stop.Running r tag work is = run-stopped (r .in_work) r tag work
+stop-stopped Stop.Ended r tag work is = is
+stop-stopped (Stop.Failed k) r tag work is = is
+
+step-stopped : (r : Reader) (tag work : List ℕ) → Stopped (stepOf r tag work .0)
+unfolding stepOf
+step-stopped r tag work = stop-stopped (r .stop) r tag work refl
 
 -- what it answered it answers again
 pub refused-again : (r r′ : Reader) (tag work tag′ work′ : List ℕ) (k : ℕ) → stepOf r tag work .0 ≡ Step.Refused k r′
     → stepOf r′ tag′ work′ ≡ (Step.Refused k r′, work′)
-unfolding stepOf
-refused-again r r′ tag work tag′ work′ k e = rw (step-refused (r .stop) r tag work k r′ refl e)
+refused-again r r′ tag work tag′ work′ k e = sym (failed r′ tag′ work′ (subst (λ (x : Step). Stopped x) e (step-stopped r tag work)))
 
 pub ended-again : (r r′ : Reader) (tag work tag′ work′ : List ℕ) → stepOf r tag work .0 ≡ Step.End r′ → stepOf r′ tag′ work′ ≡ (Step.End r′, work′)
-unfolding stepOf
-ended-again r r′ tag work tag′ work′ e = rw (step-end (r .stop) r tag work r′ refl e)
+ended-again r r′ tag work tag′ work′ e = sym (ended r′ tag′ work′ (subst (λ (x : Step). Stopped x) e (step-stopped r tag work)))
 
 module _ (r : Reader) (tag work tag′ work′ : List ℕ) where
   -- a step without a record

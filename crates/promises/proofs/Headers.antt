@@ -16,7 +16,7 @@ use Rattle.format.proofs.Tags.{tag-headed}
 use Rattle.reader.specs.Reader.{headerOf, fieldsOf}
 use Rattle.reader.specs.declared.Headed.{Headed}
 use Rattle.promises.specs.Promises.{framesOf, WrittenHeader}
-use Rattle.promises.proofs.Adding.{told}
+use Rattle.promises.proofs.Adding.{told-written}
 
 pub size-there : (v : Version) (m : Mode) (p : ℕ) (f : List ℕ) → length (regionBytes v m p f) < 2 ^ 28 → sizeOf (tagOf v m p f) ≡ length (regionBytes v m p f)
 unfolding tagOf digits
@@ -46,6 +46,6 @@ header-there v m p f small =
 
 pub written-header : WrittenHeader
 written-header version mode padding records tag w =
-    let t = told version mode padding records tag w in
+    let t = told-written version mode padding records tag w in
     let e = header-there (versionOf version) (modeOf mode) padding (framesOf (versionOf version) (modeOf mode) records) (t .small) in
     rw (t .is-tag, e) (refl, refl)

@@ -32,21 +32,21 @@ data Same (tag work : List ℕ) : List Metered → List Counted → Type 0 where
 
 same : (n : ℕ) (rec : Record) (tag work : List ℕ) → Same tag work (meteredIn n rec) (countedIn n (viewOf rec tag work))
 unfolding viewOf
-same n rec tag work = by (rec .heading .short) (rec .heading .fields)
+same n rec tag work = by-fields (rec .heading .short) (rec .heading .fields)
   where
     s : List ℕ
     s = bufferOf rec tag work
 
-    by : (t : Bool) (f : Fields)
+    by-fields : (t : Bool) (f : Fields)
         → Same tag work (pick t [] (meteredAs f n rec))
         (pick t [] (countedAs n (contentOf f (part (rec .name) s) (part (rec .names) s) (part (rec .rest) s) (deviationsOf f (part (rec .rest) s)))))
-    by true f = none
-    by false (Fields.Text e) = none
-    by false (Fields.Popularimeter r c) = one _
-    by false (Fields.Table f b k v w) = none
-    by false (Fields.Chapter a b c d) = none
-    by false (Fields.Contents t o) = none
-    by false Fields.Raw = none
+    by-fields true f = none
+    by-fields false (Fields.Text e) = none
+    by-fields false (Fields.Popularimeter r c) = one _
+    by-fields false (Fields.Table f b k v w) = none
+    by-fields false (Fields.Chapter a b c d) = none
+    by-fields false (Fields.Contents t o) = none
+    by-fields false Fields.Raw = none
 
 -- ---- what a meter makes of what is read from its place on
 

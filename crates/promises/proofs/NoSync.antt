@@ -22,7 +22,7 @@ use Rattle.format.proofs.Ids.{id-byte}
 use Rattle.format.proofs.Unsynch.{Quiet, Low, quiet-at, quiet-append, quiet-low, quiet-behind-low, standard-quiet}
 use Rattle.promises.specs.Promises.{framesOf, StandardMode}
 use Rattle.promises.proofs.Sounds.{Sounds, nothing, also}
-use Rattle.promises.proofs.Adding.{told}
+use Rattle.promises.proofs.Adding.{told-written}
 
 -- ---- low bytes
 
@@ -100,5 +100,5 @@ standard-tag v padding rs ss =
 
 pub standard : StandardMode
 standard version padding records tag w =
-    let t = told version 2 padding records tag w in
+    let t = told-written version 2 padding records tag w in
     subst NoSync (sym (t .is-tag)) (standard-tag (versionOf version) padding records (t .sounds))

@@ -105,12 +105,12 @@ module _ (v : Version) (m : Mode) (p : ℕ) (f work : List ℕ) (small : length 
   enough : wholeBy v m ≡ true → length tag ≤ length work → length shown ≤ length work
   enough e room = omega (arith, resync-shorter false region, ap length (shown-is e), headed .long)
 
-  by : (b : Bool) → wholeBy v m ≡ b → length tag ≤ length work → Opening v m tag work f
-  by true e room = opened-whole e (enough e room)
-  by false e room = opened-plain e
+  by-whole : (b : Bool) → wholeBy v m ≡ b → length tag ≤ length work → Opening v m tag work f
+  by-whole true e room = opened-whole e (enough e room)
+  by-whole false e room = opened-plain e
 
   pub opened : length tag ≤ length work → Opening v m tag work f
-  opened room = by (wholeBy v m) refl room
+  opened room = by-whole (wholeBy v m) refl room
 
   -- with any work buffer, opening lays the frames before the reader or is refused with 14
   whole-any : wholeBy v m ≡ true → (t : Bool) → ltb (length work) (length shown) ≡ t → Opening v m tag work f ⊎ (openOf tag work ≡ (Opened.Refused 14, work))

@@ -24,7 +24,7 @@ use Rattle.reader.specs.declared.Opened.{Opened}
 use Rattle.promises.specs.Reading.{ended, Reading, onStep, readFrom, onOpen, readFor, readAll}
 use Rattle.promises.specs.Promises.{NoneShort, none, also as short-also, RoundTrip, OneList, framesOf, WrittenTag}
 use Rattle.promises.proofs.Sounds.{Sounds, nothing, also}
-use Rattle.promises.proofs.Adding.{told}
+use Rattle.promises.proofs.Adding.{told-written}
 use Rattle.promises.proofs.Opening.{source, opened}
 use Rattle.promises.proofs.Stepping.{reader, pads, step-back}
 
@@ -55,10 +55,10 @@ whole-longer Id3v23 m f = unsync-longer (guards m) false f
 whole-longer Id3v24 m f = omega arith
 
 -- there are fewer records than bytes
-few : (v : Version) (m : Mode) (rs : List Rec) → length rs ≤ length (framesOf v m rs)
-few v m [] = omega arith
-few v m (r ∷ rs) =
-    omega (arith, length-append (encode v m r) (framesOf v m rs), few v m rs, encode-length v m r, head-some v)
+no-more-records : (v : Version) (m : Mode) (rs : List Rec) → length rs ≤ length (framesOf v m rs)
+no-more-records v m [] = omega arith
+no-more-records v m (r ∷ rs) =
+    omega (arith, length-append (encode v m r) (framesOf v m rs), no-more-records v m rs, encode-length v m r, head-some v)
 
 pub none-short : (v : Version) (m : Mode) {rs : List Rec} → Sounds v m rs → NoneShort rs
 none-short v m nothing = none
@@ -68,7 +68,7 @@ pub fewer : (v : Version) (m : Mode) (p : ℕ) (rs : List Rec) → length (regio
     → length rs < length (tagOf v m p (framesOf v m rs))
 fewer v m p rs small =
     let f = framesOf v m rs in
-    omega (arith, tag-headed v m p f small .long, few v m rs, whole-longer v m f, length-append (wholeOf v m f) (zeros p))
+    omega (arith, tag-headed v m p f small .long, no-more-records v m rs, whole-longer v m f, length-append (wholeOf v m f) (zeros p))
 
 pub tag-back : (v : Version) (m : Mode) (p : ℕ) (rs : List Rec) (work : List ℕ) → Sounds v m rs → length (regionBytes v m p (framesOf v m rs)) < 2 ^ 28
     → length (tagOf v m p (framesOf v m rs)) ≤ length work → readAll (tagOf v m p (framesOf v m rs)) work ≡ (rs, ended)
@@ -84,7 +84,7 @@ tag-back v m p rs work ss small room =
 
 pub round-trip : RoundTrip
 round-trip version mode padding records tag work w room =
-    let t = told version mode padding records tag w in
+    let t = told-written version mode padding records tag w in
     let v = versionOf version in
     let m = modeOf mode in (
       rw (t .is-tag) (tag-back v m padding records work (t .sounds) (t .small) (rw (t .is-tag) at room)),
@@ -101,5 +101,5 @@ one-list version mode padding records records′ tag w w′ =
 
 pub written-tag : WrittenTag
 written-tag version mode padding records tag w =
-    let t = told version mode padding records tag w in
+    let t = told-written version mode padding records tag w in
     (t .is-tag, t .is-count)

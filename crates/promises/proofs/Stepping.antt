@@ -56,7 +56,7 @@ pads v true begin at end n tag work e = rw (e, no-frame v n)
 
 -- ---- one frame
 
-stored-longer : (v : Version) (m : Mode) (b : List ℕ) → length b ≤ length (storedOf v m b)
+pub stored-longer : (v : Version) (m : Mode) (b : List ℕ) → length b ≤ length (storedOf v m b)
 stored-longer Id3v22 m b = omega arith
 stored-longer Id3v23 m b = omega arith
 stored-longer Id3v24 m b = unsync-longer (guards m) false b
@@ -135,15 +135,15 @@ module _ (v : Version) (m : Mode) (begin at end : ℕ) (tag work : List ℕ) (r 
   body-fits e =
       omega (arith, ap length e, length-append (encode v m r) rest, encode-length v m r, stored-longer v m body, length-drop at (take end tag), length-take end tag)
 
-  by : (w f : Bool) → wholeBy v m ≡ w → flaggedBy v m ≡ f → length tag ≤ length work → slice at end (source w tag work) ≡ encode v m r ++ rest
+  by-mode : (w f : Bool) → wholeBy v m ≡ w → flaggedBy v m ≡ f → length tag ≤ length work → slice at end (source w tag work) ≡ encode v m r ++ rest
       → Back v w begin at end tag work r rest
-  by w false ew ef room e = plain-back w ef e
-  by false true ew ef room e = flagged-back ef (omega (arith, body-fits e)) e
-  by true true ew ef room e = absurd (never-both v m ew ef)
+  by-mode w false ew ef room e = plain-back w ef e
+  by-mode false true ew ef room e = flagged-back ef (omega (arith, body-fits e)) e
+  by-mode true true ew ef room e = absurd (never-both v m ew ef)
 
   pub step-back : length tag ≤ length work → slice at end (source (wholeBy v m) tag work) ≡ encode v m r ++ rest
       → Back v (wholeBy v m) begin at end tag work r rest
-  step-back room e = by (wholeBy v m) (flaggedBy v m) refl refl room e
+  step-back room e = by-mode (wholeBy v m) (flaggedBy v m) refl refl room e
 
   -- ---- with any work buffer
 

@@ -1,10 +1,10 @@
 -- Worked cases of opening and stepping, by computation: document 01's listing, the smallest tag for each refusal 1 to 6 and 14, what stays after the end and after a refusal. Assumes nothing.
 use mathlib.Core.Path.{_≡_, refl}
 use Prim.Native.Nat.{ℕ, zero, suc}
-use mathlib.Core.Bool.{Bool, true, false}
+use mathlib.Core.Bool.{true, false}
 use mathlib.Core.List.{List, [], _∷_, _++_}
 use lib.ListN.{length, replicate}
-use Rattle.format.specs.Bytes.{first, named, ascii, zeroAt, zerosIn, zeros}
+use Rattle.format.specs.Bytes.{first, named, ascii, zeroAt, zerosIn}
 use Rattle.format.specs.Numbers.{digits, onto}
 use Rattle.format.specs.Unsynch.{resync}
 use Rattle.format.specs.Ids.{utf8From, kindOf}
@@ -13,13 +13,10 @@ use Rattle.format.specs.Frame.{headOf}
 use Rattle.format.specs.Text.{zeroPairAt, trimmed, trimmedPairs, closing, closingPairs}
 use Rattle.format.specs.Table.{spread, gathered, unpack}
 use Rattle.format.specs.Chapter.{namesLen}
-use Rattle.format.specs.Record.{bodyRefusal, runOf, partsOf, Rec, Content, text, popularimeter, raw, viewOf}
+use Rattle.format.specs.Record.{bodyRefusal, runOf, partsOf, Rec, Content, popularimeter, raw, viewOf}
 use Rattle.format.specs.Walk.{insideOf, resyncedOf, onHead, walkBytes, walked, onShown, frameOf}
 use Rattle.format.specs.Walk as walk
 use Rattle.format.specs.Listing.{decimalIn, hexIn, hex, tagLine, frameLine, endLine}
-use Rattle.format.specs.declared.Version.{Version}
-use Rattle.format.specs.declared.Version.the-variants.{Id3v22, Id3v23, Id3v24}
-use Rattle.format.specs.declared.Record.{Record}
 use Rattle.reader.specs.Reader.{headerOf, openWhole, openOf, stepOf}
 use Rattle.reader.specs.declared.Headed.{Headed}
 use Rattle.reader.specs.declared.Reader.{Reader}

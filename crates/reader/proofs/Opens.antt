@@ -54,35 +54,37 @@ module _ (tag : List ℕ) (h : Header) (e : headerOf tag ≡ Headed.Found h) (en
 
 -- a known edition as a version says the same of whole tags
 whole-in : (e f : ℕ) → 2 ≤ e → e ≤ 4 → isWholeIn (versionOf e) f ≡ (has 0x80 f && not (eqb e 4))
-whole-in e f lo hi = by (eqb e 2) refl (eqb e 3) refl
+whole-in e f lo hi = by-edition (eqb e 2) refl (eqb e 3) refl
   where
-    by : (two : Bool) → eqb e 2 ≡ two → (three : Bool) → eqb e 3 ≡ three → isWholeIn (versionOf e) f ≡ (has 0x80 f && not (eqb e 4))
-    by true t three h = rw (eqb-true e 2 t, and-true)
-    by false t true h = rw (eqb-true e 3 h, and-true)
-    by false t false h =
+    by-edition : (two : Bool) → eqb e 2 ≡ two → (three : Bool) → eqb e 3 ≡ three → isWholeIn (versionOf e) f ≡ (has 0x80 f && not (eqb e 4))
+    by-edition true t three h = rw (eqb-true e 2 t, and-true)
+    by-edition false t true h = rw (eqb-true e 3 h, and-true)
+    by-edition false t false h =
         let four : e ≡ 4 = omega (arith, eqb-false e 2 t, eqb-false e 3 h) in
         rw (four, and-false)
 
 -- ---- opening
 
 -- what was put, as an answer
-asOpened : Version → Put → Opened
+abbrev asOpened : Version → Put → Opened
 asOpened v (Put.Bytes n) = Opened.Ready (readerAt v true 0 n)
 asOpened v (Put.Refused k) = Opened.Refused k
 
 abbrev Answer : Type 0
 Answer = Opened × List ℕ
 
-put-opened : (v : Version) (u work : List ℕ) → _≡_ {A = Answer} (asOpened v (intoOf u work .0), intoOf u work .1) (openWhole v u work)
-unfolding openWhole asOpened
-put-opened v u work = by (ltb (length work) (length u))
+-- what is made of bytes that were put, by whether they had the room
+pub put-as : {A : Type 0} (f : Put → A) (u work : List ℕ)
+    → _≡_ {A = A × List ℕ} (f (intoOf u work .0), intoOf u work .1)
+    (pick (ltb (length work) (length u)) (f (Put.Refused 14), work) (f (Put.Bytes (length u)), putFront u work))
+put-as {A} f u work = by-room (ltb (length work) (length u))
   where
-    by : (t : Bool)
-        → _≡_ {A = Answer}
-        (let o : Out = pick t (Put.Refused 14, work) (Put.Bytes (length u), putFront u work) in (asOpened v (o .0), o .1))
-        (pick t (Opened.Refused 14, work) (Opened.Ready (readerAt v true 0 (length u)), putFront u work))
-    by true = refl
-    by false = refl
+    by-room : (t : Bool)
+        → _≡_ {A = A × List ℕ}
+        (let o : Out = pick t (Put.Refused 14, work) (Put.Bytes (length u), putFront u work) in (f (o .0), o .1))
+        (pick t (f (Put.Refused 14), work) (f (Put.Bytes (length u)), putFront u work))
+    by-room true = refl
+    by-room false = refl
 
 -- what is known of a tag that is to be opened: its header, where its frames lie, and whether they are resynchronised
 pub record Told (tag : List ℕ) (h : Header) (start end : ℕ) (whole : Bool) : Type 0 where
@@ -113,17 +115,15 @@ module _ {tag : List ℕ} {h : Header} {start end : ℕ} {whole : Bool} (t : Tol
   -- they are put into the work buffer, if it has the room
   module _ (on : whole ≡ true) {put : Put} {left : List ℕ} (puts : _≡_ {A = Out} (put, left) (intoOf (resynchronised (slice start end tag)) work)) where
     opened : _≡_ {A = Answer} (asOpened (h .version) put, left) (openOf tag work)
-    unfolding openOf
+    unfolding openOf openWhole
     opened =
         let u : List ℕ = resynchronised (slice start end tag) in
         let there : openOf tag work ≡ openWhole (h .version) u work = rw (none, ← whole-is, on, version-is, t .starts, t .ends) in
-        ap {B = Answer} (λ (o : Out). (asOpened (h .version) (o .0), o .1)) puts ∙ put-opened (h .version) u work ∙ sym there
+        ap {B = Answer} (λ (o : Out). (asOpened (h .version) (o .0), o .1)) puts ∙ put-as (asOpened (h .version)) u work ∙ sym there
 
     pub in-work : {n : ℕ} → put ≡ Put.Bytes n → {r : Reader} → r ≡ readerAt (h .version) true 0 n
         → _≡_ {A = Answer} (Opened.Ready r, left) (openOf tag work)
-    unfolding asOpened
     in-work is ready = rw ready (rw is at opened)
 
     pub too-small : {k : ℕ} → put ≡ Put.Refused k → _≡_ {A = Answer} (Opened.Refused k, left) (openOf tag work)
-    unfolding asOpened
     too-small is = rw is at opened

@@ -12,10 +12,11 @@ use Rattle.lists.proofs.Bools.{and-true}
 use Rattle.format.specs.Bytes.{first}
 use Rattle.format.specs.Numbers.{fromSynchsafe}
 use Rattle.format.specs.Header.{editionOf, flagsOf, sizeOf, cutOf, isExtended, extOf, headerChecks, headerRefusal}
+use Rattle.format.specs.Numbered.{isVersion}
 use Rattle.format.proofs.Checks.{first-none, none-of, none-refused, none-else}
 use Rattle.reader.specs.declared.Headed.{Headed}
 use Rattle.reader.specs.Reader.{headerOf}
-use Rattle.reader.specs.Headers.{isTag, isKnown}
+use Rattle.reader.specs.Headers.{isTag}
 
 -- those before place i pass, and the one there gives a number: it is the first that fails
 first-at : (i k : ℕ) (l : List ℕ) → first (take i l) ≡ 0 → getD l i 0 ≡ suc k → suc k ≡ first l
@@ -40,18 +41,18 @@ module _ (tag : List ℕ) (is : isTag tag ≡ true) where
   pub long : 10 ≤ length tag
   long = leb-true 10 _ (and-true _ _ is .0)
 
-  pub unknown-version : isKnown (editionOf tag) ≡ false → 2 ≡ headerRefusal tag
+  pub unknown-version : isVersion (editionOf tag) ≡ false → 2 ≡ headerRefusal tag
   unfolding first headerRefusal
   unknown-version e = first-at 1 1 (headerChecks tag) (rw is) (rw e)
 
-  pub unknown-flags : isKnown (editionOf tag) ≡ true → eqb (flagsOf tag % 16) 0 ≡ false → 3 ≡ headerRefusal tag
+  pub unknown-flags : isVersion (editionOf tag) ≡ true → eqb (flagsOf tag % 16) 0 ≡ false → 3 ≡ headerRefusal tag
   unfolding first headerRefusal
   unknown-flags known e = first-at 2 2 (headerChecks tag) (rw (is, known)) (rw e)
 
 -- the first three checks pass; x says whether there is an extended header
 pub record Begun (tag : List ℕ) (x : Bool) : Type 0 where
   pub is : isTag tag ≡ true
-  pub known : isKnown (editionOf tag) ≡ true
+  pub known : isVersion (editionOf tag) ≡ true
   pub clear : eqb (flagsOf tag % 16) 0 ≡ true
   pub says : x ≡ isExtended tag
 
@@ -104,7 +105,7 @@ pub accepted : (tag : List ℕ) → headerRefusal tag ≡ 0 → Accepted tag
 unfolding headerRefusal
 accepted tag e =
     let none = none-of (headerChecks tag) e in
-    let known = and-true _ _ (none-else (isKnown (editionOf tag)) 1 (none 1)) in
+    let known = and-true _ _ (none-else (isVersion (editionOf tag)) 1 (none 1)) in
     record {
       begun = leb-true 10 _ (and-true _ _ (none-else (isTag tag) 0 (none 0)) .0);
       least = leb-true 2 _ (known .0);

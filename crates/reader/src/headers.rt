@@ -1,21 +1,23 @@
 // The tag header, and where the frames of a tag lie.
 use crate::Headed;
 use crate::Header;
-use format::Version;
+use format::numbered::is_version;
+use format::numbered::version_of;
 use format::refusals::COMPRESSED_TAG;
 use format::refusals::MISSING_BYTES;
 use format::refusals::NO_TAG;
 use format::refusals::SMALL_EXTENDED_HEADER;
 use format::refusals::UNKNOWN_FLAGS;
 use format::refusals::UNKNOWN_VERSION;
+use format::small::has;
+use format::small::least;
 use loads::read32;
 ghost use mathlib.Core.Path.{_≡_};
-ghost use Prim.Native.Nat.{_+_, _≤_, _<_, min};
+ghost use Prim.Native.Nat.{_+_, _≤_, min};
 ghost use lib.ListN.{length};
 ghost use lib.Seq.{slice};
-ghost use Rattle.format.specs.Bytes.{has as isSet};
 ghost use Rattle.format.specs.Numbers.{number, fromSynchsafe};
-ghost use Rattle.format.specs.Header.{versionOf, extOf, headerRefusal, regionStart, regionEnd};
+ghost use Rattle.format.specs.Header.{extOf, headerRefusal, regionStart, regionEnd};
 ghost use Rattle.reader.specs.Reader.{headerOf};
 ghost use Rattle.reader.specs.Headers.{isTag};
 
@@ -23,21 +25,6 @@ ghost use Rattle.reader.specs.Headers.{isTag};
 const ID3: u32 = 0x49_44_33;
 // The header flag for an extended header; in 2.2 for a compressed tag.
 const EXTENDED: u8 = 0x40;
-
-// The smaller number.
-fn least(a: usize, b: usize) -> usize
-    ensures { λ r. ⌜ r ≡ min a b ⌝ }
-{
-    if a < b { a } else { b }
-}
-
-// Whether a bit is set in flags.
-pub(crate) fn has(bit: u8, flags: u8) -> bool
-    requires { ⌜ 0 < bit ⌝ }
-    ensures { λ r. ⌜ r ≡ isSet bit flags ⌝ }
-{
-    flags / bit % 2 == 1
-}
 
 // The number that four synchsafe bytes from `at` on make.
 fn synchsafe(s: &[u8], at: usize) -> u32
@@ -74,8 +61,8 @@ fn refusal(tag: &[u8]) -> u8
     let edition = tag[3];
     let flags = tag[5];
     let extended = has(EXTENDED, flags);
-    let known = (2 <= edition) & (edition <= 4);
-    let clear = flags % 16 == 0;
+    let known = is_version(edition as u64);
+    let clear = flags % 0x10 == 0;
     let compressed = (edition == 2) & extended;
     if !known {
         return UNKNOWN_VERSION;
@@ -98,17 +85,6 @@ fn refusal(tag: &[u8]) -> u8
     0
 }
 
-// The edition that a known edition byte says.
-fn version(edition: u8) -> Version
-    ensures { λ r. ⌜ r ≡ versionOf edition ⌝ }
-{
-    match edition {
-        2 => Version::Id3v22,
-        3 => Version::Id3v23,
-        _ => Version::Id3v24,
-    }
-}
-
 // The size of the extended header, 0 where there is none.
 fn extended_size(tag: &[u8]) -> u32
     requires { ⌜ headerRefusal (now tag) ≡ 0 ⌝ }
@@ -129,7 +105,7 @@ pub fn header(tag: &[u8]) -> Headed
         return Headed::Refused(k);
     }
     Headed::Found(Header {
-        version: version(tag[3]),
+        version: version_of(tag[3] as u64),
         flags: tag[5],
         size: synchsafe(tag, 6),
         ext: extended_size(tag),

@@ -24,10 +24,10 @@ use Rattle.format.proofs.Heads.{stands, lies}
 use Rattle.format.proofs.Strict.{inside-passed}
 use Rattle.format.proofs.Unsynch.{resync-shorter}
 use Rattle.lines.proofs.Parts.{bodyLeast}
-use Rattle.reader.specs.Reader.{answerOf, movedTo, runStep, stepAs, stepOf}
-use Rattle.reader.specs.declared.Stop.{Stop}
+use Rattle.reader.specs.Reader.{stepOf}
 use Rattle.reader.specs.declared.Reader.{Reader}
 use Rattle.reader.specs.declared.Step.{Step}
+use Rattle.reader.proofs.Steps.{answered}
 use Rattle.promises.proofs.Bounds.{ahead}
 
 -- ---- bodies
@@ -47,12 +47,12 @@ has-least v Kind.Raw at b e = omega arith
 body-passed : (resynced : Bool) (go : List ℕ → List ℕ → Out) (kind : Kind) (b room : List ℕ) → bodyOf resynced go kind b room .0 ≡ 0
     → bodyRefusal kind (shownBody resynced b) ≡ 0
 unfolding resyncedOf
-body-passed true go kind b room e = by (ltb (length room) (length (resynchronised b))) e
+body-passed true go kind b room e = by-room (ltb (length room) (length (resynchronised b))) e
   where
-    by : (t : Bool) → pick t (14, room) (behind (resynchronised b) (insideOf go kind (resynchronised b) (drop (length (resynchronised b)) room))) .0 ≡ 0
+    by-room : (t : Bool) → pick t (14, room) (behind (resynchronised b) (insideOf go kind (resynchronised b) (drop (length (resynchronised b)) room))) .0 ≡ 0
         → bodyRefusal kind (resynchronised b) ≡ 0
-    by true e = absurd (omega arith)
-    by false e = inside-passed go kind (resynchronised b) (drop (length (resynchronised b)) room) e .0
+    by-room true e = absurd (omega arith)
+    by-room false e = inside-passed go kind (resynchronised b) (drop (length (resynchronised b)) room) e .0
 body-passed false go kind b room e = inside-passed go kind b room e .0
 
 body-shorter : (resynced : Bool) (b : List ℕ) → length (shownBody resynced b) ≤ length b
@@ -113,9 +113,6 @@ pub record Passed (at n : ℕ) (rec : Record) (at′ m : ℕ) : Type 0 where
   pub onward : at′ + m ≤ at + n
   pub bytes : m + (6 + bodyLeast (rec .heading .fields) (rec .name .len)) ≤ n
 
-abbrev aheadIn : Bool → Reader → List ℕ → List ℕ → ℕ
-aheadIn inWork r tag work = length (slice (r .at) (r .end) (pick inWork work tag))
-
 passes : (r : Reader) (s : List ℕ) (rec : Record) (next : ℕ) → Shows (r .at) (length (slice (r .at) (r .end) s)) rec next
     → Passed (r .at) (length (slice (r .at) (r .end) s)) rec next (length (slice next (r .end) s))
 passes r s rec next h =
@@ -123,31 +120,9 @@ passes r s rec next h =
     let m = length-cut next (r .end) s in
     record { place = h .place; body = h .body; onward = omega (arith, n, m, h .bytes, h .within); bytes = omega (arith, n, m, h .bytes, h .within) }
 
--- a frame is answered: the reader is the same but for its place
-frame-shown : (o : Shown) (r : Reader) (rec : Record) (r′ : Reader) → answerOf o r ≡ Step.Frame rec r′
-    → (next : ℕ) × ((o ≡ Shown.Frame rec next) × (r′ ≡ movedTo next r))
-frame-shown Shown.Nothing r rec r′ e = absurd (let z : _≡_ {A = ℕ} 0 1 = cc in omega arith)
-frame-shown (Shown.Refused k) r rec r′ e = absurd (let z : _≡_ {A = ℕ} 0 1 = cc in omega arith)
-frame-shown (Shown.Frame rec′ next) r rec r′ e = (next, (cc, cc))
-
-run-passed : (t : Bool) (r : Reader) (tag work : List ℕ) (rec : Record) (r′ : Reader) → runStep t r tag work .0 ≡ Step.Frame rec r′
-    → (r′ .in_work ≡ r .in_work) × Passed (r .at) (aheadIn t r tag work) rec (r′ .at) (aheadIn t r′ tag (runStep t r tag work .1))
-run-passed false r tag work rec r′ e =
-    let m = frame-shown (frameOf (r .version) false (r .begin) (r .at) (slice (r .at) (r .end) tag) work .0) r rec r′ e in
-    rw (m .1 .1) (refl, passes r tag rec (m .0) (shows (r .version) false (r .begin) (r .at) (slice (r .at) (r .end) tag) work (m .1 .0)))
-run-passed true r tag work rec r′ e =
-    let m = frame-shown (frameOf (r .version) true (r .begin) (r .at) (slice (r .at) (r .end) work) [] .0) r rec r′ e in
-    rw (m .1 .1) (refl, passes r work rec (m .0) (shows (r .version) true (r .begin) (r .at) (slice (r .at) (r .end) work) [] (m .1 .0)))
-
-stop-passed : (x : Stop) (r : Reader) (tag work : List ℕ) (rec : Record) (r′ : Reader) → stepAs x r tag work .0 ≡ Step.Frame rec r′
-    → Passed (r .at) (ahead r tag work) rec (r′ .at) (ahead r′ tag (stepAs x r tag work .1))
-stop-passed Stop.Running r tag work rec r′ e =
-    let a = run-passed (r .in_work) r tag work rec r′ e in
-    rw (a .0) (a .1)
-stop-passed Stop.Ended r tag work rec r′ e = absurd (let z : _≡_ {A = ℕ} 0 1 = cc in omega arith)
-stop-passed (Stop.Failed k) r tag work rec r′ e = absurd (let z : _≡_ {A = ℕ} 0 1 = cc in omega arith)
-
 pub step-passed : (r : Reader) (tag work : List ℕ) (rec : Record) (r′ : Reader) → stepOf r tag work .0 ≡ Step.Frame rec r′
     → Passed (r .at) (ahead r tag work) rec (r′ .at) (ahead r′ tag (stepOf r tag work .1))
-unfolding stepOf
-step-passed r tag work rec r′ e = stop-passed (r .stop) r tag work rec r′ e
+step-passed r tag work rec r′ e =
+    let a = answered r tag work rec r′ e in
+    let s = pick (r .in_work) work tag in
+    rw (a .moved, a .same) (passes r s rec (a .next) (shows (r .version) (r .in_work) (r .begin) (r .at) (slice (r .at) (r .end) s) (pick (r .in_work) [] work) (a .shown)))

@@ -2,36 +2,29 @@
 use mathlib.Core.Path.{_≡_, refl, ap, _∙_}
 use Prim.Native.Nat.{ℕ, zero, suc, _+_, _*_, _≤_, _<_}
 use native.Mathlib.Omega.{arith}
-use mathlib.Core.Bool.{true, false, not}
 use mathlib.Core.List.{List, [], _∷_}
 use lib.ListN.{length, drop, length-append, length-take}
-use lib.Dec.{ltb, eqb}
-use borrow.Author.Tests.{eqb-true, not-false}
-use Rattle.lists.proofs.Cuts.{length-cut}
 use Rattle.lists.proofs.Stores.{sets-in}
-use Rattle.format.specs.Bytes.{pick, part, putFront}
-use Rattle.format.specs.Unsynch.{resynchronised}
-use Rattle.format.specs.Header.{versionOf, editionOf, headerRefusal, isWhole, sizeOf, regionStart, regionEnd, regionOf}
+use Rattle.format.specs.Bytes.{part}
+use Rattle.format.specs.Numbered.{versionNumber}
 use Rattle.format.specs.Record.{bufferOf}
 use Rattle.format.specs.Listing.{endLine, refusedLine}
 use Rattle.format.specs.declared.Version.{Version}
 use Rattle.format.specs.declared.Fields.{Fields}
 use Rattle.format.specs.declared.Record.{Record}
-use Rattle.format.proofs.Checks.{of-picked}
-use Rattle.format.proofs.Unsynch.{resync-shorter}
 use Rattle.lines.specs.declared.Placed.{Placed}
 use Rattle.lines.proofs.Parts.{bodyLeast, tag-length, end-length, refused-length, frame-room}
-use Rattle.reader.specs.Reader.{headerOf, readerAt, openWhole, openOf, stepOf}
+use Rattle.reader.specs.Reader.{headerOf, openOf, stepOf}
 use Rattle.reader.specs.declared.Headed.{Headed}
 use Rattle.reader.specs.declared.Reader.{Reader}
 use Rattle.reader.specs.declared.Opened.{Opened}
 use Rattle.reader.specs.declared.Step.{Step}
 use Rattle.reader.proofs.Refusals.{accepted}
 use Rattle.reader.proofs.Opens.{found}
-use Rattle.listed.specs.Lines.{Line, line, editionIn, headerLine, recordIn, onStep, frameLines, onOpen, openedLines, onHeader, linesOf, textOf, inputRoom, textRoom}
+use Rattle.listed.specs.Lines.{Line, line, headerLine, recordIn, onStep, frameLines, onOpen, openedLines, onHeader, linesOf, textOf, inputRoom, textRoom}
 use Rattle.listed.specs.Turns.{Outcome, putLines}
 use Rattle.listed.proofs.Texts.{holds, all-put}
-use Rattle.promises.proofs.Bounds.{ahead}
+use Rattle.promises.proofs.Bounds.{ahead, Opens, open-within}
 use Rattle.room.specs.Listings.{Room, WholeText}
 use Rattle.room.proofs.Passing.{step-passed}
 
@@ -100,53 +93,6 @@ unfolding frameLines textOf
 frames-room zero tag r n work b = omega arith
 frames-room (suc f) tag r n work b = step-room f tag (frames-room f tag) r n work b (stepOf r tag work .0) refl
 
--- ---- opening
-
--- a reader that was opened has at least ten bytes fewer before it than the tag has, and they end with the tag
-record Within (tag : List ℕ) (r : Reader) (bytes : ℕ) : Type 0 where
-  few : bytes + 10 ≤ length tag
-  place : r .at + bytes ≤ length tag
-
-abbrev Opens : List ℕ → Opened × List ℕ → Type 0
-Opens tag o = (r : Reader) → o .0 ≡ Opened.Ready r → Within tag r (ahead r tag (o .1))
-
-refused-opens : (tag work : List ℕ) (k : ℕ) → Opens tag (Opened.Refused k, work)
-refused-opens tag work k r e = absurd (let z : _≡_ {A = ℕ} 0 1 = cc in omega arith)
-
-ready-opens : (tag work : List ℕ) (r : Reader) → Within tag r (ahead r tag work) → Opens tag (Opened.Ready r, work)
-ready-opens tag work r h r′ e = let q : r′ ≡ r = cc in rw q h
-
-whole-opens : (v : Version) (u tag work : List ℕ) → length u + 10 ≤ length tag → Opens tag (openWhole v u work)
-unfolding openWhole
-whole-opens v u tag work h =
-    let n = length-cut 0 (length u) (putFront u work) in
-    of-picked (Opens tag) (ltb (length work) (length u))
-    (λ t. refused-opens tag work 14)
-    (λ t. ready-opens tag (putFront u work) (readerAt v true 0 (length u)) (record { few = omega (arith, n); place = omega (arith, n) }))
-
-module _ (tag : List ℕ) (ten : 10 ≤ length tag) where
-  region-few : length (regionOf tag) + 10 ≤ length tag
-  region-few = omega (arith, length-cut (regionStart tag) (regionEnd tag) tag, length-take (10 + sizeOf tag) tag)
-
-  region-place : regionStart tag + length (regionOf tag) ≤ length tag
-  region-place = omega (arith, length-cut (regionStart tag) (regionEnd tag) tag, length-take (10 + sizeOf tag) tag)
-
-  region-opens : (work : List ℕ)
-      → Opens tag
-      (pick (isWhole tag) (openWhole (versionOf (editionOf tag)) (resynchronised (regionOf tag)) work)
-      (Opened.Ready (readerAt (versionOf (editionOf tag)) false (regionStart tag) (regionEnd tag)), work))
-  region-opens work =
-      of-picked (Opens tag) (isWhole tag)
-      (λ t. whole-opens (versionOf (editionOf tag)) (resynchronised (regionOf tag)) tag work (omega (arith, resync-shorter false (regionOf tag), region-few)))
-      (λ t. ready-opens tag work (readerAt (versionOf (editionOf tag)) false (regionStart tag) (regionEnd tag)) (record { few = region-few; place = region-place }))
-
-tag-opens : (tag work : List ℕ) → Opens tag (openOf tag work)
-unfolding openOf
-tag-opens tag work =
-    of-picked (Opens tag) (not (eqb (headerRefusal tag) 0))
-    (λ t. refused-opens tag work (headerRefusal tag))
-    (λ t. region-opens tag (accepted tag (eqb-true _ _ (not-false _ t)) .begun) work)
-
 -- ---- a tag
 
 module _ (tag : List ℕ) (small : length tag ≤ inputRoom) (ten : 10 ≤ length tag) where
@@ -159,14 +105,14 @@ module _ (tag : List ℕ) (small : length tag ≤ inputRoom) (ten : 10 ≤ lengt
 
   opened-room : (work : List ℕ) → length (textOf (openedLines tag work)) + 131 ≤ 16 * length tag
   unfolding openedLines
-  opened-room work = open-room (openOf tag work .0) (openOf tag work .1) (tag-opens tag work)
+  opened-room work = open-room (openOf tag work .0) (openOf tag work .1) (open-within tag work)
 
 head-room : (tag work : List ℕ) → length tag ≤ inputRoom → (h : Headed) → headerOf tag ≡ h → length (textOf (onHeader h tag work)) ≤ textRoom
 head-room tag work small (Headed.Found h) e =
     omega (
       arith,
       first-line (line (headerLine h) work) (openedLines tag work),
-      tag-length (editionIn (h .version)) (h .size) (h .flags) (h .ext),
+      tag-length (versionNumber (h .version)) (h .size) (h .flags) (h .ext),
       opened-room tag small (accepted tag (found tag h e .0) .begun) work,
     )
 head-room tag work small (Headed.Refused k) e = omega (arith, alone (refusedLine k) work, refused-length k)

@@ -6,7 +6,7 @@ use borrow.Author.Needs.{needs}
 use borrow.Fn.Kinds.{In}
 use borrow.Fn.PlainCycle.{Measures, is, falls, and}
 use Rattle.lines.proofs.Numbers.{one-digit, more-digits}
-use Rattle.lines.proofs.Puts.{said, andthen, left, front}
+use Rattle.lines.proofs.Puts.{in-words, andthen, room-left, front}
 use Rattle.lines.proofs.put_decimal.Reads as put-decimal
 use Rattle.lines.proofs.put_decimal.Kinds as put-decimal-kinds
 use Rattle.lines.proofs.+put_decimal.Lts-put_decimal as put-decimal-lts
@@ -42,7 +42,7 @@ put-decimal-same-length : (t : ℕ) → put-decimal-lts.Need-same-length (calls 
 put-decimal-same-length t c = search needs
 
 put-decimal-returns : (t : ℕ) → put-decimal-lts.Need-returns (calls t) (put-decimal-at t) put-decimal.Post
-put-decimal-returns t c = said (c .before .before .put-byte .ensures) (one-digit _ (c .before .before .before .before .if1 .taken))
+put-decimal-returns t c = in-words (c .before .before .put-byte .ensures) (one-digit _ (c .before .before .before .before .if1 .taken))
 
 put-decimal-put-decimal-requires : (t : ℕ) → put-decimal-lts.Need-put-decimal-requires (calls t) (put-decimal-at t) put-decimal.Post
 put-decimal-put-decimal-requires t c κs =
@@ -58,16 +58,19 @@ put-decimal-add-put-byte-2 t c = search needs
 
 put-decimal-put-byte-requires-2 : (t : ℕ) → put-decimal-lts.Need-put-byte-requires-2 (calls t) (put-decimal-at t) put-decimal.Post
 put-decimal-put-byte-requires-2 t c κs =
-    let s = c .before .before .before .before .before .before .before in
-    left (c .before .before .before .put-decimal .ensures) (rw (← more-digits _ (c .before .before .before .before .before .if1 .left) (s .fits .n .fits)) at (s .pre .1))
+    let at-quotient = c .before .before .before in
+    let start = at-quotient .before .before .before .before in
+    room-left (at-quotient .put-decimal .ensures) (rw (← more-digits _ (at-quotient .before .before .if1 .left) (start .fits .n .fits)) at (start .pre .1))
 
 put-decimal-same-length-2 : (t : ℕ) → put-decimal-lts.Need-same-length-2 (calls t) (put-decimal-at t) put-decimal.Post
 put-decimal-same-length-2 t c = search needs
 
 put-decimal-returns-2 : (t : ℕ) → put-decimal-lts.Need-returns-2 (calls t) (put-decimal-at t) put-decimal.Post
 put-decimal-returns-2 t c =
-    let s = c .before .before .before .before .before .before .before .before .before .before in
-    said (andthen (c .before .before .before .before .before .before .put-decimal .ensures) (c .before .before .put-byte2 .ensures)) (more-digits _ (c .before .before .before .before .before .before .before .before .if1 .left) (s .fits .n .fits))
+    let at-digit = c .before .before in
+    let at-quotient = at-digit .before .before .before .before in
+    let start = at-quotient .before .before .before .before in
+    in-words (andthen (at-quotient .put-decimal .ensures) (at-digit .put-byte2 .ensures)) (more-digits _ (at-quotient .before .before .if1 .left) (start .fits .n .fits))
 
 pub +put-decimal-spec : {M : Type 1} → statement M
 +put-decimal-spec = close μ-put-decimal λ t. put-decimal-lts.spec (calls t)

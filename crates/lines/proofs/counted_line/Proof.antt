@@ -6,20 +6,11 @@ use Rattle.lines.proofs.Lines.{full, has, whole}
 use Rattle.lines.proofs.counted_line.Statement.{statement}
 use Rattle.lines.proofs.counted_line.Tie as tie
 
-slice-relend-prefix-put-counted : tie.Need-slice-relend-prefix-put-counted
-slice-relend-prefix-put-counted c = search needs
-
-slice-aggregate-put-counted : tie.Need-slice-aggregate-put-counted
-slice-aggregate-put-counted c = search needs
-
 put-counted-requires : tie.Need-put-counted-requires
 put-counted-requires c κs =
     let s = c .before .before .before in
     let a = s .args in
     omega (arith, counted-length (a .word .now) (a .n), s .pre)
-
-fits-requires : tie.Need-fits-requires
-fits-requires c κs = search needs
 
 put-counted-requires-2 : tie.Need-put-counted-requires-2
 put-counted-requires-2 c κs =
@@ -28,18 +19,12 @@ put-counted-requires-2 c κs =
     let s = k1 .before .before .before .before in
     has _ _ (s .args .out .now) (k1 .put-counted .ensures) (f .fits2 .ensures) (c .before .if1 .taken) (s .good .0 .0)
 
-same-length : tie.Need-same-length
-same-length c = search needs
-
 returns : tie.Need-returns
 returns c =
     let k2 = c .before .before in
     let f = k2 .before .before .before in
     let k1 = f .before .before .before in
     whole _ _ _ (k1 .put-counted .ensures) (f .fits2 .ensures) (c .before .before .before .before .if1 .taken) (k2 .put-counted2 .ensures)
-
-same-length-2 : tie.Need-same-length-2
-same-length-2 c = search needs
 
 returns-2 : tie.Need-returns-2
 returns-2 c =
@@ -51,12 +36,12 @@ pub counted-line-spec : {M : Type 1} → statement M
 counted-line-spec =
     tie.close
     (tie.spec
-    slice-relend-prefix-put-counted
-    slice-aggregate-put-counted
+    (λ c. search needs)
+    (λ c. search needs)
     put-counted-requires
-    fits-requires
+    (λ c κs. search needs)
     put-counted-requires-2
-    same-length
+    (λ c. search needs)
     returns
-    same-length-2
+    (λ c. search needs)
     returns-2)

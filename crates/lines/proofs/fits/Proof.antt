@@ -10,11 +10,11 @@ use Rattle.lines.proofs.fits.Tie as tie
 
 -- what lies behind a place that is there
 beyond : (at len end : ℕ) → at ≤ end → leb len (end - at) ≡ leb (at + len) end
-beyond at len end h = by (leb len (end - at)) refl
+beyond at len end h = by-test (leb len (end - at)) refl
   where
-    by : (b : Bool) → leb len (end - at) ≡ b → b ≡ leb (at + len) end
-    by true e = sym (le-leb (at + len) end (omega (arith, leb-true len (end - at) e)))
-    by false e = sym (lt-leb (at + len) end (omega (arith, leb-false len (end - at) e)))
+    by-test : (b : Bool) → leb len (end - at) ≡ b → b ≡ leb (at + len) end
+    by-test true e = sym (le-leb (at + len) end (omega (arith, leb-true len (end - at) e)))
+    by-test false e = sym (lt-leb (at + len) end (omega (arith, leb-false len (end - at) e)))
 
 returns : tie.Need-returns
 returns c = let a = c .before .args in sym (lt-leb (a .at + a .len) (a .end) (omega arith))

@@ -17,69 +17,52 @@ line s =
     let a = s .args in
     frameLine (a .number) (bytesOf (idLen (a .version)) (a .id)) (a .place) (a .body) (a .short) (a .fields) (a .user .now)
 
-shown-bytes-requires : tie.Need-shown-bytes-requires
-shown-bytes-requires c κs = search needs
-
 returns : tie.Need-returns
 returns c =
     let a = c .before .before .before .before .args in
     no-room _ _ _ (omega (arith, frame-length (a .number) (a .version) (a .id) (a .place) (a .body) (a .short) (a .fields) (a .user .now) .0, c .before .shown-bytes .ensures, c .if1 .taken))
 
-slice-relend-prefix-put-frame : tie.Need-slice-relend-prefix-put-frame
-slice-relend-prefix-put-frame c = search needs
-
-slice-aggregate-put-frame : tie.Need-slice-aggregate-put-frame
-slice-aggregate-put-frame c = search needs
-
 put-frame-requires : tie.Need-put-frame-requires
 put-frame-requires c κs =
-    let s = c .before .before .before .before .before in
-    let a = s .args in
-    omega (arith, frame-length (a .number) (a .version) (a .id) (a .place) (a .body) (a .short) (a .fields) (a .user .now) .1, c .before .before .shown-bytes .ensures, c .before .if1 .left, s .good .0 .1)
-
-fits-requires : tie.Need-fits-requires
-fits-requires c κs = search needs
+    let at-shown-bytes = c .before .before in
+    let at-start = at-shown-bytes .before .before .before in
+    let a = at-start .args in
+    omega (arith, frame-length (a .number) (a .version) (a .id) (a .place) (a .body) (a .short) (a .fields) (a .user .now) .1, at-shown-bytes .shown-bytes .ensures, c .before .if1 .left, at-start .good .0 .1)
 
 put-frame-requires-2 : tie.Need-put-frame-requires-2
 put-frame-requires-2 c κs =
-    let f = c .before .before in
-    let k1 = f .before .before .before in
-    let s = k1 .before .before .before .before .before .before in
-    has (line s) (s .args .at) (s .args .out .now) (k1 .put-frame .ensures) (f .fits2 .ensures) (c .before .if2 .taken) (s .good .0 .0)
-
-same-length : tie.Need-same-length
-same-length c = search needs
+    let behind-put-frame = c .before .before .before .before in
+    let at-shown-bytes = behind-put-frame .before .before .before .before in
+    let at-start = at-shown-bytes .before .before .before in
+    has (line at-start) (at-start .args .at) (at-start .args .out .now) (behind-put-frame .before .put-frame .ensures) (c .before .before .fits2 .ensures) (c .before .if2 .taken) (at-start .good .0 .0)
 
 returns-2 : tie.Need-returns-2
 returns-2 c =
-    let k2 = c .before .before in
-    let f = k2 .before .before .before in
-    let k1 = f .before .before .before in
-    let s = k1 .before .before .before .before .before .before in
-    whole (line s) (s .args .at) (s .args .out .now) (k1 .put-frame .ensures) (f .fits2 .ensures) (c .before .before .before .before .if2 .taken) (k2 .put-frame2 .ensures)
-
-same-length-2 : tie.Need-same-length-2
-same-length-2 c = search needs
+    let at-if2 = c .before .before .before .before in
+    let at-put-frame = at-if2 .before .before .before .before in
+    let at-shown-bytes = at-put-frame .before .before .before in
+    let at-start = at-shown-bytes .before .before .before in
+    whole (line at-start) (at-start .args .at) (at-start .args .out .now) (at-put-frame .put-frame .ensures) (at-if2 .before .fits2 .ensures) (at-if2 .if2 .taken) (c .before .before .put-frame2 .ensures)
 
 returns-3 : tie.Need-returns-3
 returns-3 c =
-    let f = c .before in
-    let k1 = f .before .before .before in
-    let s = k1 .before .before .before .before .before .before in
-    full (line s) (s .args .at) (s .args .out .now) (k1 .put-frame .ensures) (f .fits2 .ensures) (c .if2 .left)
+    let at-put-frame = c .before .before .before .before in
+    let at-shown-bytes = at-put-frame .before .before .before in
+    let at-start = at-shown-bytes .before .before .before in
+    full (line at-start) (at-start .args .at) (at-start .args .out .now) (at-put-frame .put-frame .ensures) (c .before .fits2 .ensures) (c .if2 .left)
 
 pub frame-line-spec : {M : Type 1} → statement M
 frame-line-spec =
     tie.close
     (tie.spec
-    shown-bytes-requires
+    (λ c κs. search needs)
     returns
-    slice-relend-prefix-put-frame
-    slice-aggregate-put-frame
+    (λ c. search needs)
+    (λ c. search needs)
     put-frame-requires
-    fits-requires
+    (λ c κs. search needs)
     put-frame-requires-2
-    same-length
+    (λ c. search needs)
     returns-2
-    same-length-2
+    (λ c. search needs)
     returns-3)

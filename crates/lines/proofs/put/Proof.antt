@@ -22,8 +22,9 @@ shared-slice-read-put-byte c = omega arith
 
 put-byte-requires : tie.Need-put-byte-requires Inv-loop μ-loop
 put-byte-requires c κs =
-    let s = c .before .before .before .before .before .before in
-    room (λ l. l) refl (λ a b. refl) (s .args .bytes .now) (c .before .before .before .loop .inv .1) (c .before .before .loop-test .taken) (s .pre)
+    let at-loop = c .before .before .before in
+    let at-start = at-loop .before .before .before in
+    room (λ l. l) refl (λ a b. refl) (at-start .args .bytes .now) (at-loop .loop .inv .1) (c .before .before .loop-test .taken) (at-start .pre)
 
 add-i : tie.Need-add-i Inv-loop μ-loop
 add-i c = omega arith
@@ -33,9 +34,10 @@ loop-less c = omega arith
 
 loop-again : tie.Need-loop-again Inv-loop μ-loop
 loop-again c =
-    let s = c .before .before .before .before .before .before .before .before .before in (
+    let at-put-byte = c .before .before in
+    let at-loop-test = at-put-byte .before .before .before in (
       omega arith,
-      turn (λ l. l) refl (λ a b. refl) (s .args .bytes .now) (c .before .before .before .before .before .before .loop .inv .1) (c .before .before .before .before .before .loop-test .taken) (c .before .before .put-byte .ensures),
+      turn (λ l. l) refl (λ a b. refl) (at-loop-test .before .before .before .before .args .bytes .now) (at-loop-test .before .loop .inv .1) (at-loop-test .loop-test .taken) (at-put-byte .put-byte .ensures),
     )
 
 same-length : tie.Need-same-length Inv-loop μ-loop

@@ -1,7 +1,7 @@
 -- `lines::put_hex` meets its contract. Assumes nothing.
 use borrow.Author.Needs.{needs}
 use Rattle.lines.proofs.Numbers.{hex-none, hex-some}
-use Rattle.lines.proofs.Puts.{said}
+use Rattle.lines.proofs.Puts.{in-words}
 use Rattle.lines.proofs.put_hex.Statement.{statement}
 use Rattle.lines.proofs.put_hex.Tie as tie
 
@@ -11,17 +11,11 @@ put-byte-requires c κs = rw (← hex-none _ (c .before .if1 .taken)) at (c .bef
 put-pairs-requires : tie.Need-put-pairs-requires
 put-pairs-requires c κs = rw (← hex-some _ (c .before .if1 .left)) at (c .before .before .before .before .pre)
 
-same-length : tie.Need-same-length
-same-length c = search needs
-
 returns : tie.Need-returns
-returns c = said (c .before .before .put-byte .ensures) (hex-none _ (c .before .before .before .before .if1 .taken))
-
-same-length-2 : tie.Need-same-length-2
-same-length-2 c = search needs
+returns c = in-words (c .before .before .put-byte .ensures) (hex-none _ (c .before .before .before .before .if1 .taken))
 
 returns-2 : tie.Need-returns-2
-returns-2 c = said (c .before .before .put-pairs .ensures) (hex-some _ (c .before .before .before .before .if1 .left))
+returns-2 c = in-words (c .before .before .put-pairs .ensures) (hex-some _ (c .before .before .before .before .if1 .left))
 
 pub put-hex-spec : {M : Type 1} → statement M
 put-hex-spec =
@@ -29,7 +23,7 @@ put-hex-spec =
     (tie.spec
     put-byte-requires
     put-pairs-requires
-    same-length
+    (λ c. search needs)
     returns
-    same-length-2
+    (λ c. search needs)
     returns-2)

@@ -6,34 +6,30 @@ use Rattle.lines.proofs.Puts.{andthen}
 use Rattle.lines.proofs.put_pair.Statement.{statement}
 use Rattle.lines.proofs.put_pair.Tie as tie
 
-hex-digit-requires : tie.Need-hex-digit-requires
-hex-digit-requires c κs = search needs
-
 put-byte-requires : tie.Need-put-byte-requires
 unfolding hexIn
 put-byte-requires c κs = omega (arith, c .before .before .before .pre .below)
 
-hex-digit-requires-2 : tie.Need-hex-digit-requires-2
-hex-digit-requires-2 c κs = search needs
-
 put-byte-requires-2 : tie.Need-put-byte-requires-2
 unfolding hexIn
-put-byte-requires-2 c κs = omega (arith, c .before .before .before .before .put-byte .ensures .next, c .before .before .before .before .before .before .before .before .pre .below)
-
-same-length : tie.Need-same-length
-same-length c = search needs
+put-byte-requires-2 c κs =
+    let at-put-byte = c .before .before .before .before in
+    omega (arith, at-put-byte .put-byte .ensures .next, at-put-byte .before .before .before .before .pre .below)
 
 returns : tie.Need-returns
 unfolding hexIn
-returns c = rw (← c .before .before .before .before .before .before .before .before .hex-digit .ensures, ← c .before .before .before .hex-digit2 .ensures) (andthen (c .before .before .before .before .before .before .before .put-byte .ensures) (c .before .before .put-byte2 .ensures))
+returns c =
+    let at-hex-digit2 = c .before .before .before in
+    let at-put-byte = at-hex-digit2 .before .before .before .before in
+    rw (← at-put-byte .before .hex-digit .ensures, ← at-hex-digit2 .hex-digit2 .ensures) (andthen (at-put-byte .put-byte .ensures) (c .before .before .put-byte2 .ensures))
 
 pub put-pair-spec : {M : Type 1} → statement M
 put-pair-spec =
     tie.close
     (tie.spec
-    hex-digit-requires
+    (λ c κs. search needs)
     put-byte-requires
-    hex-digit-requires-2
+    (λ c κs. search needs)
     put-byte-requires-2
-    same-length
+    (λ c. search needs)
     returns)

@@ -23,8 +23,9 @@ shared-slice-read-put-pair c = omega arith
 
 put-pair-requires : tie.Need-put-pair-requires Inv-loop μ-loop
 put-pair-requires c κs =
-    let s = c .before .before .before .before .before .before in
-    room hexIn no-pairs pairs-join (s .args .bytes .now) (c .before .before .before .loop .inv .1) (c .before .before .loop-test .taken) (s .pre)
+    let at-loop = c .before .before .before in
+    let at-start = at-loop .before .before .before in
+    room hexIn no-pairs pairs-join (at-start .args .bytes .now) (at-loop .loop .inv .1) (c .before .before .loop-test .taken) (at-start .pre)
 
 add-i : tie.Need-add-i Inv-loop μ-loop
 add-i c = omega arith
@@ -34,9 +35,10 @@ loop-less c = omega arith
 
 loop-again : tie.Need-loop-again Inv-loop μ-loop
 loop-again c =
-    let s = c .before .before .before .before .before .before .before .before .before in (
+    let at-put-pair = c .before .before in
+    let at-loop-test = at-put-pair .before .before .before in (
       omega arith,
-      turn hexIn no-pairs pairs-join (s .args .bytes .now) (c .before .before .before .before .before .before .loop .inv .1) (c .before .before .before .before .before .loop-test .taken) (c .before .before .put-pair .ensures),
+      turn hexIn no-pairs pairs-join (at-loop-test .before .before .before .before .args .bytes .now) (at-loop-test .before .loop .inv .1) (at-loop-test .loop-test .taken) (at-put-pair .put-pair .ensures),
     )
 
 same-length : tie.Need-same-length Inv-loop μ-loop

@@ -13,19 +13,10 @@ use Rattle.lines.proofs.tag_line.Tie as tie
 abbrev line : tie.Start → List ℕ
 line s = tagLine (s .args .edition) (s .args .size) (s .args .flags) (s .args .ext)
 
-slice-relend-prefix-put-tag : tie.Need-slice-relend-prefix-put-tag
-slice-relend-prefix-put-tag c = search needs
-
-slice-aggregate-put-tag : tie.Need-slice-aggregate-put-tag
-slice-aggregate-put-tag c = search needs
-
 put-tag-requires : tie.Need-put-tag-requires
 put-tag-requires c κs =
     let a = c .before .before .args in
     omega (arith, tag-length (a .edition) (a .size) (a .flags) (a .ext))
-
-fits-requires : tie.Need-fits-requires
-fits-requires c κs = search needs
 
 put-tag-requires-2 : tie.Need-put-tag-requires-2
 put-tag-requires-2 c κs =
@@ -34,9 +25,6 @@ put-tag-requires-2 c κs =
     let s = k1 .before .before .before in
     has (line s) (s .args .at) (s .args .out .now) (k1 .put-tag .ensures) (f .fits2 .ensures) (c .before .if1 .taken) (s .good .0 .0)
 
-same-length : tie.Need-same-length
-same-length c = search needs
-
 returns : tie.Need-returns
 returns c =
     let k2 = c .before .before in
@@ -44,9 +32,6 @@ returns c =
     let k1 = f .before .before .before in
     let s = k1 .before .before .before in
     whole (line s) (s .args .at) (s .args .out .now) (k1 .put-tag .ensures) (f .fits2 .ensures) (c .before .before .before .before .if1 .taken) (k2 .put-tag2 .ensures)
-
-same-length-2 : tie.Need-same-length-2
-same-length-2 c = search needs
 
 returns-2 : tie.Need-returns-2
 returns-2 c =
@@ -59,12 +44,12 @@ pub tag-line-spec : {M : Type 1} → statement M
 tag-line-spec =
     tie.close
     (tie.spec
-    slice-relend-prefix-put-tag
-    slice-aggregate-put-tag
+    (λ c. search needs)
+    (λ c. search needs)
     put-tag-requires
-    fits-requires
+    (λ c κs. search needs)
     put-tag-requires-2
-    same-length
+    (λ c. search needs)
     returns
-    same-length-2
+    (λ c. search needs)
     returns-2)

@@ -5,49 +5,30 @@ use borrow.Author.Needs.{needs}
 use Rattle.listed.proofs.list.Statement.{statement}
 use Rattle.listed.proofs.list.Tie as tie
 
-header-requires : tie.Need-header-requires
-header-requires c κs = search needs
-
-enum-known-h : tie.Need-enum-known-h
-enum-known-h c = search needs
-
 put-tag-requires : tie.Need-put-tag-requires
-put-tag-requires c κs = sym (c .before .before .before .before .before .header .ensures) ∙ c .before .before .before .h .given .1
-
-enum-known-k : tie.Need-enum-known-k
-enum-known-k c = search needs
-
-refused-line-requires : tie.Need-refused-line-requires
-refused-line-requires c κs = search needs
-
-same-length : tie.Need-same-length
-same-length c = search needs
-
-same-length-2 : tie.Need-same-length-2
-same-length-2 c = search needs
-
-returns : tie.Need-returns
-returns c = search needs
-
-same-length-3 : tie.Need-same-length-3
-same-length-3 c = search needs
+put-tag-requires c κs =
+    let at-h = c .before .before .before in
+    sym (at-h .before .before .header .ensures) ∙ at-h .h .given .1
 
 returns-2 : tie.Need-returns-2
 returns-2 c =
-    let a = c .before .before .before .before .before .before .before .before .before .before .before .args in
-    not-headed (a .tag .now) (a .work .now) (a .out .now) (c .before .before .before .before .before .before .before .header .ensures) (c .before .before .before .before .before .k .given .1) (c .before .before .refused-line .ensures)
+    let at-refused-line = c .before .before in
+    let at-k = at-refused-line .before .before .before in
+    let at-header = at-k .before .before in
+    let a = at-header .before .before .before .before .args in
+    not-headed (a .tag .now) (a .work .now) (a .out .now) (at-header .header .ensures) (at-k .k .given .1) (at-refused-line .refused-line .ensures)
 
 pub list-spec : {M : Type 1} → statement M
 list-spec =
     tie.close
     (tie.spec
-    header-requires
-    enum-known-h
+    (λ c κs. search needs)
+    (λ c. search needs)
     put-tag-requires
-    enum-known-k
-    refused-line-requires
-    same-length
-    same-length-2
-    returns
-    same-length-3
+    (λ c. search needs)
+    (λ c κs. search needs)
+    (λ c. search needs)
+    (λ c. search needs)
+    (λ c. search needs)
+    (λ c. search needs)
     returns-2)

@@ -19,34 +19,35 @@ loop-holds c =
     let a = c .before .before .before .args in
     begins (a .tag .now) (a .work .now) (a .out .now) (a .at) (a .reader)
 
-put-step-requires : tie.Need-put-step-requires Inv-loop μ-loop
-put-step-requires c κs = search needs
-
-enum-known-placed : tie.Need-enum-known-placed Inv-loop μ-loop
-enum-known-placed c = search needs
-
 same-length : tie.Need-same-length Inv-loop μ-loop
-same-length c = c .before .before .before .before .before .before .before .put-step .kept .0 ∙ c .before .before .before .before .before .before .before .before .before .before .before .loop .inv .works
+same-length c =
+    let at-out = c .before .before .before .before in
+    let at-put-step = at-out .before .before .before in
+    at-put-step .put-step .kept .0 ∙ at-put-step .before .before .before .before .loop .inv .works
 
 same-length-2 : tie.Need-same-length-2 Inv-loop μ-loop
-same-length-2 c = c .before .before .before .before .before .before .before .put-step .kept .1 .0 ∙ c .before .before .before .before .before .before .before .before .before .before .before .loop .inv .outs
+same-length-2 c =
+    let at-out = c .before .before .before .before in
+    let at-put-step = at-out .before .before .before in
+    at-put-step .put-step .kept .1 .0 ∙ at-put-step .before .before .before .before .loop .inv .outs
 
 returns : tie.Need-returns Inv-loop μ-loop
-returns c = last (c .before .before .before .before .before .before .before .before .before .before .before .loop .inv) (c .before .before .before .before .before .before .before .before .before .before .loop-test .taken) (c .before .before .before .before .before .before .before .put-step .ensures) (c .before .placed .given .1)
-
-enum-known-next : tie.Need-enum-known-next Inv-loop μ-loop
-enum-known-next c = search needs
-
-add-number : tie.Need-add-number Inv-loop μ-loop
-add-number c = search needs
+returns c =
+    let at-out = c .before .before .before .before in
+    let at-put-step = at-out .before .before .before in
+    let at-loop-test = at-put-step .before .before .before in
+    last (at-loop-test .before .loop .inv) (at-loop-test .loop-test .taken) (at-put-step .put-step .ensures) (c .before .placed .given .1)
 
 loop-less : tie.Need-loop-less Inv-loop μ-loop
 loop-less c = omega arith
 
 loop-again : tie.Need-loop-again Inv-loop μ-loop
 loop-again c =
-    let p = c .before .before .before .before .before .before .before .put-step in
-    again (c .before .before .before .before .before .before .before .before .before .before .before .loop .inv) (c .before .before .before .before .before .before .before .before .before .before .loop-test .taken) (p .ensures) (p .kept .0) (p .kept .1 .0) (c .before .next .given .1)
+    let at-out = c .before .before .before .before in
+    let at-put-step = at-out .before .before .before in
+    let at-loop-test = at-put-step .before .before .before in
+    let p = at-put-step .put-step in
+    again (at-loop-test .before .loop .inv) (at-loop-test .loop-test .taken) (p .ensures) (p .kept .0) (p .kept .1 .0) (c .before .next .given .1)
 
 same-length-3 : tie.Need-same-length-3 Inv-loop μ-loop
 same-length-3 c = c .before .loop .inv .works
@@ -64,13 +65,13 @@ put-frames-spec =
     Inv-loop
     μ-loop
     loop-holds
-    put-step-requires
-    enum-known-placed
+    (λ c κs. search needs)
+    (λ c. search needs)
     same-length
     same-length-2
     returns
-    enum-known-next
-    add-number
+    (λ c. search needs)
+    (λ c. search needs)
     loop-less
     loop-again
     same-length-3

@@ -4,29 +4,19 @@ use borrow.Author.Needs.{needs}
 use Rattle.listed.proofs.put_record.Statement.{statement}
 use Rattle.listed.proofs.put_record.Tie as tie
 
-put-line-requires : tie.Need-put-line-requires
-put-line-requires c κs = search needs
-
-put-line-requires-2 : tie.Need-put-line-requires-2
-put-line-requires-2 c κs = search needs
-
-same-length : tie.Need-same-length
-same-length c = search needs
-
 returns : tie.Need-returns
 returns c =
-    let a = c .before .before .before .before .before .before .before .before .args in
-    in-buffer (a .version) (a .number) (a .r) (a .at) (a .out .now) (a .tag .now) (a .work .now) (c .before .before .before .before .if1 .taken) (c .before .before .put-line .ensures)
-
-same-length-2 : tie.Need-same-length-2
-same-length-2 c = search needs
+    let at-if1 = c .before .before .before .before in
+    let a = at-if1 .before .before .before .before .args in
+    in-buffer (a .version) (a .number) (a .r) (a .at) (a .out .now) (a .tag .now) (a .work .now) (at-if1 .if1 .taken) (c .before .before .put-line .ensures)
 
 returns-2 : tie.Need-returns-2
 returns-2 c =
-    let a = c .before .before .before .before .before .before .before .before .args in
-    in-buffer (a .version) (a .number) (a .r) (a .at) (a .out .now) (a .tag .now) (a .work .now) (c .before .before .before .before .if1 .left) (c .before .before .put-line2 .ensures)
+    let at-if1 = c .before .before .before .before in
+    let a = at-if1 .before .before .before .before .args in
+    in-buffer (a .version) (a .number) (a .r) (a .at) (a .out .now) (a .tag .now) (a .work .now) (at-if1 .if1 .left) (c .before .before .put-line2 .ensures)
 
 pub put-record-spec : {M : Type 1} → statement M
 put-record-spec =
     tie.close
-    (tie.spec put-line-requires put-line-requires-2 same-length returns same-length-2 returns-2)
+    (tie.spec (λ c κs. search needs) (λ c κs. search needs) (λ c. search needs) returns (λ c. search needs) returns-2)

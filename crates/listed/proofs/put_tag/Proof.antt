@@ -5,53 +5,44 @@ use borrow.Author.Needs.{needs}
 use Rattle.listed.proofs.put_tag.Statement.{statement}
 use Rattle.listed.proofs.put_tag.Tie as tie
 
-edition-requires : tie.Need-edition-requires
-edition-requires c κs = search needs
-
-tag-line-requires : tie.Need-tag-line-requires
-tag-line-requires c κs = search needs
-
-enum-known-at : tie.Need-enum-known-at
-enum-known-at c = search needs
-
 put-opened-requires : tie.Need-put-opened-requires
 put-opened-requires c κs =
-    let a = c .before .before .before .before .before .before .before .before .before .before .before .before .before .args in
-    there (a .tag .now) (a .h) (c .before .before .before .before .before .before .before .before .before .before .before .before .before .pre)
-
-enum-told : tie.Need-enum-told
-enum-told c = search needs
-
-same-length : tie.Need-same-length
-same-length c = search needs
-
-same-length-2 : tie.Need-same-length-2
-same-length-2 c = search needs
+    let at-at = c .before .before .before in
+    let at-tag-line = at-at .before .before .before .before in
+    let at-known = at-tag-line .before .before .before .before in
+    let at-start = at-known .before .before in
+    let a = at-start .args in
+    there (a .tag .now) (a .h) (at-start .pre)
 
 returns : tie.Need-returns
 returns c =
-    let a = c .before .before .before .before .before .before .before .before .before .before .before .before .before .before .before .before .before .before .args in
-    tag-put (a .tag .now) (a .work .now) (a .out .now) (sym (c .before .before .before .before .before .before .before .before .before .before .before .before .before .before .before .before .before .before .pre)) refl (c .before .before .before .before .before .before .before .before .before .before .before .before .before .edition .ensures) (c .before .before .before .before .before .before .before .before .before .before .before .before .tag-line .ensures) (c .before .before .before .before .before .before .before .before .at .given .1) (c .before .before .before .before .put-opened .ensures)
-
-same-length-3 : tie.Need-same-length-3
-same-length-3 c = search needs
+    let at-put-opened = c .before .before .before .before in
+    let at-at = at-put-opened .before .before .before .before in
+    let at-tag-line = at-at .before .before .before .before in
+    let at-known = at-tag-line .before .before .before .before in
+    let at-start = at-known .before .before in
+    let a = at-start .args in
+    tag-put (a .tag .now) (a .work .now) (a .out .now) (sym (at-start .pre)) refl (at-tag-line .before .version-number .ensures) (at-tag-line .tag-line .ensures) (at-at .at .given .1) (at-put-opened .put-opened .ensures)
 
 returns-2 : tie.Need-returns-2
 returns-2 c =
-    let a = c .before .before .before .before .before .before .before .before .before .before .args in
-    tag-full (a .tag .now) (a .work .now) (a .out .now) (sym (c .before .before .before .before .before .before .before .before .before .before .pre)) refl (c .before .before .before .before .before .edition .ensures) (c .before .before .before .before .tag-line .ensures) (c .enum-told .given .1)
+    let at-tag-line = c .before .before .before .before in
+    let at-known = at-tag-line .before .before .before .before in
+    let at-start = at-known .before .before in
+    let a = at-start .args in
+    tag-full (a .tag .now) (a .work .now) (a .out .now) (sym (at-start .pre)) refl (at-tag-line .before .version-number .ensures) (at-tag-line .tag-line .ensures) (c .enum-told .given .1)
 
 pub put-tag-spec : {M : Type 1} → statement M
 put-tag-spec =
     tie.close
     (tie.spec
-    edition-requires
-    tag-line-requires
-    enum-known-at
+    (λ c κs. search needs)
+    (λ c κs. search needs)
+    (λ c. search needs)
     put-opened-requires
-    enum-told
-    same-length
-    same-length-2
+    (λ c. search needs)
+    (λ c. search needs)
+    (λ c. search needs)
     returns
-    same-length-3
+    (λ c. search needs)
     returns-2)

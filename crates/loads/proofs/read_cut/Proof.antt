@@ -21,8 +21,9 @@ sub-if2 c = search needs
 
 returns-2 : tie.Need-returns-2
 returns-2 c =
-    let start = c .before .before .before .before .before in
-    rw (c .before .wide .ensures .0) (number-one (start .args .at) (start .args .s .now) (omega arith))
+    let at-first = c .before in
+    let start = at-first .before .before .before .before in
+    rw (at-first .wide .ensures .0) (number-one (start .args .at) (start .args .s .now) (omega arith))
 
 mul-two : tie.Need-mul-two
 mul-two c = search needs
@@ -44,8 +45,10 @@ sub-if3 c = search needs
 
 returns-3 : tie.Need-returns-3
 returns-3 c =
-    let start = c .before .before .before .before .before .before .before .before in
-    rw (c .before .before .before .before .wide .ensures .0, c .before .wide2 .ensures .0) (number-two (start .args .at) (start .args .s .now) (omega arith))
+    let at-second = c .before in
+    let at-first = at-second .before .before .before in
+    let start = at-first .before .before .before .before in
+    rw (at-first .wide .ensures .0, at-second .wide2 .ensures .0) (number-two (start .args .at) (start .args .s .now) (omega arith))
 
 mul-result : tie.Need-mul-result
 mul-result c = search needs
@@ -64,8 +67,10 @@ add-result c = search needs
 
 returns-4 : tie.Need-returns-4
 returns-4 c =
-    let start = c .before .before .before .before .before .before .before .before .before .before in
-    rw (c .before .before .before .before .before .before .wide .ensures .0, c .before .before .before .wide2 .ensures .0, c .wide3 .ensures .0) (number-left (start .args .at) (start .args .s .now) (omega arith))
+    let at-second = c .before .before .before in
+    let at-first = at-second .before .before .before in
+    let start = at-first .before .before .before .before in
+    rw (at-first .wide .ensures .0, at-second .wide2 .ensures .0, c .wide3 .ensures .0) (number-left (start .args .at) (start .args .s .now) (omega arith))
 
 pub read-cut-spec : {M : Type 1} → statement M
 read-cut-spec =

@@ -30,9 +30,10 @@ add-result c = search needs
 
 returns : tie.Need-returns
 returns c =
-    let start = c .before .before .before .before .before in
+    let at-high = c .before .before in
+    let start = at-high .before .before .before in
     ap₂ (λ (x y : ℕ). x * 0x100000000 + y)
-    (c .before .before .half .ensures .0 ∙ c .before .before .before .read-whole .ensures)
+    (at-high .half .ensures .0 ∙ at-high .before .read-whole .ensures)
     (c .half2 .ensures .0 ∙ c .before .read-whole2 .ensures)
     ∙ number-in-two (start .args .at) 4 4 (start .args .s .now) (omega arith)
 

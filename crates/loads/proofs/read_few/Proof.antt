@@ -3,14 +3,14 @@ use borrow.Author.Needs.{needs}
 use Rattle.loads.proofs.read_few.Statement.{statement}
 use Rattle.loads.proofs.read_few.Tie as tie
 
-up-to-eight-requires : tie.Need-up-to-eight-requires
-up-to-eight-requires c κs = search needs
+least-requires : tie.Need-least-requires
+least-requires c κs = search needs
 
 read-some-requires : tie.Need-read-some-requires
 read-some-requires c κs = search needs
 
 returns : tie.Need-returns
-returns c = rw (← c .before .up-to-eight .ensures .0) (c .read-some .ensures)
+returns c = rw (← c .before .least .ensures) (c .read-some .ensures)
 
 pub read-few-spec : {M : Type 1} → statement M
-read-few-spec = tie.close (tie.spec up-to-eight-requires read-some-requires returns)
+read-few-spec = tie.close (tie.spec least-requires read-some-requires returns)

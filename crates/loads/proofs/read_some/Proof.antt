@@ -1,10 +1,10 @@
 -- `loads::read_some` meets its contract: what the rest gives behind n is what the whole gives. Assumes nothing.
 use mathlib.Core.Path.{_≡_, refl, sym, ap, _∙_}
-use Prim.Native.Nat.{ℕ, _+_, _-_, _*_, _^_, _≤_, _<_}
+use Prim.Native.Nat.{ℕ, _+_, _-_, _*_, _^_, _≤_, _<_, min}
 use native.Mathlib.Nat.{one-le-pow}
 use native.Mathlib.Omega.{arith}
 use borrow.Author.Needs.{needs}
-use lib.ListN.{take}
+use lib.ListN.{length, take}
 use lib.Seq.{slice}
 use Rattle.format.specs.Numbers.{onto, number}
 use Rattle.loads.proofs.Onto.{onto-next, onto-small, onto-grows, ended}
@@ -21,23 +21,35 @@ abbrev μ-loop : tie.MeasureT-loop
 loop-holds : tie.Need-loop-holds Inv-loop μ-loop
 loop-holds c = (omega arith, one-le-pow _ 256 (omega arith), refl)
 
+abbrev at-start : tie.At-loop Inv-loop μ-loop → tie.Start Inv-loop μ-loop
+at-start c = c .before .before
+
+-- where no byte is left to read
+stops : (c : tie.At-loop Inv-loop μ-loop) →
+    let a = at-start c .args in
+    min (c .loop .left) (min (a .to) (length (a .s .now)) - c .loop .i) ≡ 0
+    → (c .loop .n ≡ number (take (a .most) (slice (a .from) (a .to) (a .s .now)))) × (c .loop .n < 256 ^ a .most)
+stops c none =
+    let a = at-start c .args in
+    let L = c .loop in
+    ended (a .most) (L .left) (L .i) (a .to) (L .n) (a .s .now) _ (L .inv .1) (L .inv .2) none
+
 returns : tie.Need-returns Inv-loop μ-loop
-returns c =
-    let L = c .before .before .loop in
-    let a = c .before .before .before .before .args in
-    ended (a .most) (L .left) (L .i) (a .to) (L .n) (a .s .now) _ (L .inv .1) (L .inv .2) (omega arith)
+returns c = stops (c .before .before) (omega arith)
 
 returns-2 : tie.Need-returns-2 Inv-loop μ-loop
-returns-2 c =
-    let L = c .before .before .before .loop in
-    let a = c .before .before .before .before .before .args in
-    ended (a .most) (L .left) (L .i) (a .to) (L .n) (a .s .now) _ (L .inv .1) (L .inv .2) (omega arith)
+returns-2 c = stops (c .before .before .before) (omega arith)
+
+-- another byte has room
+small : (c : tie.At-loop Inv-loop μ-loop) → 0 < c .loop .left → c .loop .n < 2 ^ 56
+small c some =
+    let a = at-start c .args in
+    let p = at-start c .pre in
+    let L = c .loop in
+    onto-small (a .most - L .left) (L .n) (omega (arith, L .inv .0)) (L .inv .1)
 
 mul-n : tie.Need-mul-n Inv-loop μ-loop
-mul-n c =
-    let L = c .before .before .before .loop in
-    let a = c .before .before .before .before .before .args in
-    omega (arith, onto-small (a .most - L .left) (L .n) (omega arith) (L .inv .1))
+mul-n c = omega (arith, small (c .before .before .before) (omega arith))
 
 shared-slice-read-wide64 : tie.Need-shared-slice-read-wide64 Inv-loop μ-loop
 shared-slice-read-wide64 c = search needs
@@ -47,9 +59,8 @@ wide64-requires c κs = search needs
 
 add-n : tie.Need-add-n Inv-loop μ-loop
 add-n c =
-    let L = c .before .before .before .before .before .loop in
-    let a = c .before .before .before .before .before .before .before .args in
-    omega (arith, onto-small (a .most - L .left) (L .n) (omega arith) (L .inv .1), c .wide64 .ensures .1)
+    let at-byte = c .before .before in
+    omega (arith, small (at-byte .before .before .before) (omega arith), c .wide64 .ensures .1)
 
 sub-left : tie.Need-sub-left Inv-loop μ-loop
 sub-left c = search needs
@@ -62,8 +73,10 @@ loop-less c = search needs
 
 loop-again : tie.Need-loop-again Inv-loop μ-loop
 loop-again c =
-    let L = c .before .before .before .before .before .loop in
-    let a = c .before .before .before .before .before .before .before .args in
+    let at-byte = c .before .before in
+    let at-loop = at-byte .before .before .before in
+    let L = at-loop .loop in
+    let a = at-start at-loop .args in
     let s = a .s .now in
     let one : a .most - (L .left - 1) ≡ a .most - L .left + 1 = omega arith in (
       omega arith,
@@ -74,10 +87,7 @@ loop-again c =
     )
 
 returns-3 : tie.Need-returns-3 Inv-loop μ-loop
-returns-3 c =
-    let L = c .before .loop in
-    let a = c .before .before .before .args in
-    ended (a .most) (L .left) (L .i) (a .to) (L .n) (a .s .now) _ (L .inv .1) (L .inv .2) (omega arith)
+returns-3 c = stops (c .before) (omega arith)
 
 pub read-some-spec : {M : Type 1} → statement M
 read-some-spec =

@@ -6,51 +6,35 @@ use borrow.Author.Needs.{needs}
 use Rattle.back.proofs.reading.first.Statement.{statement}
 use Rattle.back.proofs.reading.first.Tie as tie
 
-step-requires : tie.Need-step-requires
-step-requires c κs = search needs
-
-enum-known-step : tie.Need-enum-known-step
-enum-known-step c = search needs
-
-second-requires : tie.Need-second-requires
-second-requires c κs = search needs
-
-enum-told : tie.Need-enum-told
-enum-told c = search needs
-
-enum-told-2 : tie.Need-enum-told-2
-enum-told-2 c = search needs
-
-same-length : tie.Need-same-length
-same-length c = search needs
-
 returns : tie.Need-returns
-returns c = c .before .before .second .ensures ∙ answered (onFirst (c .before .before .before .before .before .before .before .before .before .before .before .before .before .args .tag .now)) (c .before .before .before .before .before .step2 .given .1) (c .before .before .before .before .before .before .before .before .before .step .ensures)
-
-same-length-2 : tie.Need-same-length-2
-same-length-2 c = search needs
+returns c =
+    let at-second = c .before .before in
+    let at-step2 = at-second .before .before .before in
+    let at-step = at-step2 .before .before .before .before in
+    at-second .second .ensures ∙ answered (onFirst (at-step .before .before .before .before .args .tag .now)) (at-step2 .step2 .given .1) (at-step .step .ensures)
 
 returns-2 : tie.Need-returns-2
-returns-2 c = answered (onFirst (c .before .before .before .before .before .before .before .before .args .tag .now)) (c .enum-told .given .1) (c .before .before .before .before .step .ensures)
-
-same-length-3 : tie.Need-same-length-3
-same-length-3 c = search needs
+returns-2 c =
+    let at-step = c .before .before .before .before in
+    answered (onFirst (at-step .before .before .before .before .args .tag .now)) (c .enum-told .given .1) (at-step .step .ensures)
 
 returns-3 : tie.Need-returns-3
-returns-3 c = answered (onFirst (c .before .before .before .before .before .before .before .before .args .tag .now)) (c .enum-told2 .given .1) (c .before .before .before .before .step .ensures)
+returns-3 c =
+    let at-step = c .before .before .before .before in
+    answered (onFirst (at-step .before .before .before .before .args .tag .now)) (c .enum-told2 .given .1) (at-step .step .ensures)
 
 pub first-spec : {M : Type 1} → statement M
 first-spec =
     tie.close
     (tie.spec
-    step-requires
-    enum-known-step
-    second-requires
-    enum-told
-    enum-told-2
-    same-length
+    (λ c κs. search needs)
+    (λ c. search needs)
+    (λ c κs. search needs)
+    (λ c. search needs)
+    (λ c. search needs)
+    (λ c. search needs)
     returns
-    same-length-2
+    (λ c. search needs)
     returns-2
-    same-length-3
+    (λ c. search needs)
     returns-3)

@@ -6,41 +6,29 @@ use borrow.Author.Needs.{needs}
 use Rattle.back.proofs.reading.read_one.Statement.{statement}
 use Rattle.back.proofs.reading.read_one.Tie as tie
 
-open-requires : tie.Need-open-requires
-open-requires c κs = search needs
-
-enum-known-opened : tie.Need-enum-known-opened
-enum-known-opened c = search needs
-
-first-requires : tie.Need-first-requires
-first-requires c κs = search needs
-
-enum-told : tie.Need-enum-told
-enum-told c = search needs
-
-same-length : tie.Need-same-length
-same-length c = search needs
-
 returns : tie.Need-returns
 unfolding readOf
-returns c = c .before .before .first .ensures ∙ answered (onOpened (c .before .before .before .before .before .before .before .before .before .before .before .before .before .args .tag .now)) (c .before .before .before .before .before .opened .given .1) (c .before .before .before .before .before .before .before .before .before .«open» .ensures)
-
-same-length-2 : tie.Need-same-length-2
-same-length-2 c = search needs
+returns c =
+    let at-first = c .before .before in
+    let at-opened = at-first .before .before .before in
+    let at-open = at-opened .before .before .before .before in
+    at-first .first .ensures ∙ answered (onOpened (at-open .before .before .before .before .args .tag .now)) (at-opened .opened .given .1) (at-open .«open» .ensures)
 
 returns-2 : tie.Need-returns-2
 unfolding readOf
-returns-2 c = answered (onOpened (c .before .before .before .before .before .before .before .before .args .tag .now)) (c .enum-told .given .1) (c .before .before .before .before .«open» .ensures)
+returns-2 c =
+    let at-open = c .before .before .before .before in
+    answered (onOpened (at-open .before .before .before .before .args .tag .now)) (c .enum-told .given .1) (at-open .«open» .ensures)
 
 pub read-one-spec : {M : Type 1} → statement M
 read-one-spec =
     tie.close
     (tie.spec
-    open-requires
-    enum-known-opened
-    first-requires
-    enum-told
-    same-length
+    (λ c κs. search needs)
+    (λ c. search needs)
+    (λ c κs. search needs)
+    (λ c. search needs)
+    (λ c. search needs)
     returns
-    same-length-2
+    (λ c. search needs)
     returns-2)

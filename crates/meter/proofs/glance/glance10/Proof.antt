@@ -1,15 +1,11 @@
 -- `meter::glance::glance10` meets its contract. Assumes nothing.
 use borrow.Author.Needs.{needs}
 use mathlib.Core.Path.{ap, _∙_}
-use Prim.Native.Nat.{ℕ}
 use native.Mathlib.Omega.{arith}
 use Rattle.meter.specs.Glances.{sizeBy}
 use Rattle.meter.proofs.Glances.{ten-end, ten-says, ten-says-flagged}
 use Rattle.meter.proofs.glance.glance10.Statement.{statement}
 use Rattle.meter.proofs.glance.glance10.Tie as tie
-
-read32-requires : tie.Need-read32-requires
-read32-requires c κs = search needs
 
 returns : tie.Need-returns
 returns c =
@@ -17,94 +13,58 @@ returns c =
     let a = start .args in
     ten-end (a .at) (a .left) (a .s .now) (λ i. omega (arith, c .before .before .shared-slice-known .given i)) (start .pre) (c .before .read32 .result) (c .before .read32 .ensures) (a .v4) (c .if1 .taken)
 
-returns-2 : tie.Need-returns-2
-returns-2 c = search needs
-
-add-read32 : tie.Need-add-read32
-add-read32 c = search needs
-
-read32-requires-2 : tie.Need-read32-requires-2
-read32-requires-2 c κs = search needs
-
-size-of-requires : tie.Need-size-of-requires
-size-of-requires c κs = search needs
-
-returns-3 : tie.Need-returns-3
-returns-3 c = search needs
-
-add-flags : tie.Need-add-flags
-add-flags c = search needs
-
-shared-slice-read-flags : tie.Need-shared-slice-read-flags
-shared-slice-read-flags c = search needs
-
-kind-of-requires : tie.Need-kind-of-requires
-kind-of-requires c κs = search needs
-
-add-by-kind : tie.Need-add-by-kind
-add-by-kind c = search needs
-
-by-kind-requires : tie.Need-by-kind-requires
-by-kind-requires c κs = search needs
-
 returns-4 : tie.Need-returns-4
 returns-4 c =
-    let start = c .before .before .before .before .before .before .before .before .before .before .before in
+    let at-kind-of = c .before in
+    let at-if3 = at-kind-of .before .before .before in
+    let at-size-of = at-if3 .before in
+    let at-if2 = at-size-of .before .before in
+    let at-bytes = at-if2 .before .before .before in
+    let start = at-bytes .before in
     let a = start .args in
-    let id = c .before .before .before .before .before .before .before .before .before .read32 in
-    ten-says (a .at) (a .left) (a .s .now) (λ i. omega (arith, c .before .before .before .before .before .before .before .before .before .before .shared-slice-known .given i)) (start .pre) (id .result) (id .ensures) (c .before .before .before .before .before .before .before .before .if1 .left) (c .before .before .before .before .before .before .before .if2 .left)
-    (c .before .before .before .before .before .size-of .result) (c .before .before .before .before .if3 .left) (c .before .kind-of .result) (c .before .kind-of .ensures) (c .by-kind .result) (c .by-kind .ensures) (a .v4)
-    (c .before .before .before .before .before .size-of .ensures ∙ ap (sizeBy (a .v4)) (c .before .before .before .before .before .before .read322 .ensures)) (c .before .before .if4 .taken)
-
-kind-of-requires-2 : tie.Need-kind-of-requires-2
-kind-of-requires-2 c κs = search needs
-
-add-by-kind-2 : tie.Need-add-by-kind-2
-add-by-kind-2 c = search needs
-
-by-kind-requires-2 : tie.Need-by-kind-requires-2
-by-kind-requires-2 c κs = search needs
-
-with-flag-requires : tie.Need-with-flag-requires
-with-flag-requires c κs = search needs
+    let id = at-if2 .before .before .read32 in
+    ten-says (a .at) (a .left) (a .s .now) (λ i. omega (arith, at-bytes .shared-slice-known .given i)) (start .pre) (id .result) (id .ensures) (at-if2 .before .if1 .left) (at-if2 .if2 .left)
+    (at-size-of .size-of .result) (at-if3 .if3 .left) (at-kind-of .kind-of .result) (at-kind-of .kind-of .ensures) (c .by-kind .result) (c .by-kind .ensures) (a .v4)
+    (at-size-of .size-of .ensures ∙ ap (sizeBy (a .v4)) (at-size-of .before .read322 .ensures)) (at-kind-of .before .if4 .taken)
 
 returns-5 : tie.Need-returns-5
 returns-5 c =
-    let start = c .before .before .before .before .before .before .before .before .before .before .before .before .before .before in
+    let at-by-kind2 = c .before in
+    let at-kind-of2 = at-by-kind2 .before in
+    let at-if5 = at-kind-of2 .before .before in
+    let at-if3 = at-if5 .before .before .before in
+    let at-size-of = at-if3 .before in
+    let at-if2 = at-size-of .before .before in
+    let at-bytes = at-if2 .before .before .before in
+    let start = at-bytes .before in
     let a = start .args in
-    let id = c .before .before .before .before .before .before .before .before .before .before .before .before .read32 in
+    let id = at-if2 .before .before .read32 in
     rw (c .with-flag .ensures)
-    (ten-says-flagged (a .at) (a .left) (a .s .now) (λ i. omega (arith, c .before .before .before .before .before .before .before .before .before .before .before .before .before .shared-slice-known .given i)) (start .pre) (id .result) (id .ensures) (c .before .before .before .before .before .before .before .before .before .before .before .if1 .left) (c .before .before .before .before .before .before .before .before .before .before .if2 .left)
-    (c .before .before .before .before .before .before .before .before .size-of .result) (c .before .before .before .before .before .before .before .if3 .left) (c .before .before .kind-of2 .result) (c .before .before .kind-of2 .ensures) (c .before .by-kind2 .result) (c .before .by-kind2 .ensures) (a .v4) (c .before .before .before .if6 .taken)
-    (c .before .before .before .before .before .before .before .before .size-of .ensures ∙ ap (sizeBy (a .v4)) (c .before .before .before .before .before .before .before .before .before .read322 .ensures)) (c .before .before .before .before .if5 .taken))
-
-returns-6 : tie.Need-returns-6
-returns-6 c = search needs
-
-returns-7 : tie.Need-returns-7
-returns-7 c = search needs
+    (ten-says-flagged (a .at) (a .left) (a .s .now) (λ i. omega (arith, at-bytes .shared-slice-known .given i)) (start .pre) (id .result) (id .ensures) (at-if2 .before .if1 .left) (at-if2 .if2 .left)
+    (at-size-of .size-of .result) (at-if3 .if3 .left) (at-kind-of2 .kind-of2 .result) (at-kind-of2 .kind-of2 .ensures) (at-by-kind2 .by-kind2 .result) (at-by-kind2 .by-kind2 .ensures) (a .v4) (at-kind-of2 .before .if6 .taken)
+    (at-size-of .size-of .ensures ∙ ap (sizeBy (a .v4)) (at-size-of .before .read322 .ensures)) (at-if5 .if5 .taken))
 
 pub glance10-spec : {M : Type 1} → statement M
 glance10-spec =
     tie.close
     (tie.spec
-    read32-requires
+    (λ c κs. search needs)
     returns
-    returns-2
-    add-read32
-    read32-requires-2
-    size-of-requires
-    returns-3
-    add-flags
-    shared-slice-read-flags
-    kind-of-requires
-    add-by-kind
-    by-kind-requires
+    (λ c. search needs)
+    (λ c. search needs)
+    (λ c κs. search needs)
+    (λ c κs. search needs)
+    (λ c. search needs)
+    (λ c. search needs)
+    (λ c. search needs)
+    (λ c κs. search needs)
+    (λ c. search needs)
+    (λ c κs. search needs)
     returns-4
-    kind-of-requires-2
-    add-by-kind-2
-    by-kind-requires-2
-    with-flag-requires
+    (λ c κs. search needs)
+    (λ c. search needs)
+    (λ c κs. search needs)
+    (λ c κs. search needs)
     returns-5
-    returns-6
-    returns-7)
+    (λ c. search needs)
+    (λ c. search needs))

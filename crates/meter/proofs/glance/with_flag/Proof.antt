@@ -3,47 +3,20 @@ use borrow.Author.Needs.{needs}
 use Rattle.meter.proofs.glance.with_flag.Statement.{statement}
 use Rattle.meter.proofs.glance.with_flag.Tie as tie
 
-enum-known-g : tie.Need-enum-known-g
-enum-known-g c = search needs
-
-enum-told : tie.Need-enum-told
-enum-told c = search needs
-
-enum-told-2 : tie.Need-enum-told-2
-enum-told-2 c = search needs
-
-enum-told-3 : tie.Need-enum-told-3
-enum-told-3 c = search needs
-
-enum-told-4 : tie.Need-enum-told-4
-enum-told-4 c = search needs
-
 returns : tie.Need-returns
 returns c = cc
-
-returns-2 : tie.Need-returns-2
-returns-2 c = search needs
-
-returns-3 : tie.Need-returns-3
-returns-3 c = search needs
-
-returns-4 : tie.Need-returns-4
-returns-4 c = search needs
-
-returns-5 : tie.Need-returns-5
-returns-5 c = search needs
 
 pub with-flag-spec : {M : Type 1} → statement M
 with-flag-spec =
     tie.close
     (tie.spec
-    enum-known-g
-    enum-told
-    enum-told-2
-    enum-told-3
-    enum-told-4
+    (λ c. search needs)
+    (λ c. search needs)
+    (λ c. search needs)
+    (λ c. search needs)
+    (λ c. search needs)
     returns
-    returns-2
-    returns-3
-    returns-4
-    returns-5)
+    (λ c. search needs)
+    (λ c. search needs)
+    (λ c. search needs)
+    (λ c. search needs))

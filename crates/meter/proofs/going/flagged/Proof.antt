@@ -1,55 +1,35 @@
 -- `meter::going::flagged` meets its contract. Assumes nothing.
 use borrow.Author.Needs.{needs}
-use mathlib.Core.Path.{_≡_, sym, ap, _∙_}
-use mathlib.Core.List.{List}
-use Prim.Native.Nat.{ℕ}
 use lib.Seq.{slice}
 use Rattle.format.specs.Unsynch.{resynchronised}
-use Rattle.unsynch.specs.declared.Put.{Put}
-use Rattle.meter.proofs.Meets.{flagged-refused, flagged-put}
+use Rattle.meter.proofs.Meets.{flagged-put}
 use Rattle.meter.proofs.going.flagged.Statement.{statement}
 use Rattle.meter.proofs.going.flagged.Tie as tie
 
-resync-into-requires : tie.Need-resync-into-requires
-resync-into-requires c κs = search needs
-
-enum-known-k : tie.Need-enum-known-k
-enum-known-k c = search needs
-
-enum-told : tie.Need-enum-told
-enum-told c = search needs
-
-passed-requires : tie.Need-passed-requires
-passed-requires c κs = search needs
-
-same-length : tie.Need-same-length
-same-length c = search needs
-
 returns : tie.Need-returns
 returns c =
-    let a = c .before .before .before .before .before .before .before .before .before .args in
-    flagged-refused (resynchronised (slice (a .first) (a .next) (a .tag .now))) (a .next) (a .work .now) (c .before .before .before .before .before .resync-into .last .0)
-    (ap {B = Put × List ℕ} (λ (x : Put). (x, c .before .before .before .before .before .resync-into .last .0)) (sym (c .before .k .given .1)) ∙ c .before .before .before .before .before .resync-into .ensures)
-
-same-length-2 : tie.Need-same-length-2
-same-length-2 c = search needs
+    let at-work = c .before .before .before .before in
+    let at-put = at-work .before in
+    let a = at-put .before .before .before .before .args in
+    rw (c .before .k .given .1) at (flagged-put (resynchronised (slice (a .first) (a .next) (a .tag .now))) (a .next) (a .work .now) (at-put .resync-into .ensures))
 
 returns-2 : tie.Need-returns-2
 returns-2 c =
-    let a = c .before .before .before .before .before .before .before .before .before .args in
+    let at-work = c .before .before .before .before in
+    let at-put = at-work .before in
+    let a = at-put .before .before .before .before .args in
     rw (c .passed .ensures)
-    (flagged-put (resynchronised (slice (a .first) (a .next) (a .tag .now))) (a .next) (a .work .now) (c .before .before .before .before .before .resync-into .last .0)
-    (ap {B = Put × List ℕ} (λ (x : Put). (x, c .before .before .before .before .before .resync-into .last .0)) (sym (c .before .enum-told .given .1)) ∙ c .before .before .before .before .before .resync-into .ensures))
+    (rw (c .before .enum-told .given .1) at (flagged-put (resynchronised (slice (a .first) (a .next) (a .tag .now))) (a .next) (a .work .now) (at-put .resync-into .ensures)))
 
 pub flagged-spec : {M : Type 1} → statement M
 flagged-spec =
     tie.close
     (tie.spec
-    resync-into-requires
-    enum-known-k
-    enum-told
-    passed-requires
-    same-length
+    (λ c κs. search needs)
+    (λ c. search needs)
+    (λ c. search needs)
+    (λ c κs. search needs)
+    (λ c. search needs)
     returns
-    same-length-2
+    (λ c. search needs)
     returns-2)

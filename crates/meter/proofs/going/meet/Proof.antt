@@ -1,215 +1,160 @@
 -- `meter::going::meet` meets its contract. Assumes nothing.
 use borrow.Author.Needs.{needs}
 use native.Mathlib.Omega.{arith}
-use mathlib.Core.Bool.{true, false}
-use mathlib.Core.Path.{ap}
+use mathlib.Core.Bool.{Bool}
+use mathlib.Core.Path.{_≡_, ap}
+use mathlib.Core.List.{List}
+use Prim.Native.Nat.{ℕ, _+_, _^_, _<_}
 use lib.ListN.{length}
+use lib.Seq.{slice}
+use Rattle.format.specs.Frame.{headLen}
+use Rattle.walk.specs.Sources.{sourceOf}
+use Rattle.meter.specs.Glances.{Whole, Says}
 use Rattle.meter.specs.declared.glance.Glance.{Glance}
-use Rattle.meter.proofs.Meets.{told, meets-end, meets-plain, meets-flagged, meets-meter, fits-here}
+use Rattle.meter.proofs.Meets.{says-here, meets-end, meets-plain, meets-flagged, meets-meter, fits-here}
 use Rattle.meter.proofs.going.meet.Statement.{statement}
 use Rattle.meter.proofs.going.meet.Tie as tie
 
-source-requires : tie.Need-source-requires
-source-requires c κs = search needs
+-- ---- behind the glance
 
-least-requires : tie.Need-least-requires
-least-requires c κs = search needs
+abbrev at-source : tie.After-glance-at → tie.After-source
+at-source c = c .before .before
 
-glance-at-requires : tie.Need-glance-at-requires
-glance-at-requires c κs = search needs
+abbrev at-start : tie.After-glance-at → tie.Start
+at-start c = at-source c .before .before .before .before
 
-enum-told : tie.Need-enum-told
-enum-told c = search needs
+-- the bytes from the place on
+abbrev here : tie.After-glance-at → List ℕ
+here c =
+    let a = at-start c .args in
+    slice (a .at) (a .end) (sourceOf (a .in-work) (a .work .now) (a .tag .now))
 
-pass-at-requires : tie.Need-pass-at-requires
-pass-at-requires c κs = search needs
+module _ (c : tie.After-glance-at) where
+  says : {g : Glance} → c .glance-at .result ≡ g → Says (at-start c .args .version) (here c) g
+  says {g} is =
+      let a = at-start c .args in
+      let s = at-source c .source in
+      let last = c .before .least in
+      says-here (a .version) (a .in-work) (a .at) (a .end) (last .result) (s .result .now) (a .tag .now) (a .work .now) g (s .ensures) (last .ensures) (rw is at (c .glance-at .ensures))
 
-enum-told-2 : tie.Need-enum-told-2
-enum-told-2 c = search needs
-
-enum-known-size : tie.Need-enum-known-size
-enum-known-size c = search needs
-
-head-len-requires : tie.Need-head-len-requires
-head-len-requires c κs = search needs
+  -- the end of a whole frame is a number
+  fits : {n : ℕ} {flagged : Bool} → Whole (at-start c .args .version) flagged n (here c) → {head : ℕ} → head ≡ headLen (at-start c .args .version)
+      → at-start c .args .at + head + n < 2 ^ 64
+  fits {n} {flagged} h is =
+      let a = at-start c .args in
+      omega (
+        arith,
+        is,
+        fits-here (a .version) (a .in-work) 0 (a .at) (a .end) (a .tag .now) (a .work .now) n flagged h,
+        ap length (at-source c .source .ensures),
+        at-start c .good,
+      )
 
 add-passed : tie.Need-add-passed
 add-passed c =
-    let a = c .before .before .before .before .before .before .before .before .before .before .args in
-    let s = c .before .before .before .before .before .before .source in
-    let last = c .before .before .before .before .before .least in
-    let said = told (a .version) (a .in-work) (a .at) (a .end) (last .result) (s .result .now) (a .tag .now) (a .work .now) (Glance.Plain (c .before .before .size .given .0 .0)) (s .ensures) (last .ensures) (rw (c .before .before .size .given .1) at (c .before .before .before .before .glance-at .ensures)) in
-    let fits = fits-here (a .version) (a .in-work) 0 (a .at) (a .end) (a .tag .now) (a .work .now) (c .before .before .size .given .0 .0) false (said .0) in
-    omega (arith, fits, ap length (s .ensures), c .head-len .ensures .0, c .before .before .before .before .before .before .before .before .before .before .good)
+    let at-plain = c .before .before in
+    let at-glance = at-plain .before .before in
+    omega (arith, fits at-glance (says at-glance (at-plain .size .given .1) .0) (c .head-len .ensures .0))
 
 add-passed-2 : tie.Need-add-passed-2
 add-passed-2 c =
-    let a = c .before .before .before .before .before .before .before .before .before .before .args in
-    let s = c .before .before .before .before .before .before .source in
-    let last = c .before .before .before .before .before .least in
-    let said = told (a .version) (a .in-work) (a .at) (a .end) (last .result) (s .result .now) (a .tag .now) (a .work .now) (Glance.Plain (c .before .before .size .given .0 .0)) (s .ensures) (last .ensures) (rw (c .before .before .size .given .1) at (c .before .before .before .before .glance-at .ensures)) in
-    let fits = fits-here (a .version) (a .in-work) 0 (a .at) (a .end) (a .tag .now) (a .work .now) (c .before .before .size .given .0 .0) false (said .0) in
-    omega (arith, fits, ap length (s .ensures), c .head-len .ensures .0, c .before .before .before .before .before .before .before .before .before .before .good)
-
-passed-requires : tie.Need-passed-requires
-passed-requires c κs = search needs
-
-enum-known-size-2 : tie.Need-enum-known-size-2
-enum-known-size-2 c = search needs
-
-pass-at-requires-2 : tie.Need-pass-at-requires-2
-pass-at-requires-2 c κs = search needs
-
-same-length : tie.Need-same-length
-same-length c = search needs
-
-returns : tie.Need-returns
-returns c = search needs
-
-head-len-requires-2 : tie.Need-head-len-requires-2
-head-len-requires-2 c κs = search needs
+    let at-plain = c .before .before in
+    let at-glance = at-plain .before .before in
+    omega (arith, fits at-glance (says at-glance (at-plain .size .given .1) .0) (c .head-len .ensures .0))
 
 add-first : tie.Need-add-first
 add-first c =
-    let a = c .before .before .before .before .before .before .before .before .before .before .before .args in
-    let s = c .before .before .before .before .before .before .before .source in
-    let last = c .before .before .before .before .before .before .least in
-    let said = told (a .version) (a .in-work) (a .at) (a .end) (last .result) (s .result .now) (a .tag .now) (a .work .now) (Glance.Flagged (c .before .before .before .size2 .given .0 .0)) (s .ensures) (last .ensures) (rw (c .before .before .before .size2 .given .1) at (c .before .before .before .before .before .glance-at .ensures)) in
-    let fits = fits-here (a .version) (a .in-work) 0 (a .at) (a .end) (a .tag .now) (a .work .now) (c .before .before .before .size2 .given .0 .0) true (said .0) in
-    omega (arith, fits, ap length (s .ensures), c .head-len2 .ensures .0, c .before .before .before .before .before .before .before .before .before .before .before .good)
+    let at-flagged = c .before .before .before in
+    let at-glance = at-flagged .before .before in
+    omega (arith, fits at-glance (says at-glance (at-flagged .size2 .given .1) .0) (c .head-len2 .ensures .0))
 
 add-flagged : tie.Need-add-flagged
 add-flagged c =
-    let a = c .before .before .before .before .before .before .before .before .before .before .before .before .args in
-    let s = c .before .before .before .before .before .before .before .before .source in
-    let last = c .before .before .before .before .before .before .before .least in
-    let said = told (a .version) (a .in-work) (a .at) (a .end) (last .result) (s .result .now) (a .tag .now) (a .work .now) (Glance.Flagged (c .before .before .before .before .size2 .given .0 .0)) (s .ensures) (last .ensures) (rw (c .before .before .before .before .size2 .given .1) at (c .before .before .before .before .before .before .glance-at .ensures)) in
-    let fits = fits-here (a .version) (a .in-work) 0 (a .at) (a .end) (a .tag .now) (a .work .now) (c .before .before .before .before .size2 .given .0 .0) true (said .0) in
-    omega (arith, fits, ap length (s .ensures), c .before .head-len2 .ensures .0, c .before .before .before .before .before .before .before .before .before .before .before .before .good)
-
-flagged-requires : tie.Need-flagged-requires
-flagged-requires c κs = search needs
-
-enum-known-size-3 : tie.Need-enum-known-size-3
-enum-known-size-3 c = search needs
-
-head-len-requires-3 : tie.Need-head-len-requires-3
-head-len-requires-3 c κs = search needs
+    let at-flagged = c .before .before .before .before in
+    let at-glance = at-flagged .before .before in
+    omega (arith, fits at-glance (says at-glance (at-flagged .size2 .given .1) .0) (c .before .head-len2 .ensures .0))
 
 add-first-2 : tie.Need-add-first-2
 add-first-2 c =
-    let a = c .before .before .before .before .before .before .before .before .before .before .args in
-    let s = c .before .before .before .before .before .before .source in
-    let last = c .before .before .before .before .before .least in
-    let said = told (a .version) (a .in-work) (a .at) (a .end) (last .result) (s .result .now) (a .tag .now) (a .work .now) (Glance.Meter (c .before .before .size3 .given .0 .0)) (s .ensures) (last .ensures) (rw (c .before .before .size3 .given .1) at (c .before .before .before .before .glance-at .ensures)) in
-    let fits = fits-here (a .version) (a .in-work) 0 (a .at) (a .end) (a .tag .now) (a .work .now) (c .before .before .size3 .given .0 .0) false (said .0) in
-    omega (arith, fits, ap length (s .ensures), c .head-len3 .ensures .0, c .before .before .before .before .before .before .before .before .before .before .good)
+    let at-meter = c .before .before in
+    let at-glance = at-meter .before .before in
+    omega (arith, fits at-glance (says at-glance (at-meter .size3 .given .1) .0) (c .head-len3 .ensures .0))
 
 add-next : tie.Need-add-next
 add-next c =
-    let a = c .before .before .before .before .before .before .before .before .before .before .args in
-    let s = c .before .before .before .before .before .before .source in
-    let last = c .before .before .before .before .before .least in
-    let said = told (a .version) (a .in-work) (a .at) (a .end) (last .result) (s .result .now) (a .tag .now) (a .work .now) (Glance.Meter (c .before .before .size3 .given .0 .0)) (s .ensures) (last .ensures) (rw (c .before .before .size3 .given .1) at (c .before .before .before .before .glance-at .ensures)) in
-    let fits = fits-here (a .version) (a .in-work) 0 (a .at) (a .end) (a .tag .now) (a .work .now) (c .before .before .size3 .given .0 .0) false (said .0) in
-    omega (arith, fits, ap length (s .ensures), c .head-len3 .ensures .0, c .before .before .before .before .before .before .before .before .before .before .good)
-
-parse-requires : tie.Need-parse-requires
-parse-requires c κs = search needs
-
-read-as-requires : tie.Need-read-as-requires
-read-as-requires c κs = search needs
-
-same-length-2 : tie.Need-same-length-2
-same-length-2 c = search needs
-
-returns-2 : tie.Need-returns-2
-returns-2 c = search needs
-
-same-length-3 : tie.Need-same-length-3
-same-length-3 c = search needs
+    let at-meter = c .before .before in
+    let at-glance = at-meter .before .before in
+    omega (arith, fits at-glance (says at-glance (at-meter .size3 .given .1) .0) (c .head-len3 .ensures .0))
 
 returns-3 : tie.Need-returns-3
 returns-3 c =
-    let a = c .before .before .before .before .before .before .before .before .args in
-    let s = c .before .before .before .before .source in
-    let last = c .before .before .before .least in
-    let said = told (a .version) (a .in-work) (a .at) (a .end) (last .result) (s .result .now) (a .tag .now) (a .work .now) (Glance.End) (s .ensures) (last .ensures) (rw (c .enum-told2 .given .1) at (c .before .before .glance-at .ensures)) in
-    λ begin. meets-end (a .version) (a .in-work) begin (a .at) (a .end) (a .tag .now) (a .work .now) said
-
-same-length-4 : tie.Need-same-length-4
-same-length-4 c = search needs
+    let at-glance = c .before .before in
+    let a = at-start at-glance .args in
+    λ begin. meets-end (a .version) (a .in-work) begin (a .at) (a .end) (a .tag .now) (a .work .now) (says at-glance (c .enum-told2 .given .1))
 
 returns-4 : tie.Need-returns-4
 returns-4 c =
-    let a = c .before .before .before .before .before .before .before .before .before .before .before .args in
-    let s = c .before .before .before .before .before .before .before .source in
-    let last = c .before .before .before .before .before .before .least in
-    let said = told (a .version) (a .in-work) (a .at) (a .end) (last .result) (s .result .now) (a .tag .now) (a .work .now) (Glance.Plain (c .before .before .before .size .given .0 .0)) (s .ensures) (last .ensures) (rw (c .before .before .before .size .given .1) at (c .before .before .before .before .before .glance-at .ensures)) in
+    let at-plain = c .before .before .before in
+    let at-glance = at-plain .before .before in
+    let a = at-start at-glance .args in
     λ begin. rw (c .passed .ensures, c .before .head-len .ensures .0)
-    (meets-plain (a .version) (a .in-work) begin (a .at) (a .end) (a .tag .now) (a .work .now) (c .before .before .before .size .given .0 .0) said)
-
-same-length-5 : tie.Need-same-length-5
-same-length-5 c = search needs
+    (meets-plain (a .version) (a .in-work) begin (a .at) (a .end) (a .tag .now) (a .work .now) _ (says at-glance (at-plain .size .given .1)))
 
 returns-5 : tie.Need-returns-5
 returns-5 c =
-    let a = c .before .before .before .before .before .before .before .before .before .before .before .before .before .before .before .args in
-    let s = c .before .before .before .before .before .before .before .before .before .before .before .source in
-    let last = c .before .before .before .before .before .before .before .before .before .before .least in
-    let said = told (a .version) (a .in-work) (a .at) (a .end) (last .result) (s .result .now) (a .tag .now) (a .work .now) (Glance.Flagged (c .before .before .before .before .before .before .before .size2 .given .0 .0)) (s .ensures) (last .ensures) (rw (c .before .before .before .before .before .before .before .size2 .given .1) at (c .before .before .before .before .before .before .before .before .before .glance-at .ensures)) in
-    λ begin. meets-flagged (a .version) (a .in-work) begin (a .at) (a .end) (a .tag .now) (a .work .now) (c .before .before .before .before .before .before .before .size2 .given .0 .0) (c .before .before .before .before .before .if1 .left) said
-    (rw (c .before .before .before .before .head-len2 .ensures .0) at (c .before .before .flagged .ensures))
-
-same-length-6 : tie.Need-same-length-6
-same-length-6 c = search needs
+    let at-passed = c .before .before in
+    let at-head-len = at-passed .before .before in
+    let at-flagged = at-head-len .before .before .before in
+    let at-glance = at-flagged .before .before in
+    let a = at-start at-glance .args in
+    λ begin. meets-flagged (a .version) (a .in-work) begin (a .at) (a .end) (a .tag .now) (a .work .now) _ (at-head-len .before .if1 .left) (says at-glance (at-flagged .size2 .given .1))
+    (rw (at-head-len .head-len2 .ensures .0) at (at-passed .flagged .ensures))
 
 returns-6 : tie.Need-returns-6
 returns-6 c =
-    let a = c .before .before .before .before .before .before .before .before .before .before .before .before .args in
-    let s = c .before .before .before .before .before .before .before .before .source in
-    let last = c .before .before .before .before .before .before .before .least in
-    let said = told (a .version) (a .in-work) (a .at) (a .end) (last .result) (s .result .now) (a .tag .now) (a .work .now) (Glance.Meter (c .before .before .before .before .size3 .given .0 .0)) (s .ensures) (last .ensures) (rw (c .before .before .before .before .size3 .given .1) at (c .before .before .before .before .before .before .glance-at .ensures)) in
-    let first = c .before .before .head-len3 .ensures .0 in
-    λ begin. meets-meter (a .version) (a .in-work) begin (a .at) (a .end) (a .tag .now) (a .work .now) (c .before .before .before .before .size3 .given .0 .0) said
-    (rw first at (rw (s .ensures) at (c .before .parse .ensures (a .version)))) (λ id place from len. rw first at (c .read-as .ensures (a .version) id place from len))
+    let at-head-len = c .before .before in
+    let at-meter = at-head-len .before .before in
+    let at-glance = at-meter .before .before in
+    let a = at-start at-glance .args in
+    λ begin. meets-meter (a .version) (a .in-work) begin (a .at) (a .end) (a .tag .now) (a .work .now) _ (says at-glance (at-meter .size3 .given .1)) (at-head-len .head-len3 .ensures .0) (at-source at-glance .source .ensures)
+    (c .before .parse .ensures (a .version)) (c .read-as .ensures (a .version))
 
 pub meet-spec : {M : Type 1} → statement M
 meet-spec =
     tie.close
     (tie.spec
-    source-requires
-    least-requires
-    glance-at-requires
-    enum-told
-    pass-at-requires
-    enum-told-2
-    enum-known-size
-    head-len-requires
+    (λ c κs. search needs)
+    (λ c κs. search needs)
+    (λ c κs. search needs)
+    (λ c. search needs)
+    (λ c κs. search needs)
+    (λ c. search needs)
+    (λ c. search needs)
+    (λ c κs. search needs)
     add-passed
     add-passed-2
-    passed-requires
-    enum-known-size-2
-    pass-at-requires-2
-    same-length
-    returns
-    head-len-requires-2
+    (λ c κs. search needs)
+    (λ c. search needs)
+    (λ c κs. search needs)
+    (λ c. search needs)
+    (λ c. search needs)
+    (λ c κs. search needs)
     add-first
     add-flagged
-    flagged-requires
-    enum-known-size-3
-    head-len-requires-3
+    (λ c κs. search needs)
+    (λ c. search needs)
+    (λ c κs. search needs)
     add-first-2
     add-next
-    parse-requires
-    read-as-requires
-    same-length-2
-    returns-2
-    same-length-3
+    (λ c κs. search needs)
+    (λ c κs. search needs)
+    (λ c. search needs)
+    (λ c. search needs)
+    (λ c. search needs)
     returns-3
-    same-length-4
+    (λ c. search needs)
     returns-4
-    same-length-5
+    (λ c. search needs)
     returns-5
-    same-length-6
+    (λ c. search needs)
     returns-6)

@@ -4,15 +4,6 @@ use borrow.Author.Tests.{ne-eqb}
 use Rattle.meter.proofs.opening.front_of.Statement.{statement}
 use Rattle.meter.proofs.opening.front_of.Tie as tie
 
-where-clear-requires : tie.Need-where-clear-requires
-where-clear-requires c κs = search needs
-
-where-clear-requires-2 : tie.Need-where-clear-requires-2
-where-clear-requires-2 c κs = search needs
-
-where-clear-requires-3 : tie.Need-where-clear-requires-3
-where-clear-requires-3 c κs = search needs
-
 returns : tie.Need-returns
 returns c = rw (c .before .match .keys1) (c .where-clear .ensures)
 
@@ -32,9 +23,9 @@ pub front-of-spec : {M : Type 1} → statement M
 front-of-spec =
     tie.close
     (tie.spec
-    where-clear-requires
-    where-clear-requires-2
-    where-clear-requires-3
+    (λ c κs. search needs)
+    (λ c κs. search needs)
+    (λ c κs. search needs)
     returns
     returns-2
     returns-3

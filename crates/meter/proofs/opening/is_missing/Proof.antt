@@ -7,15 +7,9 @@ use Rattle.meter.proofs.opening.is_missing.Tie as tie
 returns : tie.Need-returns
 returns c = missing-short (c .before .before .args .tag .now) (c .if1 .taken)
 
-sub-result : tie.Need-sub-result
-sub-result c = search needs
-
-size-of-requires : tie.Need-size-of-requires
-size-of-requires c κs = search needs
-
 returns-2 : tie.Need-returns-2
 returns-2 c =
     missing-long (c .before .before .before .args .tag .now) (c .before .if1 .left) (c .size-of .ensures .0)
 
 pub is-missing-spec : {M : Type 1} → statement M
-is-missing-spec = tie.close (tie.spec returns sub-result size-of-requires returns-2)
+is-missing-spec = tie.close (tie.spec returns (λ c. search needs) (λ c κs. search needs) returns-2)

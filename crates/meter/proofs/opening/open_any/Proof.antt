@@ -7,56 +7,38 @@ use Prim.Native.Nat.{ℕ}
 use Rattle.reader.specs.declared.Opened.{Opened}
 use Rattle.meter.specs.Meter.{meterAt}
 use Rattle.meter.proofs.Openings.{opens-any, opens-refused}
-use Rattle.reader.specs.declared.Reader.{Reader}
 use Rattle.meter.proofs.opening.open_any.Statement.{statement}
 use Rattle.meter.proofs.opening.open_any.Tie as tie
 
-open-requires : tie.Need-open-requires
-open-requires c κs = search needs
-
-enum-known-opened : tie.Need-enum-known-opened
-enum-known-opened c = search needs
-
-is-missing-requires : tie.Need-is-missing-requires
-is-missing-requires c κs = search needs
-
-metered-requires : tie.Need-metered-requires
-metered-requires c κs = search needs
-
-enum-known-opened-2 : tie.Need-enum-known-opened-2
-enum-known-opened-2 c = search needs
-
-same-length : tie.Need-same-length
-same-length c = search needs
-
 returns : tie.Need-returns
 returns c =
-    let a = c .before .before .before .before .before .before .before .before .before .before .before .args in
-    let made = c .before .before .before .before .before .before .before .«open» in
-    opens-any (a .tag .now) (a .work .now) (made .last .0) (c .before .before .before .opened .given .0 .0) (c .metered .result)
-    (c .metered .ensures ∙ ap (λ (t : Bool). meterAt t (c .before .before .before .opened .given .0 .0)) (c .before .is-missing .ensures))
-    (ap {B = Opened × List ℕ} (λ (x : Opened). (x, made .last .0)) (sym (c .before .before .before .opened .given .1)) ∙ made .ensures)
-
-same-length-2 : tie.Need-same-length-2
-same-length-2 c = search needs
+    let at-opened = c .before .before .before in
+    let at-open = at-opened .before .before .before .before in
+    let a = at-open .before .before .before .before .args in
+    let made = at-open .«open» in
+    opens-any (a .tag .now) (a .work .now) (made .last .0) (at-opened .opened .given .0 .0) (c .metered .result)
+    (c .metered .ensures ∙ ap (λ (t : Bool). meterAt t (at-opened .opened .given .0 .0)) (c .before .is-missing .ensures))
+    (ap {B = Opened × List ℕ} (λ (x : Opened). (x, made .last .0)) (sym (at-opened .opened .given .1)) ∙ made .ensures)
 
 returns-2 : tie.Need-returns-2
 returns-2 c =
-    let a = c .before .before .before .before .before .before .before .before .before .args in
-    let made = c .before .before .before .before .before .«open» in
-    opens-refused (a .tag .now) (a .work .now) (made .last .0) (c .before .opened2 .given .0 .0)
-    (ap {B = Opened × List ℕ} (λ (x : Opened). (x, made .last .0)) (sym (c .before .opened2 .given .1)) ∙ made .ensures)
+    let at-opened2 = c .before in
+    let at-open = at-opened2 .before .before .before .before in
+    let a = at-open .before .before .before .before .args in
+    let made = at-open .«open» in
+    opens-refused (a .tag .now) (a .work .now) (made .last .0) (at-opened2 .opened2 .given .0 .0)
+    (ap {B = Opened × List ℕ} (λ (x : Opened). (x, made .last .0)) (sym (at-opened2 .opened2 .given .1)) ∙ made .ensures)
 
 pub open-any-spec : {M : Type 1} → statement M
 open-any-spec =
     tie.close
     (tie.spec
-    open-requires
-    enum-known-opened
-    is-missing-requires
-    metered-requires
-    enum-known-opened-2
-    same-length
+    (λ c κs. search needs)
+    (λ c. search needs)
+    (λ c κs. search needs)
+    (λ c κs. search needs)
+    (λ c. search needs)
+    (λ c. search needs)
     returns
-    same-length-2
+    (λ c. search needs)
     returns-2)

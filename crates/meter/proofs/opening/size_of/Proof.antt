@@ -8,15 +8,6 @@ use Rattle.loads.proofs.Words.{synchsafe-four}
 use Rattle.meter.proofs.opening.size_of.Statement.{statement}
 use Rattle.meter.proofs.opening.size_of.Tie as tie
 
-read32-requires : tie.Need-read32-requires
-read32-requires c κs = search needs
-
-decode-u32-requires : tie.Need-decode-u32-requires
-decode-u32-requires c κs = search needs
-
-cast-result : tie.Need-cast-result
-cast-result c = search needs
-
 returns : tie.Need-returns
 returns c =
     let start = c .before .before .before in (
@@ -27,4 +18,4 @@ returns c =
     )
 
 pub size-of-spec : {M : Type 1} → statement M
-size-of-spec = tie.close (tie.spec read32-requires decode-u32-requires cast-result returns)
+size-of-spec = tie.close (tie.spec (λ c κs. search needs) (λ c κs. search needs) (λ c. search needs) returns)

@@ -3,24 +3,6 @@ use borrow.Author.Needs.{needs}
 use Rattle.reader.proofs.Reader.answer.Statement.{statement}
 use Rattle.reader.proofs.Reader.answer.Tie as tie
 
-enum-told : tie.Need-enum-told
-enum-told c = search needs
-
-stopped-requires : tie.Need-stopped-requires
-stopped-requires c κs = search needs
-
-enum-known-shown : tie.Need-enum-known-shown
-enum-known-shown c = search needs
-
-stopped-requires-2 : tie.Need-stopped-requires-2
-stopped-requires-2 c κs = search needs
-
-enum-known-shown-2 : tie.Need-enum-known-shown-2
-enum-known-shown-2 c = search needs
-
-moved-requires : tie.Need-moved-requires
-moved-requires c κs = search needs
-
 returns : tie.Need-returns
 returns c = rw (c .before .enum-told .given .1, c .stopped .ensures)
 
@@ -34,12 +16,12 @@ pub answer-spec : {M : Type 1} → statement M
 answer-spec =
     tie.close
     (tie.spec
-    enum-told
-    stopped-requires
-    enum-known-shown
-    stopped-requires-2
-    enum-known-shown-2
-    moved-requires
+    (λ c. search needs)
+    (λ c κs. search needs)
+    (λ c. search needs)
+    (λ c κs. search needs)
+    (λ c. search needs)
+    (λ c κs. search needs)
     returns
     returns-2
     returns-3)

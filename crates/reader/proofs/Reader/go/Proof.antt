@@ -4,21 +4,13 @@ use borrow.Author.Needs.{needs}
 use Rattle.reader.proofs.Reader.go.Statement.{statement}
 use Rattle.reader.proofs.Reader.go.Tie as tie
 
-frame-at-requires : tie.Need-frame-at-requires
-frame-at-requires c κs = search needs
-
-answer-requires : tie.Need-answer-requires
-answer-requires c κs = search needs
-
-same-length : tie.Need-same-length
-same-length c = search needs
-
 returns : tie.Need-returns
 returns c =
-    let a = c .before .before .before .before .before .before .before .args in
-    gone (a .self) (a .tag .now) (a .work .now) (c .before .before .before .frame-at .ensures) (c .answer .ensures)
+    let at-frame-at = c .before .before .before in
+    let a = at-frame-at .before .before .before .before .args in
+    gone (a .self) (a .tag .now) (a .work .now) (at-frame-at .frame-at .ensures) (c .answer .ensures)
 
 pub go-spec : {M : Type 1} → statement M
 go-spec =
     tie.close
-    (tie.spec frame-at-requires answer-requires same-length returns)
+    (tie.spec (λ c κs. search needs) (λ c κs. search needs) (λ c. search needs) returns)

@@ -13,9 +13,6 @@ use Rattle.reader.proofs.headers.begins.Tie as tie
 returns : tie.Need-returns
 returns c = rw (lt-leb 10 (length (c .before .before .args .tag .now)) (c .if1 .taken))
 
-read32-requires : tie.Need-read32-requires
-read32-requires c κs = search needs
-
 returns-2 : tie.Need-returns-2
 returns-2 c =
     let tag = c .before .before .before .args .tag .now in
@@ -24,4 +21,4 @@ returns-2 c =
     rw (e, le-leb 10 (length tag) (c .before .if1 .left))
 
 pub begins-spec : {M : Type 1} → statement M
-begins-spec = tie.close (tie.spec returns read32-requires returns-2)
+begins-spec = tie.close (tie.spec returns (λ c κs. search needs) returns-2)

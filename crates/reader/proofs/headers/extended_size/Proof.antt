@@ -10,9 +10,6 @@ use Rattle.reader.proofs.headers.extended_size.Tie as tie
 shared-slice-read-has : tie.Need-shared-slice-read-has
 shared-slice-read-has c = omega (arith, accepted _ (c .before .before .pre))
 
-has-requires : tie.Need-has-requires
-has-requires c κs = search needs
-
 synchsafe-requires : tie.Need-synchsafe-requires
 synchsafe-requires c κs =
     let there = accepted _ (c .before .before .before .before .pre) .there (sym (c .before .has .ensures) ∙ c .if1 .taken) in
@@ -28,4 +25,4 @@ returns-2 c = rw (sym (c .before .has .ensures) ∙ c .if1 .left)
 
 pub extended-size-spec : {M : Type 1} → statement M
 extended-size-spec =
-    tie.close (tie.spec shared-slice-read-has has-requires synchsafe-requires returns returns-2)
+    tie.close (tie.spec shared-slice-read-has (λ c κs. search needs) synchsafe-requires returns returns-2)

@@ -4,18 +4,6 @@ use Rattle.reader.proofs.Opens.{region-start, region-end}
 use Rattle.reader.proofs.headers.region_of.Statement.{statement}
 use Rattle.reader.proofs.headers.region_of.Tie as tie
 
-end-of-requires : tie.Need-end-of-requires
-end-of-requires c κs = search needs
-
-cast-least : tie.Need-cast-least
-cast-least c = search needs
-
-add-least : tie.Need-add-least
-add-least c = search needs
-
-least-requires : tie.Need-least-requires
-least-requires c κs = search needs
-
 returns : tie.Need-returns
 returns c =
     let a = c .before .before .before .before .args in
@@ -25,4 +13,4 @@ returns c =
     )
 
 pub region-of-spec : {M : Type 1} → statement M
-region-of-spec = tie.close (tie.spec end-of-requires cast-least add-least least-requires returns)
+region-of-spec = tie.close (tie.spec (λ c κs. search needs) (λ c. search needs) (λ c. search needs) (λ c κs. search needs) returns)

@@ -8,12 +8,6 @@ use Rattle.loads.proofs.Words.{synchsafe-four}
 use Rattle.reader.proofs.headers.synchsafe.Statement.{statement}
 use Rattle.reader.proofs.headers.synchsafe.Tie as tie
 
-read32-requires : tie.Need-read32-requires
-read32-requires c κs = search needs
-
-decode-u32-requires : tie.Need-decode-u32-requires
-decode-u32-requires c κs = search needs
-
 returns : tie.Need-returns
 returns c =
     let a = c .before .before .before .args in
@@ -22,4 +16,4 @@ returns c =
     ∙ synchsafe-four (a .at) (a .s .now) (c .before .before .before .pre) (λ i. omega (arith, c .before .before .shared-slice-known .given i))
 
 pub synchsafe-spec : {M : Type 1} → statement M
-synchsafe-spec = tie.close (tie.spec read32-requires decode-u32-requires returns)
+synchsafe-spec = tie.close (tie.spec (λ c κs. search needs) (λ c κs. search needs) returns)

@@ -13,72 +13,49 @@ tag c = c .before .before .before .before .args .tag .now
 abbrev work : tie.After-is-whole → List ℕ
 work c = c .before .before .before .before .args .work .now
 
-told : (c : tie.After-is-whole)
+is-told : (c : tie.After-is-whole)
     → Told (tag c) (c .before .before .before .before .args .h) (c .before .region-of .result .start) (c .before .region-of .result .end) (c .is-whole .result)
-told c = record {
+is-told c = record {
   head = c .before .before .before .before .pre;
   starts = c .before .region-of .ensures .0;
   ends = c .before .region-of .ensures .1;
   says = c .is-whole .ensures;
 }
 
-region-of-requires : tie.Need-region-of-requires
-region-of-requires c κs = search needs
-
-is-whole-requires : tie.Need-is-whole-requires
-is-whole-requires c κs = search needs
-
-ready-requires : tie.Need-ready-requires
-ready-requires c κs = search needs
-
 returns : tie.Need-returns
 returns c =
-    let p = c .before .before in
-    in-tag (told p) (work p) (not-true _ (c .before .if1 .taken)) (c .ready .ensures)
-
-resync-into-requires : tie.Need-resync-into-requires
-resync-into-requires c κs = search needs
-
-enum-known-put : tie.Need-enum-known-put
-enum-known-put c = search needs
-
-ready-requires-2 : tie.Need-ready-requires-2
-ready-requires-2 c κs = search needs
-
-enum-known-put-2 : tie.Need-enum-known-put-2
-enum-known-put-2 c = search needs
-
-same-length : tie.Need-same-length
-same-length c = search needs
+    let at-whole = c .before .before in
+    in-tag (is-told at-whole) (work at-whole) (not-true _ (c .before .if1 .taken)) (c .ready .ensures)
 
 returns-2 : tie.Need-returns-2
 returns-2 c =
-    let p = c .before .before .before .before .before .before .before .before .before in
-    let on = not-false _ (c .before .before .before .before .before .before .before .before .if1 .left) in
-    in-work (told p) (work p) on (c .before .before .before .before .before .before .resync-into .ensures) (c .before .before .put .given .1) (c .ready2 .ensures)
-
-same-length-2 : tie.Need-same-length-2
-same-length-2 c = search needs
+    let at-put = c .before .before in
+    let at-resync-into = at-put .before .before .before .before in
+    let at-whole = at-resync-into .before .before .before in
+    let on = not-false _ (at-resync-into .before .before .if1 .left) in
+    in-work (is-told at-whole) (work at-whole) on (at-resync-into .resync-into .ensures) (at-put .put .given .1) (c .ready2 .ensures)
 
 returns-3 : tie.Need-returns-3
 returns-3 c =
-    let p = c .before .before .before .before .before .before .before .before in
-    let on = not-false _ (c .before .before .before .before .before .before .before .if1 .left) in
-    too-small (told p) (work p) on (c .before .before .before .before .before .resync-into .ensures) (c .before .put2 .given .1)
+    let at-work = c .before .before .before .before in
+    let at-if1 = at-work .before .before .before in
+    let at-whole = at-if1 .before in
+    let on = not-false _ (at-if1 .if1 .left) in
+    too-small (is-told at-whole) (work at-whole) on (at-work .before .resync-into .ensures) (c .before .put2 .given .1)
 
 pub open-found-spec : {M : Type 1} → statement M
 open-found-spec =
     tie.close
     (tie.spec
-    region-of-requires
-    is-whole-requires
-    ready-requires
+    (λ c κs. search needs)
+    (λ c κs. search needs)
+    (λ c κs. search needs)
     returns
-    resync-into-requires
-    enum-known-put
-    ready-requires-2
-    enum-known-put-2
-    same-length
+    (λ c κs. search needs)
+    (λ c. search needs)
+    (λ c κs. search needs)
+    (λ c. search needs)
+    (λ c. search needs)
     returns-2
-    same-length-2
+    (λ c. search needs)
     returns-3)
