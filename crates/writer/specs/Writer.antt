@@ -7,7 +7,7 @@ use lib.Seq.{sets}
 use lib.Dec.{ltb, leb, eqb}
 use Rattle.format.specs.Bytes.{pick}
 use Rattle.format.specs.Header.{versionOf}
-use Rattle.format.specs.Numbered.{isMode, isVersion}
+use Rattle.format.specs.Numbered.{isMode, isVersion, modeOf}
 use Rattle.format.specs.Record.{Rec}
 use Rattle.format.specs.Encode.{isLost, refusalOf, encode, regionBytes, tagOf}
 use Rattle.format.specs.declared.Version.{Version}
