@@ -35,14 +35,6 @@ use Rattle.capi.specs.Metering.{openedWords, isRunning, versionIn, stopp
 
 -- ---- single words say what they are
 
-pub no-version : (n : ℕ) → (n ≡ 2 → ⊥) → (n ≡ 3 → ⊥) → (n ≡ 4 → ⊥) → isVersion n ≡ false
-no-version n h2 h3 h4 = by (leb 2 n) (leb n 4) refl refl
-  where
-    by : (a b : Bool) → leb 2 n ≡ a → leb n 4 ≡ b → (a && b) ≡ false
-    by false b ea eb = refl
-    by true false ea eb = refl
-    by true true ea eb = let l = leb-true 2 n ea in let h = leb-true n 4 eb in absurd (omega (arith, h2, h3, h4))
-
 -- the edition that a number says
 
 pub bad-version : (n : ℕ) → versionIn n ≡ GivenVersion.Bad → isVersion n ≡ false

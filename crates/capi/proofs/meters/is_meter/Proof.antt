@@ -1,6 +1,4 @@
 -- `capi::meters::is_meter` meets its contract. Assumes nothing.
-use borrow.Author.Tests.{not-true, not-false}
-use mathlib.Core.Path.{sym, _∙_}
 use borrow.Author.Needs.{needs}
 use Rattle.capi.proofs.meters.is_meter.Statement.{statement}
 use Rattle.capi.proofs.meters.is_meter.Tie as tie
@@ -20,9 +18,6 @@ shared-slice-read-is-reader-4 c = search needs
 is-reader-requires : tie.Need-is-reader-requires
 is-reader-requires c κs = search needs
 
-returns : tie.Need-returns
-returns c = rw (sym (c .before .is-reader .ensures) ∙ not-true _ (c .if1 .taken))
-
 shared-slice-read-result : tie.Need-shared-slice-read-result
 shared-slice-read-result c = search needs
 
@@ -32,8 +27,8 @@ shared-slice-read-result-2 c = search needs
 shared-slice-read-result-3 : tie.Need-shared-slice-read-result-3
 shared-slice-read-result-3 c = search needs
 
-returns-2 : tie.Need-returns-2
-returns-2 c = rw (sym (c .before .before .before .before .is-reader .ensures) ∙ not-false _ (c .before .before .before .if1 .left))
+returns : tie.Need-returns
+returns c = rw (c .before .before .before .is-reader .ensures)
 
 pub is-meter-spec : {M : Type 1} → statement M
 is-meter-spec =
@@ -44,8 +39,7 @@ is-meter-spec =
     shared-slice-read-is-reader-3
     shared-slice-read-is-reader-4
     is-reader-requires
-    returns
     shared-slice-read-result
     shared-slice-read-result-2
     shared-slice-read-result-3
-    returns-2)
+    returns)

@@ -9,6 +9,9 @@ use Rattle.capi.proofs.meters.store_opened.Tie as tie
 version-number-requires : tie.Need-version-number-requires
 version-number-requires c κs = search needs
 
+cast-words : tie.Need-cast-words
+cast-words c = search needs
+
 slice-write-words : tie.Need-slice-write-words
 slice-write-words c = search needs
 
@@ -60,6 +63,7 @@ store-opened-spec =
     tie.close
     (tie.spec
     version-number-requires
+    cast-words
     slice-write-words
     flag-requires
     slice-write-words-2

@@ -9,23 +9,26 @@ use Rattle.capi.proofs.words.store_header.Tie as tie
 version-number-requires : tie.Need-version-number-requires
 version-number-requires c κs = search needs
 
-slice-write-words : tie.Need-slice-write-words
-slice-write-words c = search needs
-
 cast-words : tie.Need-cast-words
 cast-words c = search needs
 
-slice-write-words-2 : tie.Need-slice-write-words-2
-slice-write-words-2 c = simp length-set (omega arith)
+slice-write-words : tie.Need-slice-write-words
+slice-write-words c = search needs
 
 cast-words-2 : tie.Need-cast-words-2
 cast-words-2 c = search needs
 
-slice-write-words-3 : tie.Need-slice-write-words-3
-slice-write-words-3 c = simp length-set (omega arith)
+slice-write-words-2 : tie.Need-slice-write-words-2
+slice-write-words-2 c = simp length-set (omega arith)
 
 cast-words-3 : tie.Need-cast-words-3
 cast-words-3 c = search needs
+
+slice-write-words-3 : tie.Need-slice-write-words-3
+slice-write-words-3 c = simp length-set (omega arith)
+
+cast-words-4 : tie.Need-cast-words-4
+cast-words-4 c = search needs
 
 slice-write-words-4 : tie.Need-slice-write-words-4
 slice-write-words-4 c = simp length-set (omega arith)
@@ -42,12 +45,13 @@ store-header-spec =
     tie.close
     (tie.spec
     version-number-requires
-    slice-write-words
     cast-words
-    slice-write-words-2
+    slice-write-words
     cast-words-2
-    slice-write-words-3
+    slice-write-words-2
     cast-words-3
+    slice-write-words-3
+    cast-words-4
     slice-write-words-4
     same-length
     returns)

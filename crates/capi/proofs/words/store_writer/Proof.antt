@@ -9,11 +9,17 @@ use Rattle.capi.proofs.words.store_writer.Tie as tie
 version-number-requires : tie.Need-version-number-requires
 version-number-requires c κs = search needs
 
+cast-words : tie.Need-cast-words
+cast-words c = search needs
+
 slice-write-words : tie.Need-slice-write-words
 slice-write-words c = search needs
 
 mode-number-requires : tie.Need-mode-number-requires
 mode-number-requires c κs = search needs
+
+cast-words-2 : tie.Need-cast-words-2
+cast-words-2 c = search needs
 
 slice-write-words-2 : tie.Need-slice-write-words-2
 slice-write-words-2 c = simp length-set (omega arith)
@@ -39,8 +45,10 @@ store-writer-spec =
     tie.close
     (tie.spec
     version-number-requires
+    cast-words
     slice-write-words
     mode-number-requires
+    cast-words-2
     slice-write-words-2
     flag-requires
     slice-write-words-3
