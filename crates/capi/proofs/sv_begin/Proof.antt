@@ -9,7 +9,9 @@ returns : tie.Need-returns
 returns c = let a = c .before .before .args in sym (begin-short (a .version) (a .mode) (a .altered) (a .writer .now) (c .if1 .taken))
 
 returns-2 : tie.Need-returns-2
-returns-2 c = let a = c .before .before .before .args in sym (begin-altered (a .version) (a .mode) (a .altered) (a .writer .now) (c .before .if1 .left) (c .if2 .taken))
+returns-2 c =
+    let at-start = c .before .before .before in
+    let a = at-start .args in sym (begin-altered (a .version) (a .mode) (a .altered) (a .writer .now) (c .before .if1 .left) (c .if2 .taken))
 
 returns-3 : tie.Need-returns-3
 returns-3 c =
@@ -23,24 +25,10 @@ returns-4 c =
     let a = at-altered .before .before .before .args in
     sym (begin-mode (a .version) (a .mode) (a .altered) (a .writer .now) (at-altered .before .if1 .left) (at-altered .if2 .left) (c .if4 .taken))
 
-cast-begin : tie.Need-cast-begin
-cast-begin c = search needs
-
-cast-begin-2 : tie.Need-cast-begin-2
-cast-begin-2 c = search needs
-
-begin-requires : tie.Need-begin-requires
-begin-requires c κs = search needs
-
-store-begun-requires : tie.Need-store-begun-requires
-store-begun-requires c κs = search needs
-
-same-length : tie.Need-same-length
-same-length c = search needs
-
 returns-5 : tie.Need-returns-5
 returns-5 c =
-    let at-begin = c .before .before .before .before in
+    let at-before = c .before .before .before in
+    let at-begin = at-before .before in
     let at-altered = at-begin .before .before .before in
     let a = at-altered .before .before .before .args in
     c .before .before .store-begun .ensures ∙ sym (begin-then (a .version) (a .mode) (a .altered) (a .writer .now) (at-altered .before .if1 .left) (at-altered .if2 .left) (sym (at-begin .begin .ensures)))
@@ -53,9 +41,9 @@ sv-begin-spec =
     returns-2
     returns-3
     returns-4
-    cast-begin
-    cast-begin-2
-    begin-requires
-    store-begun-requires
-    same-length
+    (λ c. search needs)
+    (λ c. search needs)
+    (λ c κs. search needs)
+    (λ c κs. search needs)
+    (λ c. search needs)
     returns-5)

@@ -10,23 +10,14 @@ returns : tie.Need-returns
 returns c = let a = c .before .before .args in sym (begin-short (a .version) 0 0 (a .writer .now) (c .if1 .taken))
 
 returns-2 : tie.Need-returns-2
-returns-2 c = let a = c .before .before .before .args in sym (begin-version (a .version) 0 0 (a .writer .now) (c .before .if1 .left) (omega arith) (c .if2 .taken))
-
-cast-begin-plain : tie.Need-cast-begin-plain
-cast-begin-plain c = search needs
-
-begin-plain-requires : tie.Need-begin-plain-requires
-begin-plain-requires c κs = search needs
-
-store-begun-requires : tie.Need-store-begun-requires
-store-begun-requires c κs = search needs
-
-same-length : tie.Need-same-length
-same-length c = search needs
+returns-2 c =
+    let at-start = c .before .before .before in
+    let a = at-start .args in sym (begin-version (a .version) 0 0 (a .writer .now) (c .before .if1 .left) (omega arith) (c .if2 .taken))
 
 returns-3 : tie.Need-returns-3
 returns-3 c =
-    let at-begin = c .before .before .before .before in
+    let at-before = c .before .before .before in
+    let at-begin = at-before .before in
     let a = at-begin .before .before .before .before .args in
     c .before .before .store-begun .ensures ∙ sym (begin-then (a .version) 0 0 (a .writer .now) (at-begin .before .before .if1 .left) (omega arith) (sym (at-begin .begin-plain .ensures)))
 
@@ -36,8 +27,8 @@ sv-begin-plain-spec =
     (tie.spec
     returns
     returns-2
-    cast-begin-plain
-    begin-plain-requires
-    store-begun-requires
-    same-length
+    (λ c. search needs)
+    (λ c κs. search needs)
+    (λ c κs. search needs)
+    (λ c. search needs)
     returns-3)

@@ -14,16 +14,24 @@ use Rattle.capi.proofs.sv_step.Tie as tie
 -- ---- the words are enough
 
 abbrev tag : tie.Else1 → List ℕ
-tag c = c .before .before .before .before .before .args .tag .now
+tag c =
+    let at-start = c .before .before .before .before .before in
+    at-start .args .tag .now
 
 abbrev work : tie.Else1 → List ℕ
-work c = c .before .before .before .before .before .args .work .now
+work c =
+    let at-start = c .before .before .before .before .before in
+    at-start .args .work .now
 
 abbrev reader : tie.Else1 → List ℕ
-reader c = c .before .before .before .before .before .args .reader .now
+reader c =
+    let at-start = c .before .before .before .before .before in
+    at-start .args .reader .now
 
 abbrev words : tie.Else1 → List ℕ
-words c = c .before .before .before .before .before .args .«record» .now
+words c =
+    let at-start = c .before .before .before .before .before in
+    at-start .args .«record» .now
 
 room : (t : tie.Else1) → (7 ≤ length (reader t)) × (19 ≤ length (words t))
 room t = enough2 7 19 (reader t) (words t) (t .if1 .left)
@@ -31,7 +39,9 @@ room t = enough2 7 19 (reader t) (words t) (t .if1 .left)
 -- ---- the reader has made its step, whose answer picks the case
 
 abbrev tested : tie.After-slice-known4 → tie.Else1
-tested c = c .before .before .before .before .before .before .before .before .before
+tested c =
+    let at-before = c .before .before .before .before .before .before .before .before in
+    at-before .before
 
 went : (c : tie.After-slice-known4) {s : Step} → c .before .before .step .result ≡ s
     → let t = tested c in svStep (tag t) (work t) (reader t) (words t) ≡ afterStep (s, c .before .before .step .last .1 .0) (reader t) (words t)
@@ -43,87 +53,59 @@ went c h =
 
 returns : tie.Need-returns
 returns c =
-    let a = c .before .before .before .before .before .args in
+    let at-start = c .before .before .before .before .before in
+    let a = at-start .args in
     sym (step-short (a .tag .now) (a .work .now) (a .reader .now) (a .«record» .now) (c .if1 .taken))
 
 load-reader-requires : tie.Need-load-reader-requires
 load-reader-requires c κs = room (c .before) .0
 
-enum-known-given : tie.Need-enum-known-given
-enum-known-given c = search needs
-
-enum-told : tie.Need-enum-told
-enum-told c = search needs
-
-same-length : tie.Need-same-length
-same-length c = search needs
-
 returns-2 : tie.Need-returns-2
 returns-2 c =
-    let t = c .before .before .before .before in
+    let at-before = c .before .before .before in
+    let t = at-before .before in
     sym (step-bad (tag t) (work t) (reader t) (words t) (t .if1 .left) (sym (c .before .before .load-reader .ensures) ∙ c .enum-told .given .1))
 
-step-requires : tie.Need-step-requires
-step-requires c κs = search needs
-
-enum-known-step : tie.Need-enum-known-step
-enum-known-step c = search needs
-
 store-reader-requires : tie.Need-store-reader-requires
-store-reader-requires c κs = let h = room (tested (c .before .before .before .before)) in omega (arith, h .0, h .1)
+store-reader-requires c κs =
+    let at-before = c .before .before .before in
+    let h = room (tested (at-before .before)) in omega (arith, h .0, h .1)
 
 store-record-requires : tie.Need-store-record-requires
-store-record-requires c κs = let h = room (tested (c .before .before .before .before .before .before .before .before)) in omega (arith, h .0, h .1)
-
-enum-known-step-2 : tie.Need-enum-known-step-2
-enum-known-step-2 c = search needs
+store-record-requires c κs =
+    let at-before = c .before .before .before .before .before .before .before in
+    let h = room (tested (at-before .before)) in omega (arith, h .0, h .1)
 
 store-reader-requires-2 : tie.Need-store-reader-requires-2
-store-reader-requires-2 c κs = let h = room (tested (c .before .before .before .before)) in omega (arith, h .0, h .1)
-
-enum-known-step-3 : tie.Need-enum-known-step-3
-enum-known-step-3 c = search needs
+store-reader-requires-2 c κs =
+    let at-before = c .before .before .before in
+    let h = room (tested (at-before .before)) in omega (arith, h .0, h .1)
 
 store-reader-requires-3 : tie.Need-store-reader-requires-3
-store-reader-requires-3 c κs = let h = room (tested (c .before .before .before .before)) in omega (arith, h .0, h .1)
-
-cast-result : tie.Need-cast-result
-cast-result c = search needs
-
-same-length-2 : tie.Need-same-length-2
-same-length-2 c = search needs
-
-same-length-3 : tie.Need-same-length-3
-same-length-3 c = search needs
-
-same-length-4 : tie.Need-same-length-4
-same-length-4 c = search needs
+store-reader-requires-3 c κs =
+    let at-before = c .before .before .before in
+    let h = room (tested (at-before .before)) in omega (arith, h .0, h .1)
 
 returns-3 : tie.Need-returns-3
 returns-3 c =
-    let e = went (c .before .before .before .before .before .before .before .before .before .before .before) (c .before .before .before .before .before .before .before .before .before .step2 .given .1) in
-    cc (e, c .before .before .before .before .before .before .store-reader .ensures, c .before .before .store-record .ensures)
-
-same-length-5 : tie.Need-same-length-5
-same-length-5 c = search needs
-
-same-length-6 : tie.Need-same-length-6
-same-length-6 c = search needs
+    let at-store-reader = c .before .before .before .before .before .before in
+    let at-step2 = at-store-reader .before .before .before in
+    let at-before = at-step2 .before in
+    let e = went (at-before .before) (at-step2 .step2 .given .1) in
+    cc (e, at-store-reader .store-reader .ensures, c .before .before .store-record .ensures)
 
 returns-4 : tie.Need-returns-4
 returns-4 c =
-    let e = went (c .before .before .before .before .before .before .before) (c .before .before .before .before .before .step3 .given .1) in
+    let at-step3 = c .before .before .before .before .before in
+    let at-before = at-step3 .before in
+    let e = went (at-before .before) (at-step3 .step3 .given .1) in
     cc (e, c .before .before .store-reader2 .ensures)
-
-same-length-7 : tie.Need-same-length-7
-same-length-7 c = search needs
-
-same-length-8 : tie.Need-same-length-8
-same-length-8 c = search needs
 
 returns-5 : tie.Need-returns-5
 returns-5 c =
-    let e = went (c .before .before .before .before .before .before .before) (c .before .before .before .before .before .step4 .given .1) in
+    let at-step4 = c .before .before .before .before .before in
+    let at-before = at-step4 .before in
+    let e = went (at-before .before) (at-step4 .step4 .given .1) in
     cc (e, c .before .before .store-reader3 .ensures)
 
 pub sv-step-spec : {M : Type 1} → statement M
@@ -132,26 +114,26 @@ sv-step-spec =
     (tie.spec
     returns
     load-reader-requires
-    enum-known-given
-    enum-told
-    same-length
+    (λ c. search needs)
+    (λ c. search needs)
+    (λ c. search needs)
     returns-2
-    step-requires
-    enum-known-step
+    (λ c κs. search needs)
+    (λ c. search needs)
     store-reader-requires
     store-record-requires
-    enum-known-step-2
+    (λ c. search needs)
     store-reader-requires-2
-    enum-known-step-3
+    (λ c. search needs)
     store-reader-requires-3
-    cast-result
-    same-length-2
-    same-length-3
-    same-length-4
+    (λ c. search needs)
+    (λ c. search needs)
+    (λ c. search needs)
+    (λ c. search needs)
     returns-3
-    same-length-5
-    same-length-6
+    (λ c. search needs)
+    (λ c. search needs)
     returns-4
-    same-length-7
-    same-length-8
+    (λ c. search needs)
+    (λ c. search needs)
     returns-5)

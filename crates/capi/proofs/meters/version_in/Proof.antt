@@ -4,12 +4,6 @@ use borrow.Author.Needs.{needs}
 use Rattle.capi.proofs.meters.version_in.Statement.{statement}
 use Rattle.capi.proofs.meters.version_in.Tie as tie
 
-is-version-requires : tie.Need-is-version-requires
-is-version-requires c κs = search needs
-
-version-of-requires : tie.Need-version-of-requires
-version-of-requires c κs = search needs
-
 returns : tie.Need-returns
 returns c = rw (sym (c .before .before .is-version .ensures) ∙ c .before .if1 .taken, c .version-of .ensures)
 
@@ -17,4 +11,4 @@ returns-2 : tie.Need-returns-2
 returns-2 c = rw (sym (c .before .is-version .ensures) ∙ c .if1 .left)
 
 pub version-in-spec : {M : Type 1} → statement M
-version-in-spec = tie.close (tie.spec is-version-requires version-of-requires returns returns-2)
+version-in-spec = tie.close (tie.spec (λ c κs. search needs) (λ c κs. search needs) returns returns-2)

@@ -3,14 +3,8 @@ use borrow.Author.Needs.{needs}
 use Rattle.capi.proofs.words.is_writer.Statement.{statement}
 use Rattle.capi.proofs.words.is_writer.Tie as tie
 
-is-version-requires : tie.Need-is-version-requires
-is-version-requires c κs = search needs
-
-is-mode-requires : tie.Need-is-mode-requires
-is-mode-requires c κs = search needs
-
 returns : tie.Need-returns
 returns c = rw (c .before .is-version .ensures, c .is-mode .ensures)
 
 pub is-writer-spec : {M : Type 1} → statement M
-is-writer-spec = tie.close (tie.spec is-version-requires is-mode-requires returns)
+is-writer-spec = tie.close (tie.spec (λ c κs. search needs) (λ c κs. search needs) returns)
