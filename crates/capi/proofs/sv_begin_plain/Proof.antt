@@ -7,19 +7,15 @@ use Rattle.capi.proofs.sv_begin_plain.Statement.{statement}
 use Rattle.capi.proofs.sv_begin_plain.Tie as tie
 
 returns : tie.Need-returns
-returns c = let a = c .before .before .args in sym (begin-short (a .version) 0 0 (a .writer .now) (c .if1 .taken))
+returns c = sym (begin-short _ 0 0 _ (c .if1 .taken))
 
 returns-2 : tie.Need-returns-2
-returns-2 c =
-    let at-start = c .before .before .before in
-    let a = at-start .args in sym (begin-version (a .version) 0 0 (a .writer .now) (c .before .if1 .left) (omega arith) (c .if2 .taken))
+returns-2 c = sym (begin-version _ 0 0 _ (c .before .if1 .left) (omega arith) (c .if2 .taken))
 
 returns-3 : tie.Need-returns-3
 returns-3 c =
-    let at-before = c .before .before .before in
-    let at-begin = at-before .before in
-    let a = at-begin .before .before .before .before .args in
-    c .before .before .store-begun .ensures ∙ sym (begin-then (a .version) 0 0 (a .writer .now) (at-begin .before .before .if1 .left) (omega arith) (sym (at-begin .begin-plain .ensures)))
+    let at-begin = c .before .before .before .before in
+    c .before .before .store-begun .ensures ∙ sym (begin-then _ 0 0 _ (at-begin .before .before .if1 .left) (omega arith) (sym (at-begin .begin-plain .ensures)))
 
 pub sv-begin-plain-spec : {M : Type 1} → statement M
 sv-begin-plain-spec =

@@ -1,8 +1,7 @@
 -- `capi::sv_finish` meets its contract. Assumes nothing.
 use mathlib.Core.Path.{_≡_, sym, _∙_}
-use Prim.Native.Nat.{ℕ, _≤_}
+use Prim.Native.Nat.{_≤_}
 use native.Mathlib.Omega.{arith}
-use mathlib.Core.List.{List}
 use lib.ListN.{length, length-set}
 use lib.Seq.{set-set}
 use Rattle.capi.proofs.Left.{enough2, finish-short, finish-bad, finish-then}
@@ -14,54 +13,30 @@ use Rattle.capi.proofs.sv_finish.Tie as tie
 
 -- ---- the words are enough
 
-abbrev padding : tie.Else1 → ℕ
-padding c =
-    let at-start = c .before .before .before .before .before in
-    at-start .args .padding
+abbrev given : tie.Else1 → tie.Start
+given t = let all-known = t .before .before .before in all-known .before .before
 
-abbrev buffer : tie.Else1 → List ℕ
-buffer c =
-    let at-start = c .before .before .before .before .before in
-    at-start .args .buffer .now
-
-abbrev output : tie.Else1 → List ℕ
-output c =
-    let at-start = c .before .before .before .before .before in
-    at-start .args .output .now
-
-abbrev writer : tie.Else1 → List ℕ
-writer c =
-    let at-start = c .before .before .before .before .before in
-    at-start .args .writer .now
-
-abbrev count : tie.Else1 → List ℕ
-count c =
-    let at-start = c .before .before .before .before .before in
-    at-start .args .count .now
-
-room : (t : tie.Else1) → (4 ≤ length (writer t)) × (1 ≤ length (count t))
-room t = enough2 4 1 (writer t) (count t) (t .if1 .left)
+room : (t : tie.Else1) → let a = given t .args in (4 ≤ length (a .writer .now)) × (1 ≤ length (a .count .now))
+room t = let a = given t .args in enough2 4 1 (a .writer .now) (a .count .now) (t .if1 .left)
 
 -- ---- the writer has answered, and its answer picks the case
 
-abbrev tested : tie.After-slice-known3 → tie.Else1
-tested c =
-    let at-before = c .before .before .before .before .before .before .before in
-    at-before .before
+abbrev at-loaded : tie.After-slice-known3 → tie.After-load-writer
+at-loaded c = let at-good = c .before .before .before .before in at-good .before .before .before
+
+abbrev at-words : tie.After-slice-known3 → tie.Else1
+at-words c = at-loaded c .before
 
 went : (c : tie.After-slice-known3) {r : Finished} → c .before .before .finish .result ≡ r
-    → let t = tested c in svFinish (padding t) (buffer t) (output t) (writer t) (count t) ≡ afterFinish (r, c .before .before .finish .last .1 .0) (count t)
+    → let a = given (at-words c) .args in svFinish (a .padding) (a .buffer .now) (a .output .now) (a .writer .now) (a .count .now) ≡ afterFinish (r, c .before .before .finish .last .1 .0) (a .count .now)
 went c h =
-    let t = tested c in
-    finish-then (padding t) (buffer t) (output t) (writer t) (count t) (t .if1 .left) (sym (c .before .before .before .before .before .before .before .load-writer .ensures) ∙ c .before .before .before .before .before .state .given .1) (c .before .before .finish .ensures) h
+    let at-finish = c .before .before in
+    finish-then _ _ _ _ _ (at-words c .if1 .left) (sym (at-loaded c .load-writer .ensures) ∙ at-finish .before .before .before .state .given .1) (at-finish .finish .ensures) h
 
 -- ---- the needs
 
 returns : tie.Need-returns
-returns c =
-    let at-start = c .before .before .before .before .before in
-    let a = at-start .args in
-    sym (finish-short (a .padding) (a .buffer .now) (a .output .now) (a .writer .now) (a .count .now) (c .if1 .taken))
+returns c = sym (finish-short _ _ _ _ _ (c .if1 .taken))
 
 slice-write-count : tie.Need-slice-write-count
 slice-write-count c = room c .1
@@ -71,11 +46,11 @@ load-writer-requires c κs = room c .0
 
 returns-2 : tie.Need-returns-2
 returns-2 c =
-    let t = c .before .before .before in
-    sym (finish-bad (padding t) (buffer t) (output t) (writer t) (count t) (t .if1 .left) (sym (c .before .before .load-writer .ensures) ∙ c .enum-told .given .1))
+    let at-load = c .before .before in
+    sym (finish-bad _ _ _ _ _ (at-load .before .if1 .left) (sym (at-load .load-writer .ensures) ∙ c .enum-told .given .1))
 
 slice-write-count-2 : tie.Need-slice-write-count-2
-slice-write-count-2 c = let h = room (tested (c .before .before .before)) .1 in simp length-set (omega arith)
+slice-write-count-2 c = let h = room (at-words (c .before .before .before)) .1 in simp length-set (omega arith)
 
 returns-3 : tie.Need-returns-3
 returns-3 c = rw set-set (sym (went (c .before .before .before) (c .before .finished .given .1)))

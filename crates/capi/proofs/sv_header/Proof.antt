@@ -10,21 +10,15 @@ returns c = sym (header-short _ _ (c .if1 .taken))
 
 returns-2 : tie.Need-returns-2
 returns-2 c =
-    let at-headed = c .before .before .before .before .before in
-    let at-header = at-headed .before .before in
-    let at-if1 = at-header .before in
-    let at-start = at-if1 .before .before .before in
-    let a = at-start .args in
-    let e = header-then (a .tag .now) (a .header .now) (at-if1 .if1 .left) (sym (at-header .header .ensures) ∙ at-headed .headed .given .1) in
-    cc (e, c .before .before .store-header .ensures)
+    let at-stored = c .before .before in
+    let at-found = at-stored .before .before .before in
+    let at-header = at-found .before .before in
+    rw (at-stored .store-header .ensures) (sym (header-then _ _ (at-header .before .if1 .left) (sym (at-header .header .ensures) ∙ at-found .headed .given .1)))
 
 returns-3 : tie.Need-returns-3
 returns-3 c =
     let at-header = c .before .before .before in
-    let at-if1 = at-header .before in
-    let at-start = at-if1 .before .before .before in
-    let a = at-start .args in
-    sym (header-then (a .tag .now) (a .header .now) (at-if1 .if1 .left) (sym (at-header .header .ensures) ∙ c .before .headed2 .given .1))
+    sym (header-then _ _ (at-header .before .if1 .left) (sym (at-header .header .ensures) ∙ c .before .headed2 .given .1))
 
 pub sv-header-spec : {M : Type 1} → statement M
 sv-header-spec =

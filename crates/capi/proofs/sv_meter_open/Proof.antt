@@ -6,27 +6,22 @@ use Rattle.capi.proofs.sv_meter_open.Statement.{statement}
 use Rattle.capi.proofs.sv_meter_open.Tie as tie
 
 returns : tie.Need-returns
-returns c =
-    let at-start = c .before .before .before .before in
-    let a = at-start .args in sym (open-short (a .tag .now) (a .work .now) (a .meter .now) (c .if1 .taken))
+returns c = sym (open-short _ _ _ (c .if1 .taken))
 
 returns-2 : tie.Need-returns-2
 returns-2 c =
-    let at-opened = c .before .before .before .before .before in
-    let at-before = at-opened .before .before .before in
-    let at-if1 = at-before .before .before .before in
-    let at-start = at-if1 .before .before .before .before in
-    let a = at-start .args in
-    let e = open-ready (a .tag .now) (a .work .now) (a .meter .now) (at-if1 .if1 .left) (at-before .before .«open» .ensures) (at-opened .opened .given .1) in
-    cc (e, c .before .before .store-opened .ensures)
+    let at-stored = c .before .before in
+    let at-ready = at-stored .before .before .before in
+    let at-open = at-ready .before .before .before .before in
+    let at-words = at-open .before .before in
+    rw (at-stored .store-opened .ensures) (sym (open-ready _ _ _ (at-words .if1 .left) (at-open .«open» .ensures) (at-ready .opened .given .1)))
 
 returns-3 : tie.Need-returns-3
 returns-3 c =
-    let at-before = c .before .before .before .before in
-    let at-if1 = at-before .before .before .before in
-    let at-start = at-if1 .before .before .before .before in
-    let a = at-start .args in
-    sym (open-refused (a .tag .now) (a .work .now) (a .meter .now) (at-if1 .if1 .left) (at-before .before .«open» .ensures) (c .before .opened2 .given .1))
+    let at-refused = c .before in
+    let at-open = at-refused .before .before .before .before in
+    let at-words = at-open .before .before in
+    sym (open-refused _ _ _ (at-words .if1 .left) (at-open .«open» .ensures) (at-refused .opened2 .given .1))
 
 pub sv-meter-open-spec : {M : Type 1} → statement M
 sv-meter-open-spec =

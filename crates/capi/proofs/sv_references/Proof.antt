@@ -1,8 +1,7 @@
 -- `capi::sv_references` meets its contract. Assumes nothing.
 use mathlib.Core.Path.{_≡_, sym, _∙_}
-use Prim.Native.Nat.{ℕ, _≤_}
+use Prim.Native.Nat.{_≤_}
 use native.Mathlib.Omega.{arith}
-use mathlib.Core.List.{List}
 use lib.ListN.{length, length-set}
 use lib.Seq.{set-set}
 use Rattle.capi.proofs.Left.{references-short, references-bad, references-then, enough2}
@@ -14,49 +13,30 @@ use Rattle.capi.proofs.sv_references.Tie as tie
 
 -- ---- the words are enough
 
-abbrev words : tie.Else1 → List ℕ
-words c =
-    let at-start = c .before .before .before .before .before in
-    at-start .args .«record» .now
+abbrev given : tie.Else1 → tie.Start
+given t = let all-known = t .before .before .before in all-known .before .before
 
-abbrev rest : tie.Else1 → List ℕ
-rest c =
-    let at-start = c .before .before .before .before .before in
-    at-start .args .rest .now
-
-abbrev deviations : tie.Else1 → List ℕ
-deviations c =
-    let at-start = c .before .before .before .before .before in
-    at-start .args .deviations .now
-
-abbrev count : tie.Else1 → List ℕ
-count c =
-    let at-start = c .before .before .before .before .before in
-    at-start .args .count .now
-
-room : (t : tie.Else1) → (19 ≤ length (words t)) × (1 ≤ length (count t))
-room t = enough2 19 1 (words t) (count t) (t .if1 .left)
+room : (t : tie.Else1) → let a = given t .args in (19 ≤ length (a .«record» .now)) × (1 ≤ length (a .count .now))
+room t = let a = given t .args in enough2 19 1 (a .«record» .now) (a .count .now) (t .if1 .left)
 
 -- ---- the references are put, and the answer picks the case
 
-abbrev tested : tie.After-slice-known3 → tie.Else1
-tested c =
-    let at-before = c .before .before .before .before .before .before .before in
-    at-before .before
+abbrev at-loaded : tie.After-slice-known3 → tie.After-load-heading
+at-loaded c = let at-good = c .before .before .before .before in at-good .before .before .before
+
+abbrev at-words : tie.After-slice-known3 → tie.Else1
+at-words c = at-loaded c .before
 
 went : (c : tie.After-slice-known3) {o : Put} → c .before .before .references .result ≡ o
-    → let t = tested c in svReferences (words t) (rest t) (deviations t) (count t) ≡ afterUnpack (o, c .before .before .references .last .0) (count t)
+    → let a = given (at-words c) .args in svReferences (a .«record» .now) (a .rest .now) (a .deviations .now) (a .count .now) ≡ afterUnpack (o, c .before .before .references .last .0) (a .count .now)
 went c h =
-    let t = tested c in
-    references-then (words t) (rest t) (deviations t) (count t) (t .if1 .left) (sym (c .before .before .before .before .before .before .before .load-heading .ensures) ∙ c .before .before .before .before .before .given .given .1) (c .before .before .references .ensures) h
+    let at-put = c .before .before in
+    references-then _ _ _ _ (at-words c .if1 .left) (sym (at-loaded c .load-heading .ensures) ∙ at-put .before .before .before .given .given .1) (at-put .references .ensures) h
 
 -- ---- the needs
 
 returns : tie.Need-returns
-returns c =
-    let at-start = c .before .before .before .before .before in
-    let a = at-start .args in
-    sym (references-short (a .«record» .now) (a .rest .now) (a .deviations .now) (a .count .now) (c .if1 .taken))
+returns c = sym (references-short _ _ _ _ (c .if1 .taken))
 
 slice-write-count : tie.Need-slice-write-count
 slice-write-count c = room c .1
@@ -66,11 +46,11 @@ load-heading-requires c κs = room c .0
 
 returns-2 : tie.Need-returns-2
 returns-2 c =
-    let t = c .before .before .before in
-    sym (references-bad (words t) (rest t) (deviations t) (count t) (t .if1 .left) (sym (c .before .before .load-heading .ensures) ∙ c .enum-told .given .1))
+    let at-load = c .before .before in
+    sym (references-bad _ _ _ _ (at-load .before .if1 .left) (sym (at-load .load-heading .ensures) ∙ c .enum-told .given .1))
 
 slice-write-count-2 : tie.Need-slice-write-count-2
-slice-write-count-2 c = let h = room (tested (c .before .before .before)) .1 in simp length-set (omega arith)
+slice-write-count-2 c = let h = room (at-words (c .before .before .before)) .1 in simp length-set (omega arith)
 
 returns-3 : tie.Need-returns-3
 returns-3 c = rw set-set (sym (went (c .before .before .before) (c .before .put .given .1)))
