@@ -8,10 +8,10 @@ use Rattle.capi.proofs.references.Tie as tie
 
 returns : tie.Need-returns
 returns c =
-    let at-fields = c .before .before .before .before .before in
-    let at-start = at-fields .before .before .before .before in
-    let a = at-start .args in
-    rw (at-fields .fields .given .1, ← take-length (a .rest .now)) (c .before .before .unpack .ensures)
+    let at-unpacked = c .before .before in
+    let at-table = at-unpacked .before .before .before in
+    let at-start = at-table .before .before .before .before in
+    rw (at-table .fields .given .1, ← take-length (at-start .args .rest .now)) (at-unpacked .unpack .ensures)
 
 returns-2 : tie.Need-returns-2
 returns-2 c =

@@ -30,9 +30,9 @@ at-writer c = at-heading c .before .before .before .before
 abbrev at-words : tie.After-slice-known4 → tie.Else1
 at-words c = at-writer c .before .before
 
-went : (c : tie.After-slice-known4) {r : Added} → c .before .before .add .result ≡ r
+answer-picks : (c : tie.After-slice-known4) {r : Added} → c .before .before .add .result ≡ r
     → let a = given (at-words c) .args in svAdd (a .«record» .now) (a .name .now) (a .names .now) (a .rest .now) (a .deviations .now) (a .buffer .now) (a .writer .now) (a .count .now) ≡ afterAdd (r, c .before .before .add .last .1 .0) (a .writer .now) (a .count .now)
-went c h =
+answer-picks c h =
     let at-add = c .before .before in
     let w = sym (at-writer c .load-writer .ensures) ∙ at-heading c .before .before .state .given .1 in
     let g = sym (at-heading c .load-heading .ensures) ∙ at-add .before .before .before .given .given .1 in
@@ -77,11 +77,11 @@ returns-4 : tie.Need-returns-4
 returns-4 c =
     let at-stored = c .before .before in
     let at-accepted = at-stored .before .before .before in
-    let e = went (at-accepted .before .before) (at-accepted .added .given .1) in
+    let e = answer-picks (at-accepted .before .before) (at-accepted .added .given .1) in
     rw set-set (cc (e, at-stored .store-writer .ensures))
 
 returns-5 : tie.Need-returns-5
-returns-5 c = sym (went (c .before .before .before) (c .before .added2 .given .1))
+returns-5 c = sym (answer-picks (c .before .before .before) (c .before .added2 .given .1))
 
 pub sv-add-spec : {M : Type 1} → statement M
 sv-add-spec =

@@ -27,9 +27,9 @@ at-loaded c = let at-good = c .before .before .before .before in at-good .before
 abbrev at-words : tie.After-slice-known3 → tie.Else1
 at-words c = at-loaded c .before
 
-went : (c : tie.After-slice-known3) {r : Finished} → c .before .before .finish .result ≡ r
+answer-picks : (c : tie.After-slice-known3) {r : Finished} → c .before .before .finish .result ≡ r
     → let a = given (at-words c) .args in svFinish (a .padding) (a .buffer .now) (a .output .now) (a .writer .now) (a .count .now) ≡ afterFinish (r, c .before .before .finish .last .1 .0) (a .count .now)
-went c h =
+answer-picks c h =
     let at-finish = c .before .before in
     finish-then _ _ _ _ _ (at-words c .if1 .left) (sym (at-loaded c .load-writer .ensures) ∙ at-finish .before .before .before .state .given .1) (at-finish .finish .ensures) h
 
@@ -53,10 +53,10 @@ slice-write-count-2 : tie.Need-slice-write-count-2
 slice-write-count-2 c = let h = room (at-words (c .before .before .before)) .1 in simp length-set (omega arith)
 
 returns-3 : tie.Need-returns-3
-returns-3 c = rw set-set (sym (went (c .before .before .before) (c .before .finished .given .1)))
+returns-3 c = rw set-set (sym (answer-picks (c .before .before .before) (c .before .finished .given .1)))
 
 returns-4 : tie.Need-returns-4
-returns-4 c = sym (went (c .before .before .before) (c .before .finished2 .given .1))
+returns-4 c = sym (answer-picks (c .before .before .before) (c .before .finished2 .given .1))
 
 pub sv-finish-spec : {M : Type 1} → statement M
 sv-finish-spec =

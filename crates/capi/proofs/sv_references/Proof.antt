@@ -27,9 +27,9 @@ at-loaded c = let at-good = c .before .before .before .before in at-good .before
 abbrev at-words : tie.After-slice-known3 → tie.Else1
 at-words c = at-loaded c .before
 
-went : (c : tie.After-slice-known3) {o : Put} → c .before .before .references .result ≡ o
+answer-picks : (c : tie.After-slice-known3) {o : Put} → c .before .before .references .result ≡ o
     → let a = given (at-words c) .args in svReferences (a .«record» .now) (a .rest .now) (a .deviations .now) (a .count .now) ≡ afterUnpack (o, c .before .before .references .last .0) (a .count .now)
-went c h =
+answer-picks c h =
     let at-put = c .before .before in
     references-then _ _ _ _ (at-words c .if1 .left) (sym (at-loaded c .load-heading .ensures) ∙ at-put .before .before .before .given .given .1) (at-put .references .ensures) h
 
@@ -53,10 +53,10 @@ slice-write-count-2 : tie.Need-slice-write-count-2
 slice-write-count-2 c = let h = room (at-words (c .before .before .before)) .1 in simp length-set (omega arith)
 
 returns-3 : tie.Need-returns-3
-returns-3 c = rw set-set (sym (went (c .before .before .before) (c .before .put .given .1)))
+returns-3 c = rw set-set (sym (answer-picks (c .before .before .before) (c .before .put .given .1)))
 
 returns-4 : tie.Need-returns-4
-returns-4 c = sym (went (c .before .before .before) (c .before .put2 .given .1))
+returns-4 c = sym (answer-picks (c .before .before .before) (c .before .put2 .given .1))
 
 pub sv-references-spec : {M : Type 1} → statement M
 sv-references-spec =

@@ -26,9 +26,9 @@ at-loaded c = let at-good = c .before .before .before .before in at-good .before
 abbrev at-words : tie.After-slice-known4 → tie.Else1
 at-words c = at-loaded c .before .before
 
-went : (c : tie.After-slice-known4) {s : Step} → c .before .before .step .result ≡ s
+answer-picks : (c : tie.After-slice-known4) {s : Step} → c .before .before .step .result ≡ s
     → let a = given (at-words c) .args in svStep (a .tag .now) (a .work .now) (a .reader .now) (a .«record» .now) ≡ afterStep (s, c .before .before .step .last .1 .0) (a .reader .now) (a .«record» .now)
-went c h =
+answer-picks c h =
     let at-step = c .before .before in
     step-then _ _ _ _ (at-words c .if1 .left) (sym (at-loaded c .load-reader .ensures) ∙ at-step .before .before .before .given .given .1) (at-step .step .ensures) h
 
@@ -66,21 +66,21 @@ returns-3 c =
     let at-put = c .before .before in
     let at-stored = at-put .before .before .before .before in
     let at-frame = at-stored .before .before .before in
-    let e = went (at-frame .before .before) (at-frame .step2 .given .1) in
+    let e = answer-picks (at-frame .before .before) (at-frame .step2 .given .1) in
     cc (e, at-stored .store-reader .ensures, at-put .store-record .ensures)
 
 returns-4 : tie.Need-returns-4
 returns-4 c =
     let at-stored = c .before .before in
     let at-end = at-stored .before .before .before in
-    let e = went (at-end .before .before) (at-end .step3 .given .1) in
+    let e = answer-picks (at-end .before .before) (at-end .step3 .given .1) in
     cc (e, at-stored .store-reader2 .ensures)
 
 returns-5 : tie.Need-returns-5
 returns-5 c =
     let at-stored = c .before .before in
     let at-refused = at-stored .before .before .before in
-    let e = went (at-refused .before .before) (at-refused .step4 .given .1) in
+    let e = answer-picks (at-refused .before .before) (at-refused .step4 .given .1) in
     cc (e, at-stored .store-reader3 .ensures)
 
 pub sv-step-spec : {M : Type 1} → statement M

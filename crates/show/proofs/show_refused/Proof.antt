@@ -15,10 +15,11 @@ array-share-prefix-line c =
 
 slice-aggregate-write-all : tie.Need-slice-aggregate-write-all
 slice-aggregate-write-all c =
-    let at-refused-line = c .before .before .before .before .before in
+    let at-upto = c .before .before in
+    let at-refused-line = at-upto .before .before .before in
     let at-start = at-refused-line .before .before in
-    let h = line-within (refusedLine (at-start .args .number)) 0 _ (at-refused-line .refused-line .ensures) (c .before .before .n .given .1) (omega arith) in
-    omega (arith, length-take (c .before .before .n .given .0 .0) (at-refused-line .refused-line .last .0))
+    let h = line-within (refusedLine (at-start .args .number)) 0 _ (at-refused-line .refused-line .ensures) (at-upto .n .given .1) (omega arith) in
+    omega (arith, length-take (at-upto .n .given .0 .0) (at-refused-line .refused-line .last .0))
 
 pub show-refused-spec : {M : Type 1} → statement M
 show-refused-spec =

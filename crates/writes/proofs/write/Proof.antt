@@ -16,11 +16,11 @@ abbrev μ-loop : tie.MeasureT-loop
 
 loop-again : tie.Need-loop-again Inv-loop μ-loop
 loop-again c =
-    let at-loop = c .before .before .before .before .before .before in
-    let at-count = at-loop .before in
+    let at-added = c .before in
+    let at-lent = at-added .before .before in
+    let at-loop = at-lent .before .before .before in
     let L = at-loop .loop in
-    let n = at-count .count .result in
-    let h = length-front (L .space) (c .before .add-next .last .0) n (c .before .add-next .kept .0) in
+    let h = length-front (L .space) (at-added .add-next .last .0) (at-loop .before .count .result) (at-added .add-next .kept .0) in
     (omega arith, (omega (arith, h), sym (length-take-le _ _ (omega (arith, h)))))
 
 pub write-spec : {M : Type 1} → statement M

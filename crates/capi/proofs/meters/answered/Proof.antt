@@ -7,19 +7,22 @@ use Rattle.capi.proofs.meters.answered.Tie as tie
 
 returns : tie.Need-returns
 returns c =
-    let at-store-moved = c .before .before .before .before .before .before in
-    let at-next = at-store-moved .before .before .before in
-    rw (at-next .next .given .1, at-store-moved .store-moved .ensures, c .before .before .store-metered .ensures)
+    let at-metered = c .before .before in
+    let at-moved = at-metered .before .before .before .before in
+    let at-found = at-moved .before .before .before in
+    rw (at-found .next .given .1, at-moved .store-moved .ensures, at-metered .store-metered .ensures)
 
 returns-2 : tie.Need-returns-2
 returns-2 c =
-    let at-next2 = c .before .before .before .before .before in
-    rw (at-next2 .next2 .given .1, c .before .before .store-moved2 .ensures)
+    let at-moved = c .before .before in
+    let at-end = at-moved .before .before .before in
+    rw (at-end .next2 .given .1, at-moved .store-moved2 .ensures)
 
 returns-3 : tie.Need-returns-3
 returns-3 c =
-    let at-next3 = c .before .before .before .before .before in
-    rw (at-next3 .next3 .given .1, c .before .before .store-moved3 .ensures)
+    let at-moved = c .before .before in
+    let at-refused = at-moved .before .before .before in
+    rw (at-refused .next3 .given .1, at-moved .store-moved3 .ensures)
 
 pub answered-spec : {M : Type 1} → statement M
 answered-spec =

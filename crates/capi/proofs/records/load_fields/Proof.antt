@@ -19,13 +19,15 @@ returns-2 c =
 returns-3 : tie.Need-returns-3
 unfolding fieldsOf
 returns-3 c =
-    let at-match = c .before .before .before .before .before .before in
+    let at-three = c .before .before .before in
+    let at-match = at-three .before .before .before in
     rw (at-match .match .keys3) (c .table-fields .ensures)
 
 returns-4 : tie.Need-returns-4
 unfolding fieldsOf
 returns-4 c =
-    let at-match = c .before .before .before .before .before in
+    let at-two = c .before .before in
+    let at-match = at-two .before .before .before in
     rw (at-match .match .keys4) (c .chapter-fields .ensures)
 
 returns-5 : tie.Need-returns-5

@@ -7,8 +7,9 @@ use Rattle.capi.proofs.records.store_record.Tie as tie
 returns : tie.Need-returns
 unfolding recordWords
 returns c =
-    let at-store-heading = c .before .before .before .before .before .before in
-    rw (c .before .before .store-places .ensures, at-store-heading .store-heading .ensures)
+    let at-places = c .before .before in
+    let at-heading = at-places .before .before .before .before in
+    rw (at-places .store-places .ensures, at-heading .store-heading .ensures)
 
 pub store-record-spec : {M : Type 1} → statement M
 store-record-spec =

@@ -13,19 +13,19 @@ returns c = rw (sym (c .before .is-reader .ensures) ∙ not-true _ (c .if1 .take
 
 stop-of-requires : tie.Need-stop-of-requires
 stop-of-requires c κs =
-    let at-if1 = c .before .before .before .before .before .before .before .before in
-    let at-is-reader = at-if1 .before in
-    let at-start = at-is-reader .before .before .before .before .before .before in
-    let w = at-start .args .words .now in
-    number-small (word 0 w) (word 1 w) (word 5 w) (word 6 w) (sym (at-is-reader .is-reader .ensures) ∙ not-false _ (at-if1 .if1 .left))
+    let at-places = c .before .before .before .before in
+    let at-reader = at-places .before .before .before .before in
+    let at-read = at-reader .before .before .before .before in
+    let w = at-read .before .before .before .args .words .now in
+    number-small (word 0 w) (word 1 w) (word 5 w) (word 6 w) (sym (at-reader .before .is-reader .ensures) ∙ not-false _ (at-reader .if1 .left))
 
 returns-2 : tie.Need-returns-2
 unfolding readerOf
 returns-2 c =
-    let at-version-of = c .before .before .before .before .before .before .before in
-    let at-if1 = at-version-of .before .before in
-    let at-is-reader = at-if1 .before in
-    rw (sym (at-is-reader .is-reader .ensures) ∙ not-false _ (at-if1 .if1 .left), at-version-of .version-of .ensures, c .stop-of .ensures)
+    let at-places = c .before .before .before .before in
+    let at-version = at-places .before .before .before in
+    let at-reader = at-version .before .before in
+    rw (sym (at-reader .before .is-reader .ensures) ∙ not-false _ (at-reader .if1 .left), at-version .version-of .ensures, c .stop-of .ensures)
 
 pub load-reader-spec : {M : Type 1} → statement M
 load-reader-spec =

@@ -12,7 +12,8 @@ slice-aggregate-show c =
 
 slice-aggregate-show-2 : tie.Need-slice-aggregate-show-2
 slice-aggregate-show-2 c =
-    let at-start = c .before .before .before .before .before .before in
+    let at-work = c .before .before in
+    let at-start = at-work .before .before .before .before in
     omega (arith, length-take (at-start .args .len) (at-start .args .area .now))
 
 pub show-tag-spec : {M : Type 1} → statement M
