@@ -235,6 +235,7 @@ static void writing(void)
     for (size_t i = 0; i < deviations_len; i++)
         deviations[i] = (uint32_t)word();
     check("sv_begin", sv_begin(2 + below(4), below(4), below(3), writer, writer_len), 0);
+    check("sv_begin_plain", sv_begin_plain(2 + below(4), writer, writer_len), 0);
     mostly(writer, writer_len, SV_WRITER_VERSION, 2 + below(3));
     mostly(writer, writer_len, SV_WRITER_MODE, below(3));
     mostly(writer, writer_len, SV_WRITER_ALTERED, below(2));

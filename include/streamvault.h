@@ -20,7 +20,7 @@
  *
  * Reading: sv_open, then sv_step with the same tag, work buffer and reader until it answers something other than 0.
  * Counters alone: sv_meter_open, then sv_meter_next in the same way; the meter's marks then say whether some may be missing.
- * Writing: sv_begin, sv_add for each record, sv_finish.
+ * Writing: sv_begin or sv_begin_plain, sv_add for each record, sv_finish.
  */
 #ifndef STREAMVAULT_H
 #define STREAMVAULT_H
@@ -129,6 +129,11 @@ extern "C" {
 #define SV_RECORD_ID 1           /* the id's bytes as one number, highest first: POPM is 0x504F504D, POP is 0x504F50 */
 #define SV_RECORD_SHORT 2        /* 1 where the tag's end cuts the body */
 #define SV_RECORD_COMPRESSED 3   /* 1 where the body is compressed, and so shown as it is stored */
+#define SV_RECORD_A 4            /* five numbers, which have the names below by the record's kind */
+#define SV_RECORD_B 5
+#define SV_RECORD_C 6
+#define SV_RECORD_D 7
+#define SV_RECORD_E 8
 #define SV_RECORD_AT 9           /* the place of the frame's header, counted from the first frame byte */
 #define SV_RECORD_IN_WORK 10     /* 1 where the parts below lie in the work buffer, 0 where they lie in the tag */
 #define SV_RECORD_BODY_START 11  /* the whole body */
@@ -232,6 +237,9 @@ uint32_t sv_references(const uint64_t *record, size_t record_len, const uint8_t 
 
 /* Begins a writer with no frames. A refusal changes nothing. */
 uint32_t sv_begin(uint64_t version, uint64_t mode, uint64_t altered, uint64_t *writer, size_t writer_len);
+
+/* The same as sv_begin with SV_MODE_OFF and altered 0. */
+uint32_t sv_begin_plain(uint64_t version, uint64_t *writer, size_t writer_len);
 
 /*
  * Appends a record as one frame to the collecting buffer. Its bytes are given apart: those that its kind lacks are not

@@ -95,6 +95,12 @@ pub fn begin(version: u64, mode: u64, altered: u64, writer: &mut [u64]) -> u32 {
     unsafe { sys::sv_begin(version, mode, altered, writer.as_mut_ptr(), writer.len()) }
 }
 
+/// Begins a writer with no frames and no mode, for a file that is not altered.
+pub fn begin_plain(version: u64, writer: &mut [u64]) -> u32 {
+    // SAFETY: pointer and length are those of a live slice that is borrowed alone.
+    unsafe { sys::sv_begin_plain(version, writer.as_mut_ptr(), writer.len()) }
+}
+
 /// A record to be written: its words, and its bytes apart. Those that its kind lacks are not looked at.
 #[derive(Clone, Copy, Debug)]
 pub struct Given<'a> {

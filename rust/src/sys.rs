@@ -66,6 +66,9 @@ extern "C" {
     /// Begins a writer.
     pub fn sv_begin(version: u64, mode: u64, altered: u64, writer: *mut u64, writer_len: usize) -> u32;
 
+    /// Begins a writer with [`SV_MODE_OFF`], not altered.
+    pub fn sv_begin_plain(version: u64, writer: *mut u64, writer_len: usize) -> u32;
+
     /// Appends a record as one frame to the collecting buffer.
     pub fn sv_add(
         record: *const u64,
@@ -273,6 +276,16 @@ pub const SV_RECORD_ID: usize = 1;
 pub const SV_RECORD_SHORT: usize = 2;
 /// 1 where the body is compressed, and so shown as it is stored.
 pub const SV_RECORD_COMPRESSED: usize = 3;
+/// The first of five numbers, which have the names below by the record's kind.
+pub const SV_RECORD_A: usize = 4;
+/// The second number.
+pub const SV_RECORD_B: usize = 5;
+/// The third number.
+pub const SV_RECORD_C: usize = 6;
+/// The fourth number.
+pub const SV_RECORD_D: usize = 7;
+/// The fifth number.
+pub const SV_RECORD_E: usize = 8;
 /// The place of the frame's header, counted from the first frame byte.
 pub const SV_RECORD_AT: usize = 9;
 /// 1 where the parts below lie in the work buffer, 0 where they lie in the tag.

@@ -40,11 +40,18 @@ impl Writer {
         Writer::begin(version, mode, true)
     }
 
+    /// Begins a writer with [`Mode::Off`] for a file that is not altered.
+    pub fn plain(version: Version) -> Writer {
+        Writer::begun(|words| calls::begin_plain(version.edition().into(), words))
+    }
+
     fn begin(version: Version, mode: Mode, altered: bool) -> Writer {
+        Writer::begun(|words| calls::begin(version.edition().into(), mode.word(), altered.into(), words))
+    }
+
+    fn begun(begin: impl FnOnce(&mut [u64]) -> u32) -> Writer {
         let mut words = [0; SV_WRITER_WORDS];
-        let edition = u64::from(version.edition());
-        let answer = calls::begin(edition, mode.word(), u64::from(altered), &mut words);
-        assert_eq!(answer, 0, "every version and mode is accepted");
+        assert_eq!(begin(&mut words), 0, "every version and mode is accepted");
         Writer { words, buffer: Vec::new() }
     }
 

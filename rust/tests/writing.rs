@@ -87,6 +87,17 @@ fn what_is_written_is_read_back_in_every_edition_and_mode() {
     }
 }
 
+#[test]
+fn a_plain_writer_is_one_with_the_mode_off() {
+    for version in VERSIONS {
+        let mut plain = Writer::plain(version);
+        for record in &records(version) {
+            plain.add_record(record).unwrap();
+        }
+        assert_eq!(plain.finish(3).unwrap(), written(version, Mode::Off, &records(version), 3), "{version}");
+    }
+}
+
 /// A lookup table of these widths as a record.
 fn table_record(version: Version, widths: (u8, u8), packed: &[u8]) -> Record {
     let table = Table { frames: 1, bytes: 2, millis: 3, bits_for_bytes: widths.0, bits_for_millis: widths.1 };

@@ -25,6 +25,48 @@ alike p q f = ap f (p ∙ sym q)
 pub class-one : OneAnswer format.classes.class.ended format.classes.class.Reads.Learnt
 class-one κs a x y v w p q = alike p q λ o. (o, v)
 
+pub least-one : OneAnswer format.small.least.ended format.small.least.Reads.Learnt
+least-one κs a x y v w p q = alike p q λ o. (o, v)
+
+pub beyond-one : OneAnswer format.small.beyond.ended format.small.beyond.Reads.Learnt
+beyond-one κs a x y v w p q = alike p q λ o. (o, v)
+
+pub has-one : OneAnswer format.small.has.ended format.small.has.Reads.Learnt
+has-one κs a x y v w p q = alike p q λ o. (o, v)
+
+pub wide-one : OneAnswer format.small.wide.ended format.small.wide.Reads.Learnt
+wide-one κs a x y v w p q = alike (p .0) (q .0) λ o. (o, v)
+
+pub wide64-one : OneAnswer format.small.wide64.ended format.small.wide64.Reads.Learnt
+wide64-one κs a x y v w p q = alike (p .0) (q .0) λ o. (o, v)
+
+pub half-one : OneAnswer format.small.half.ended format.small.half.Reads.Learnt
+half-one κs a x y v w p q = alike (p .0) (q .0) λ o. (o, v)
+
+pub zeros-in-one : OneAnswer format.small.zeros_in.ended format.small.zeros_in.Reads.Learnt
+zeros-in-one κs a x y v w p q = alike p q λ o. (o, v)
+
+pub version-of-one : OneAnswer format.numbered.version_of.ended format.numbered.version_of.Reads.Learnt
+version-of-one κs a x y v w p q = alike p q λ o. (o, v)
+
+pub is-version-one : OneAnswer format.numbered.is_version.ended format.numbered.is_version.Reads.Learnt
+is-version-one κs a x y v w p q = alike p q λ o. (o, v)
+
+pub version-number-one : OneAnswer format.numbered.version_number.ended format.numbered.version_number.Reads.Learnt
+version-number-one κs a x y v w p q = alike p q λ o. (o, v)
+
+pub head-len-one : OneAnswer format.numbered.head_len.ended format.numbered.head_len.Reads.Learnt
+head-len-one κs a x y v w p q = alike (p .0) (q .0) λ o. (o, v)
+
+pub mode-of-one : OneAnswer format.numbered.mode_of.ended format.numbered.mode_of.Reads.Learnt
+mode-of-one κs a x y v w p q = alike p q λ o. (o, v)
+
+pub is-mode-one : OneAnswer format.numbered.is_mode.ended format.numbered.is_mode.Reads.Learnt
+is-mode-one κs a x y v w p q = alike p q λ o. (o, v)
+
+pub mode-number-one : OneAnswer format.numbered.mode_number.ended format.numbered.mode_number.Reads.Learnt
+mode-number-one κs a x y v w p q = alike p q λ o. (o, v)
+
 -- ---- loads
 
 pub read32-one : OneAnswer loads.read32.ended loads.read32.Reads.Learnt
@@ -189,6 +231,9 @@ sv-step-one κs a x y v w p q = alike p q λ o. (o .0, (v .0, (o .1, (o .2, (o .
 
 pub sv-begin-one : OneAnswer capi.sv_begin.ended capi.sv_begin.Reads.Learnt
 sv-begin-one κs a x y v w p q = alike p q λ o. (o .0, (v .0, (v .1 .0, (v .1 .1 .0, (o .1, v .1 .1 .1 .1)))))
+
+pub sv-begin-plain-one : OneAnswer capi.sv_begin_plain.ended capi.sv_begin_plain.Reads.Learnt
+sv-begin-plain-one κs a x y v w p q = alike p q λ o. (o .0, (v .0, (o .1, v .1 .1)))
 
 pub sv-add-one : OneAnswer capi.sv_add.ended capi.sv_add.Reads.Learnt
 sv-add-one κs a x y v w p q = alike p q λ o. (o .0, (v .0, (v .1 .0, (v .1 .1 .0, (v .1 .1 .1 .0, (v .1 .1 .1 .1 .0, (o .1, (o .2, (o .3, tt)))))))))

@@ -1,5 +1,5 @@
 -- What a call answers hangs on the bytes and numbers that it was given alone, and not on where they lie. Assumes nothing.
-use mathlib.Core.Path.{_≡_, sym, ap, _∙_}
+use mathlib.Core.Path.{sym, ap, _∙_}
 use Prim.Native.Nat.{ℕ}
 use mathlib.Core.List.{List}
 use lib.Seq.{slice}
@@ -35,13 +35,13 @@ use Rattle.answers.specs.OneAnswer.{Call, SameAnswer}
 abbrev pub Given : Type 0
 Given = List ℕ × List ℕ × ℕ × ℕ
 
-abbrev pub given : Call resync_into.ended → Given
-given c = (c .args .0 .now, c .args .1 .0 .now, c .args .1 .1 .0, c .args .1 .1 .1 .0)
+abbrev pub resync-given : Call resync_into.ended → Given
+resync-given c = (c .args .0 .now, c .args .1 .0 .now, c .args .1 .1 .0, c .args .1 .1 .1 .0)
 
-abbrev pub told : Call resync_into.ended → Put × List ℕ
-told c = (c .answer, c .left .0)
+abbrev pub resync-told : Call resync_into.ended → Put × List ℕ
+resync-told c = (c .answer, c .left .0)
 
-pub resync-into-same : SameAnswer resync_into.ended resync_into.Reads.Learnt given told
+pub resync-into-same : SameAnswer resync_into.ended resync_into.Reads.Learnt resync-given resync-told
 resync-into-same c d p q e = p ∙ ap (λ (i : Given). intoOf (resynchronised (slice (i .2) (i .3) (i .1))) (i .0)) e ∙ sym q
 
 -- ---- Reader::step: the reader, work and tag; document 01's number and values, and the work buffer

@@ -103,15 +103,15 @@ fields-back Fields.Raw fits = refl
 pub reader-back : (r : Reader) (words : List ℕ) → 7 ≤ length words → StopFits (r .stop) → readerOf (readerWords r words) ≡ GivenReader.Good r
 unfolding readerOf readerWords
 reader-back r words h fits =
-    let at : (i : ℕ) → i < 7 → word i (sets words 0 (readerList r)) ≡ getD (readerList r) i 0 = λ i k. stored words (readerList r) i k h in
+    let word-at : (i : ℕ) → i < 7 → word i (sets words 0 (readerList r)) ≡ getD (readerList r) i 0 = λ i k. stored words (readerList r) i k h in
     rw (
-      at 0 (omega arith),
-      at 1 (omega arith),
-      at 2 (omega arith),
-      at 3 (omega arith),
-      at 4 (omega arith),
-      at 5 (omega arith),
-      at 6 (omega arith),
+      word-at 0 (omega arith),
+      word-at 1 (omega arith),
+      word-at 2 (omega arith),
+      word-at 3 (omega arith),
+      word-at 4 (omega arith),
+      word-at 5 (omega arith),
+      word-at 6 (omega arith),
       version-known (r .version),
       version-back (r .version),
       flag-known (r .in_work),
@@ -123,19 +123,19 @@ reader-back r words h fits =
 pub meter-back : (m : Meter) (words : List ℕ) → 11 ≤ length words → StopFits (m .reader .stop) → meterOf (meterWords m words) ≡ m ∷ []
 unfolding meterOf meterWords
 meter-back m words h fits =
-    let at : (i : ℕ) → i < 11 → word i (sets words 0 (meterList m)) ≡ getD (meterList m) i 0 = λ i k. stored words (meterList m) i k h in
+    let word-at : (i : ℕ) → i < 11 → word i (sets words 0 (meterList m)) ≡ getD (meterList m) i 0 = λ i k. stored words (meterList m) i k h in
     rw (
-      at 0 (omega arith),
-      at 1 (omega arith),
-      at 2 (omega arith),
-      at 3 (omega arith),
-      at 4 (omega arith),
-      at 5 (omega arith),
-      at 6 (omega arith),
-      at 7 (omega arith),
-      at 8 (omega arith),
-      at 9 (omega arith),
-      at 10 (omega arith),
+      word-at 0 (omega arith),
+      word-at 1 (omega arith),
+      word-at 2 (omega arith),
+      word-at 3 (omega arith),
+      word-at 4 (omega arith),
+      word-at 5 (omega arith),
+      word-at 6 (omega arith),
+      word-at 7 (omega arith),
+      word-at 8 (omega arith),
+      word-at 9 (omega arith),
+      word-at 10 (omega arith),
       version-known (m .reader .version),
       version-back (m .reader .version),
       flag-known (m .reader .in_work),
@@ -153,12 +153,12 @@ meter-back m words h fits =
 pub writer-back : (w : Writer) (words : List ℕ) → 4 ≤ length words → writerOf (writerWords w words) ≡ GivenWriter.Good w
 unfolding writerOf writerWords
 writer-back w words h =
-    let at : (i : ℕ) → i < 4 → word i (sets words 0 (writerList w)) ≡ getD (writerList w) i 0 = λ i k. stored words (writerList w) i k h in
+    let word-at : (i : ℕ) → i < 4 → word i (sets words 0 (writerList w)) ≡ getD (writerList w) i 0 = λ i k. stored words (writerList w) i k h in
     rw (
-      at 0 (omega arith),
-      at 1 (omega arith),
-      at 2 (omega arith),
-      at 3 (omega arith),
+      word-at 0 (omega arith),
+      word-at 1 (omega arith),
+      word-at 2 (omega arith),
+      word-at 3 (omega arith),
       version-known (w .version),
       version-back (w .version),
       mode-known (w .mode),
@@ -172,17 +172,17 @@ pub heading-back : (r : Record) (words : List ℕ) → 19 ≤ length words → H
 unfolding headingOf recordWords
 heading-back r words h fits =
     let l = headingList (r .heading) ++ placeList r in
-    let at : (i : ℕ) → i < 19 → word i (sets words 0 l) ≡ getD l i 0 = λ i k. stored words l i k h in
+    let word-at : (i : ℕ) → i < 19 → word i (sets words 0 l) ≡ getD l i 0 = λ i k. stored words l i k h in
     rw (
-      at 0 (omega arith),
-      at 1 (omega arith),
-      at 2 (omega arith),
-      at 3 (omega arith),
-      at 4 (omega arith),
-      at 5 (omega arith),
-      at 6 (omega arith),
-      at 7 (omega arith),
-      at 8 (omega arith),
+      word-at 0 (omega arith),
+      word-at 1 (omega arith),
+      word-at 2 (omega arith),
+      word-at 3 (omega arith),
+      word-at 4 (omega arith),
+      word-at 5 (omega arith),
+      word-at 6 (omega arith),
+      word-at 7 (omega arith),
+      word-at 8 (omega arith),
       lt-ltb (r .heading .id) (2 ^ 32) (fits .0),
       mark-back (r .heading .short),
       mark-back (r .heading .compressed),

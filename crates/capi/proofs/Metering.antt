@@ -35,37 +35,29 @@ use Rattle.capi.specs.Metering.{openedWords, isRunning, versionIn, stopp
 
 -- ---- single words say what they are
 
-pub no-version : (n : ℕ) → (n ≡ 2 → ⊥) → (n ≡ 3 → ⊥) → (n ≡ 4 → ⊥) → isVersion n ≡ false
-no-version n h2 h3 h4 = by (leb 2 n) (leb n 4) refl refl
-  where
-    by : (a b : Bool) → leb 2 n ≡ a → leb n 4 ≡ b → (a && b) ≡ false
-    by false b ea eb = refl
-    by true false ea eb = refl
-    by true true ea eb = let l = leb-true 2 n ea in let h = leb-true n 4 eb in absurd (omega (arith, h2, h3, h4))
-
 -- the edition that a number says
 
 pub bad-version : (n : ℕ) → versionIn n ≡ GivenVersion.Bad → isVersion n ≡ false
-bad-version n e = by (isVersion n) e
+bad-version n e = false-where-bad (isVersion n) e
   where
-    by : (t : Bool) → pick t (GivenVersion.Good (versionOf n)) GivenVersion.Bad ≡ GivenVersion.Bad → t ≡ false
-    by true k = absurd (let z : _≡_ {A = ℕ} 0 1 = cc in omega arith)
-    by false k = refl
+    false-where-bad : (t : Bool) → pick t (GivenVersion.Good (versionOf n)) GivenVersion.Bad ≡ GivenVersion.Bad → t ≡ false
+    false-where-bad true k = absurd (let z : _≡_ {A = ℕ} 0 1 = cc in omega arith)
+    false-where-bad false k = refl
 
 pub good-version : (n : ℕ) {v : Version} → versionIn n ≡ GivenVersion.Good v → (isVersion n ≡ true) × (v ≡ versionOf n)
-good-version n {v} e = by (isVersion n) e
+good-version n {v} e = true-where-good (isVersion n) e
   where
-    by : (t : Bool) → pick t (GivenVersion.Good (versionOf n)) GivenVersion.Bad ≡ GivenVersion.Good v → (t ≡ true) × (v ≡ versionOf n)
-    by true k = (refl, cc)
-    by false k = absurd (let z : _≡_ {A = ℕ} 0 1 = cc in omega arith)
+    true-where-good : (t : Bool) → pick t (GivenVersion.Good (versionOf n)) GivenVersion.Bad ≡ GivenVersion.Good v → (t ≡ true) × (v ≡ versionOf n)
+    true-where-good true k = (refl, cc)
+    true-where-good false k = absurd (let z : _≡_ {A = ℕ} 0 1 = cc in omega arith)
 
 version-same : (n : ℕ) → isVersion n ≡ true → versionNumber (versionOf n) ≡ n
-version-same n e = by (eqb n 2) (eqb n 3) refl refl
+version-same n e = same-by-tests (eqb n 2) (eqb n 3) refl refl
   where
-    by : (a b : Bool) → eqb n 2 ≡ a → eqb n 3 ≡ b → versionNumber (versionOf n) ≡ n
-    by true b ea eb = rw ea (sym (eqb-true n 2 ea))
-    by false true ea eb = rw (ea, eb) (sym (eqb-true n 3 eb))
-    by false false ea eb =
+    same-by-tests : (a b : Bool) → eqb n 2 ≡ a → eqb n 3 ≡ b → versionNumber (versionOf n) ≡ n
+    same-by-tests true b ea eb = rw ea (sym (eqb-true n 2 ea))
+    same-by-tests false true ea eb = rw (ea, eb) (sym (eqb-true n 3 eb))
+    same-by-tests false false ea eb =
         let f = and-true (leb 2 n) (leb n 4) e in
         let l = leb-true 2 n (f .0) in
         let h = leb-true n 4 (f .1) in
@@ -75,11 +67,11 @@ version-same n e = by (eqb n 2) (eqb n 3) refl refl
         rw (ea, eb) z
 
 flag-same : (n : ℕ) → isFlag n ≡ true → flag (eqb n 1) ≡ n
-flag-same n e = by (eqb n 1) refl
+flag-same n e = same-by-test (eqb n 1) refl
   where
-    by : (a : Bool) → eqb n 1 ≡ a → flag a ≡ n
-    by true ea = sym (eqb-true n 1 ea)
-    by false ea = let l = leb-true n 1 e in let h = eqb-false n 1 ea in omega (arith, h)
+    same-by-test : (a : Bool) → eqb n 1 ≡ a → flag a ≡ n
+    same-by-test true ea = sym (eqb-true n 1 ea)
+    same-by-test false ea = let l = leb-true n 1 e in let h = eqb-false n 1 ea in omega (arith, h)
 
 -- a refusal alone has a number
 stop-same : (s n : ℕ) → isStop s n ≡ true → (stopNumber (stopOf s n) ≡ s) × (failure (stopOf s n) ≡ n)
@@ -97,24 +89,24 @@ eleven : (words : List ℕ) → 11 ≤ length words
     → words
     ≡ word 0 words ∷ word 1 words ∷ word 2 words ∷ word 3 words ∷ word 4 words ∷ word 5 words ∷ word 6 words ∷ word 7 words ∷ word 8 words ∷ word 9 words ∷ word 10 words ∷ drop 11 words
 eleven words h =
-    let at : (i : ℕ) → i < 11 → drop i words ≡ word i words ∷ drop (suc i) words = λ i k. drop-cons words i 0 (omega arith) in
+    let word-first : (i : ℕ) → i < 11 → drop i words ≡ word i words ∷ drop (suc i) words = λ i k. drop-cons words i 0 (omega arith) in
     cc (
-      at 0 (omega arith),
-      at 1 (omega arith),
-      at 2 (omega arith),
-      at 3 (omega arith),
-      at 4 (omega arith),
-      at 5 (omega arith),
-      at 6 (omega arith),
-      at 7 (omega arith),
-      at 8 (omega arith),
-      at 9 (omega arith),
-      at 10 (omega arith),
+      word-first 0 (omega arith),
+      word-first 1 (omega arith),
+      word-first 2 (omega arith),
+      word-first 3 (omega arith),
+      word-first 4 (omega arith),
+      word-first 5 (omega arith),
+      word-first 6 (omega arith),
+      word-first 7 (omega arith),
+      word-first 8 (omega arith),
+      word-first 9 (omega arith),
+      word-first 10 (omega arith),
     )
 
 -- what holds of every list that begins with eleven words
-each : (P : List ℕ → Type 0) → ((a b c d e f g h i j k : ℕ) (rest : List ℕ) → P (a ∷ b ∷ c ∷ d ∷ e ∷ f ∷ g ∷ h ∷ i ∷ j ∷ k ∷ rest)) → (words : List ℕ) → 11 ≤ length words → P words
-each P law words h = subst P (sym (eleven words h)) (law _ _ _ _ _ _ _ _ _ _ _ _)
+of-eleven : (P : List ℕ → Type 0) → ((a b c d e f g h i j k : ℕ) (rest : List ℕ) → P (a ∷ b ∷ c ∷ d ∷ e ∷ f ∷ g ∷ h ∷ i ∷ j ∷ k ∷ rest)) → (words : List ℕ) → 11 ≤ length words → P words
+of-eleven P law words h = subst P (sym (eleven words h)) (law _ _ _ _ _ _ _ _ _ _ _ _)
 
 -- ---- what words say
 
@@ -127,8 +119,8 @@ record Says (words : List ℕ) : Type 0 where
   compressed : isFlag (word 9 words) ≡ true
   missing : isFlag (word 10 words) ≡ true
 
-says : (words : List ℕ) → isMeter words ≡ true → Says words
-says words e =
+says-meter : (words : List ℕ) → isMeter words ≡ true → Says words
+says-meter words e =
     let a = and-true (isReader (word 0 words) (word 1 words) (word 5 words) (word 6 words)) (isFlag (word 8 words) && (isFlag (word 9 words) && isFlag (word 10 words))) e in
     let b = and-true (isVersion (word 0 words)) (isFlag (word 1 words) && isStop (word 5 words) (word 6 words)) (a .0) in
     let c = and-true (isFlag (word 1 words)) (isStop (word 5 words) (word 6 words)) (b .1) in
@@ -141,14 +133,14 @@ number-fits words e =
     number-small (word 0 words) (word 1 words) (word 5 words) (word 6 words)
     (and-true (isReader (word 0 words) (word 1 words) (word 5 words) (word 6 words)) (isFlag (word 8 words) && (isFlag (word 9 words) && isFlag (word 10 words))) e .0)
 
-abbrev said : List ℕ → Meter
-said words = meterWith (versionOf (word 0 words)) (stopOf (word 5 words) (word 6 words)) words
+abbrev meter-said : List ℕ → Meter
+meter-said words = meterWith (versionOf (word 0 words)) (stopOf (word 5 words) (word 6 words)) words
 
 -- the meter that words say, put into them, leaves them as they are
-same-words : (words : List ℕ) → 11 ≤ length words → Says words → meterWords (said words) words ≡ words
+same-words : (words : List ℕ) → 11 ≤ length words → Says words → meterWords (meter-said words) words ≡ words
 unfolding meterWords
 same-words =
-    each (λ words. Says words → meterWords (said words) words ≡ words)
+    of-eleven (λ words. Says words → meterWords (meter-said words) words ≡ words)
     (λ a b c d e f g h i j k rest s. rw (version-same a (s .version), flag-same b (s .in-work), stop-same f g (s .stop) .0, stop-same f g (s .stop) .1, flag-same i (s .short), flag-same j (s .compressed), flag-same k (s .missing)))
 
 -- what tells that words say a running meter
@@ -161,8 +153,8 @@ record Runs (words : List ℕ) : Type 0 where
   compressed : isFlag (word 9 words) ≡ true
   missing : isFlag (word 10 words) ≡ true
 
-runs : (words : List ℕ) → isVersion (word 0 words) ≡ true → isRunning words ≡ true → Runs words
-runs words v e =
+says-running : (words : List ℕ) → isVersion (word 0 words) ≡ true → isRunning words ≡ true → Runs words
+says-running words v e =
     let a = and-true (eqb (word 5 words) 0 && eqb (word 6 words) 0) (isFlag (word 1 words) && (isFlag (word 8 words) && (isFlag (word 9 words) && isFlag (word 10 words)))) e in
     let b = and-true (eqb (word 5 words) 0) (eqb (word 6 words) 0) (a .0) in
     let c = and-true (isFlag (word 1 words)) (isFlag (word 8 words) && (isFlag (word 9 words) && isFlag (word 10 words))) (a .1) in
@@ -178,10 +170,10 @@ runs words v e =
       missing = f .1;
     }
 
-abbrev ran : List ℕ → Meter
-ran words = meterWith (versionOf (word 0 words)) Stop.Running words
+abbrev meter-running : List ℕ → Meter
+meter-running words = meterWith (versionOf (word 0 words)) Stop.Running words
 
-running-of : (words : List ℕ) → Runs words → meterOf words ≡ ran words ∷ []
+running-of : (words : List ℕ) → Runs words → meterOf words ≡ meter-running words ∷ []
 unfolding meterOf
 running-of words r = rw (r .version, r .in-work, r .stop, r .number, r .short, r .compressed, r .missing)
 
@@ -196,31 +188,31 @@ stopped-of words s e z =
 
 module _ (at frames : ℕ) (short compressed : Bool) where
   abbrev moved : Stop → List ℕ → Meter
-  moved stop words = movedAs at frames short compressed stop (ran words)
+  moved stop words = movedAs at frames short compressed stop (meter-running words)
 
   found-words : (words : List ℕ) → 11 ≤ length words → Runs words → movedWords (moved Stop.Running words) words ≡ meterWords (moved Stop.Running words) words
   unfolding meterWords movedWords
   found-words =
-      each (λ words. Runs words → movedWords (moved Stop.Running words) words ≡ meterWords (moved Stop.Running words) words)
+      of-eleven (λ words. Runs words → movedWords (moved Stop.Running words) words ≡ meterWords (moved Stop.Running words) words)
       (λ a b c d e f g h i j k rest r. rw (version-same a (r .version), flag-same b (r .in-work), flag-same k (r .missing), r .stop, r .number))
 
   ended-words : (words : List ℕ) → 11 ≤ length words → Runs words → set (movedWords (moved Stop.Ended words) words) 5 1 ≡ meterWords (moved Stop.Ended words) words
   unfolding meterWords movedWords
   ended-words =
-      each (λ words. Runs words → set (movedWords (moved Stop.Ended words) words) 5 1 ≡ meterWords (moved Stop.Ended words) words)
+      of-eleven (λ words. Runs words → set (movedWords (moved Stop.Ended words) words) 5 1 ≡ meterWords (moved Stop.Ended words) words)
       (λ a b c d e f g h i j k rest r. rw (version-same a (r .version), flag-same b (r .in-work), flag-same k (r .missing), r .number))
 
   failed-words : (n : ℕ) (words : List ℕ) → 11 ≤ length words → Runs words
       → sets (movedWords (moved (Stop.Failed n) words) words) 5 (2 ∷ n ∷ []) ≡ meterWords (moved (Stop.Failed n) words) words
   unfolding meterWords movedWords
   failed-words n =
-      each (λ words. Runs words → sets (movedWords (moved (Stop.Failed n) words) words) 5 (2 ∷ n ∷ []) ≡ meterWords (moved (Stop.Failed n) words) words)
+      of-eleven (λ words. Runs words → sets (movedWords (moved (Stop.Failed n) words) words) 5 (2 ∷ n ∷ []) ≡ meterWords (moved (Stop.Failed n) words) words)
       (λ a b c d e f g h i j k rest r. rw (version-same a (r .version), flag-same b (r .in-work), flag-same k (r .missing)))
 
 abbrev withWork : List ℕ → Left2 → Left3
 withWork work o = (o .0, work, o .1, o .2)
 
-answered-words : (x : Next) (work meter metered : List ℕ) → 11 ≤ length meter → Runs meter → Goes (ran meter) x
+answered-words : (x : Next) (work meter metered : List ℕ) → 11 ≤ length meter → Runs meter → Goes (meter-running meter) x
     → withWork work (answeredOf x meter metered) ≡ afterNext (x, work) meter metered
 answered-words (Next.Found p m) work meter metered h r o = rw (o .same, found-words (o .at) (o .frames) (o .short) (o .compressed) meter h r)
 answered-words (Next.End m) work meter metered h r o = rw (o .same, ended-words (o .at) (o .frames) (o .short) (o .compressed) meter h r)
@@ -264,7 +256,7 @@ module _ (tag work meter metered : List ℕ) (h : 11 ≤ length meter) where
   stays-as : (stop : Stop) → stopOf (word 5 meter) (word 6 meter) ≡ stop → Says meter → (k : ℕ) → {x : Next}
       → _≡_ {A = Nexted} (x, work) (nextOf (meterWith (versionOf (word 0 meter)) stop meter) tag work)
       → afterNext (x, work) meter metered ≡ (k, work, meterWords (meterWith (versionOf (word 0 meter)) stop meter) meter, metered)
-      → afterNext (nextOf (said meter) tag work) meter metered ≡ (k, work, meter, metered)
+      → afterNext (nextOf (meter-said meter) tag work) meter metered ≡ (k, work, meter, metered)
   stays-as stop e s k next after =
       let m = meterWith (versionOf (word 0 meter)) stop meter in
       let same : meterWords m meter ≡ meter = ap (λ (z : Stop). meterWords (meterWith (versionOf (word 0 meter)) z meter) meter) (sym e) ∙ same-words meter h s in
@@ -274,7 +266,7 @@ module _ (tag work meter metered : List ℕ) (h : 11 ≤ length meter) where
       ∙ ap {B = Left3} (λ (z : List ℕ). (k, work, z, metered)) same
 
   says-stopped : isRunning meter ≡ false → Says meter → (one : Bool) → eqb (word 5 meter) 1 ≡ one
-      → afterNext (nextOf (said meter) tag work) meter metered ≡ (pick one 256 (word 6 meter), work, meter, metered)
+      → afterNext (nextOf (meter-said meter) tag work) meter metered ≡ (pick one 256 (word 6 meter), work, meter, metered)
   says-stopped is s true eo =
       stays-as Stop.Ended (rw (eqb-true (word 5 meter) 1 eo)) s 256 (next-ended (meterWith (versionOf (word 0 meter)) Stop.Ended meter) tag work refl) refl
   says-stopped is s false eo =
@@ -285,7 +277,7 @@ module _ (tag work meter metered : List ℕ) (h : 11 ≤ length meter) where
   stays : isRunning meter ≡ false → (t : Bool) → isMeter meter ≡ t
       → nextWith (meterOf meter) tag work meter metered ≡ (pick t (pick (eqb (word 5 meter) 1) 256 (word 6 meter)) 2, work, meter, metered)
   unfolding meterOf
-  stays is true t = rw t (says-stopped is (says meter t) (eqb (word 5 meter) 1) refl)
+  stays is true t = rw t (says-stopped is (says-meter meter t) (eqb (word 5 meter) 1) refl)
   stays is false t = rw t
 
 -- ---- sv_meter_next
@@ -305,11 +297,11 @@ module _ (tag work meter metered : List ℕ) where
     unfolding svMeterNext
     next-stopped is = rw e (stays tag work meter metered (enough2 11 6 meter metered e .0) is (isMeter meter) refl)
 
-    pub next-then : isVersion (word 0 meter) ≡ true → isRunning meter ≡ true → {answer : Next} {left : List ℕ} {o : Left2} → (answer, left) ≡ nextOf (ran meter) tag work
+    pub next-then : isVersion (word 0 meter) ≡ true → isRunning meter ≡ true → {answer : Next} {left : List ℕ} {o : Left2} → (answer, left) ≡ nextOf (meter-running meter) tag work
         → o ≡ answeredOf answer meter metered → withWork left o ≡ svMeterNext tag work meter metered
     unfolding svMeterNext
     next-then v is {answer} {left} {o} en eo =
-        let r = runs meter v is in
+        let r = says-running meter v is in
         let h = enough2 11 6 meter metered e .0 in
-        let g : Goes (ran meter) answer = subst (λ (x : Nexted). Goes (ran meter) (x .0)) (sym en) (next-goes (ran meter) tag work refl) in
+        let g : Goes (meter-running meter) answer = subst (λ (x : Nexted). Goes (meter-running meter) (x .0)) (sym en) (next-goes (meter-running meter) tag work refl) in
         ap (withWork left) eo ∙ answered-words answer left meter metered h r g ∙ rw (e, running-of meter r, ← en)

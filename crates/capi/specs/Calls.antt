@@ -72,7 +72,7 @@ unfoldable pub svStep : List ℕ → List ℕ → List ℕ → List ℕ → Left
 svStep tag work reader words =
     pick (short 7 reader || short 19 words) (20, work, reader, words) (stepWith (readerOf reader) tag work reader words)
 
--- ---- sv_begin: writer
+-- ---- sv_begin, sv_begin_plain: writer
 
 abbrev pub afterBegin : Begun → List ℕ → Left1
 afterBegin (Begun.Ready w) writer = (0, writerWords w writer)
@@ -82,6 +82,10 @@ unfoldable pub svBegin : ℕ → ℕ → ℕ → List ℕ → Left1
 svBegin version mode altered writer =
     pick (short 4 writer) (20, writer)
     (pick (leb 2 altered) (2, writer) (afterBegin (beginOf version mode (eqb altered 1)) writer))
+
+-- mode 0 (off), and altered 0
+abbrev pub svBeginPlain : ℕ → List ℕ → Left1
+svBeginPlain version writer = svBegin version 0 0 writer
 
 -- ---- sv_add: buffer, writer, count; a refusal has count 0 and changes nothing else
 

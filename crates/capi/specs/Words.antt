@@ -9,8 +9,6 @@ use Rattle.format.specs.Bytes.{pick}
 use Rattle.format.specs.Header.{versionOf}
 use Rattle.format.specs.Numbered.{isVersion, modeNumber, modeOf, versionNumber}
 use Rattle.format.specs.Ids.{kindNumber}
-use Rattle.format.specs.declared.Version.{Version}
-use Rattle.format.specs.declared.Mode.{Mode}
 use Rattle.format.specs.declared.Kind.{Kind}
 use Rattle.format.specs.declared.Fields.{Fields}
 use Rattle.format.specs.declared.Heading.{Heading}

@@ -1,6 +1,7 @@
 // The exported functions, for C and Rust: include/streamvault.h declares them. State and records lie in words that the
 // caller lends. What each call answers and leaves stands in specs/Calls.antt.
 mod meters;
+mod places;
 mod records;
 mod words;
 
@@ -35,7 +36,9 @@ use writer::Added;
 use writer::Begun;
 use writer::Finished;
 ghost use mathlib.Core.Path.{_≡_};
-ghost use Rattle.capi.specs.Calls.{svHeader, svOpen, svStep, svBegin, svAdd, svFinish, referencesOf, svReferences};
+ghost use Prim.Native.Nat.{_≤_};
+ghost use lib.ListN.{length};
+ghost use Rattle.capi.specs.Calls.{svHeader, svOpen, svStep, afterBegin, svBegin, svBeginPlain, svAdd, svFinish, referencesOf, svReferences};
 ghost use Rattle.capi.specs.Meters.{svMeterOpen, svMeterNext};
 
 // Fewer words than a call takes.
@@ -53,27 +56,12 @@ const END: u32 = 256;
 // The count of a refused call.
 const NONE: u64 = 0;
 
-// How many words there are of each.
-const HEADER: usize = 4;
-
-const READER: usize = 7;
-
-const RECORD: usize = 19;
-
-const METER: usize = 11;
-
-const METERED: usize = 6;
-
-const WRITER: usize = 4;
-
-const COUNT: usize = 1;
-
 // Reads the header of a tag into four words: version, flags, size, ext.
 #[no_mangle]
 pub extern "C" fn sv_header(tag: &[u8], header: &mut [u64]) -> u32
     ensures { λ r. ⌜ (r, now (header .exit)) ≡ svHeader (now (tag .entry)) (now (header .entry)) ⌝ }
 {
-    if header.len() < HEADER {
+    if header.len() < places::HEADER_WORDS {
         return SHORT;
     }
     let headed = reader::headers::header(tag);
@@ -91,7 +79,7 @@ pub extern "C" fn sv_header(tag: &[u8], header: &mut [u64]) -> u32
 pub extern "C" fn sv_open(tag: &[u8], work: &mut [u8], reader: &mut [u64]) -> u32
     ensures { λ r. ⌜ (r, now (work .exit), now (reader .exit)) ≡ svOpen (now (tag .entry)) (now (work .entry)) (now (reader .entry)) ⌝ }
 {
-    if reader.len() < READER {
+    if reader.len() < places::READER_WORDS {
         return SHORT;
     }
     let opened = reader::opening::open(work, tag);
@@ -114,7 +102,7 @@ pub extern "C" fn sv_step(
 ) -> u32
     ensures { λ r. ⌜ (r, now (work .exit), now (reader .exit), now («record» .exit)) ≡ svStep (now (tag .entry)) (now (work .entry)) (now (reader .entry)) (now («record» .entry)) ⌝ }
 {
-    if (reader.len() < READER) | (record.len() < RECORD) {
+    if (reader.len() < places::READER_WORDS) | (record.len() < places::RECORD_WORDS) {
         return SHORT;
     }
     let given = load_reader(reader);
@@ -144,7 +132,7 @@ pub extern "C" fn sv_step(
 pub extern "C" fn sv_meter_open(tag: &[u8], work: &mut [u8], meter: &mut [u64]) -> u32
     ensures { λ r. ⌜ (r, now (work .exit), now (meter .exit)) ≡ svMeterOpen (now (tag .entry)) (now (work .entry)) (now (meter .entry)) ⌝ }
 {
-    if meter.len() < METER {
+    if meter.len() < places::METER_WORDS {
         return SHORT;
     }
     let opened = meter::opening::open(work, tag);
@@ -168,13 +156,13 @@ pub extern "C" fn sv_meter_next(
 ) -> u32
     ensures { λ r. ⌜ (r, now (work .exit), now (meter .exit), now (metered .exit)) ≡ svMeterNext (now (tag .entry)) (now (work .entry)) (now (meter .entry)) (now (metered .entry)) ⌝ }
 {
-    if (meter.len() < METER) | (metered.len() < METERED) {
+    if (meter.len() < places::METER_WORDS) | (metered.len() < places::METERED_WORDS) {
         return SHORT;
     }
     if !is_running(&meter[..]) {
         return stopped(&meter[..]);
     }
-    let given = version_in(meter[0]);
+    let given = version_in(meter[places::METER_VERSION]);
     let GivenVersion::Good(version) = given else {
         return NO_STATE;
     };
@@ -182,12 +170,26 @@ pub extern "C" fn sv_meter_next(
     answered(meter, metered, next)
 }
 
+// Puts a writer that was begun into words.
+fn store_begun(writer: &mut [u64], begun: Begun) -> u32
+    requires { ⌜ 4 ≤ length (now writer) ⌝ }
+    ensures { λ r. ⌜ (r, now (writer .exit)) ≡ afterBegin begun (now (writer .entry)) ⌝ }
+{
+    match begun {
+        Begun::Ready(w) => {
+            store_writer(writer, w);
+            0
+        }
+        Begun::Refused(k) => k as u32,
+    }
+}
+
 // Begins a writer: version 2, 3 or 4, mode 0 (off), 1 (crate) or 2 (standard), altered 0 or 1.
 #[no_mangle]
 pub extern "C" fn sv_begin(version: u64, mode: u64, altered: u64, writer: &mut [u64]) -> u32
     ensures { λ r. ⌜ (r, now (writer .exit)) ≡ svBegin version mode altered (now (writer .entry)) ⌝ }
 {
-    if writer.len() < WRITER {
+    if writer.len() < places::WRITER_WORDS {
         return SHORT;
     }
     if altered > 1 {
@@ -200,13 +202,22 @@ pub extern "C" fn sv_begin(version: u64, mode: u64, altered: u64, writer: &mut [
         return NO_STATE;
     }
     let begun = writer::begin::begin(version as u8, mode as u8, altered == 1);
-    match begun {
-        Begun::Ready(w) => {
-            store_writer(writer, w);
-            0
-        }
-        Begun::Refused(k) => k as u32,
+    store_begun(writer, begun)
+}
+
+// Begins a writer of mode 0 (off), for a file that is not altered.
+#[no_mangle]
+pub extern "C" fn sv_begin_plain(version: u64, writer: &mut [u64]) -> u32
+    ensures { λ r. ⌜ (r, now (writer .exit)) ≡ svBeginPlain version (now (writer .entry)) ⌝ }
+{
+    if writer.len() < places::WRITER_WORDS {
+        return SHORT;
     }
+    if version > 4 {
+        return NO_STATE;
+    }
+    let begun = writer::begin::begin_plain(version as u8);
+    store_begun(writer, begun)
 }
 
 // Adds a record behind the frames that the collecting buffer holds. The count is how many bytes it took there.
@@ -223,7 +234,9 @@ pub extern "C" fn sv_add(
 ) -> u32
     ensures { λ r. ⌜ (r, now (buffer .exit), now (writer .exit), now (count .exit)) ≡ svAdd (now («record» .entry)) (now (name .entry)) (now (names .entry)) (now (rest .entry)) (now (deviations .entry)) (now (buffer .entry)) (now (writer .entry)) (now (count .entry)) ⌝ }
 {
-    if (record.len() < RECORD) | ((writer.len() < WRITER) | (count.len() < COUNT)) {
+    if (record.len() < places::RECORD_WORDS)
+        | ((writer.len() < places::WRITER_WORDS) | (count.len() < places::COUNT_WORDS))
+    {
         return SHORT;
     }
     count[0] = NONE;
@@ -257,7 +270,7 @@ pub extern "C" fn sv_finish(
 ) -> u32
     ensures { λ r. ⌜ (r, now (output .exit), now (count .exit)) ≡ svFinish padding (now (buffer .entry)) (now (output .entry)) (now (writer .entry)) (now (count .entry)) ⌝ }
 {
-    if (writer.len() < WRITER) | (count.len() < COUNT) {
+    if (writer.len() < places::WRITER_WORDS) | (count.len() < places::COUNT_WORDS) {
         return SHORT;
     }
     count[0] = NONE;
@@ -299,7 +312,7 @@ pub extern "C" fn sv_references(
 ) -> u32
     ensures { λ r. ⌜ (r, now (deviations .exit), now (count .exit)) ≡ svReferences (now («record» .entry)) (now (rest .entry)) (now (deviations .entry)) (now (count .entry)) ⌝ }
 {
-    if (record.len() < RECORD) | (count.len() < COUNT) {
+    if (record.len() < places::RECORD_WORDS) | (count.len() < places::COUNT_WORDS) {
         return SHORT;
     }
     count[0] = NONE;

@@ -1,10 +1,13 @@
 // Meters and metered popularimeters, loaded from words and stored there. What each word means stands in specs/Meters.antt.
 use crate::END;
 use crate::NO_STATE;
+use crate::places;
 use crate::words::flag;
 use crate::words::is_reader;
-use crate::words::version_number;
 use format::Version;
+use format::numbered::is_version;
+use format::numbered::version_number;
+use format::numbered::version_of;
 use meter::Meter;
 use meter::Metered;
 use meter::Next;
@@ -31,17 +34,17 @@ pub(crate) fn store_opened(words: &mut [u64], m: Meter)
 {
     let reader = m.reader;
     let version = reader.version;
-    words[0] = version_number(version);
-    words[1] = flag(reader.in_work);
-    words[2] = reader.begin as u64;
-    words[3] = reader.at as u64;
-    words[4] = reader.end as u64;
-    words[5] = 0;
-    words[6] = 0;
-    words[7] = 0;
-    words[8] = 0;
-    words[9] = 0;
-    words[10] = flag(m.missing);
+    words[places::METER_VERSION] = version_number(version) as u64;
+    words[places::METER_IN_WORK] = flag(reader.in_work);
+    words[places::METER_BEGIN] = reader.begin as u64;
+    words[places::METER_AT] = reader.at as u64;
+    words[places::METER_END] = reader.end as u64;
+    words[places::METER_STOP] = places::STOP_RUNNING;
+    words[places::METER_NUMBER] = 0;
+    words[places::METER_FRAMES] = 0;
+    words[places::METER_SHORT] = 0;
+    words[places::METER_COMPRESSED] = 0;
+    words[places::METER_MISSING] = flag(m.missing);
 }
 
 // ---- a meter that runs
@@ -51,21 +54,20 @@ pub(crate) fn is_running(words: &[u64]) -> bool
     requires { ⌜ 11 ≤ length (now words) ⌝ }
     ensures { λ r. ⌜ r ≡ isRunning (now (words .entry)) ⌝ }
 {
-    if !((words[5] == 0) & (words[6] == 0)) {
-        return false;
-    }
-    (words[1] <= 1) & ((words[8] <= 1) & ((words[9] <= 1) & (words[10] <= 1)))
+    ((words[places::METER_STOP] == places::STOP_RUNNING) & (words[places::METER_NUMBER] == 0))
+        & ((words[places::METER_IN_WORK] <= 1)
+            & ((words[places::METER_SHORT] <= 1)
+                & ((words[places::METER_COMPRESSED] <= 1) & (words[places::METER_MISSING] <= 1))))
 }
 
 // The edition that a number says.
 pub(crate) fn version_in(n: u64) -> GivenVersion
     ensures { λ r. ⌜ r ≡ versionIn n ⌝ }
 {
-    match n {
-        2 => GivenVersion::Good(Version::Id3v22),
-        3 => GivenVersion::Good(Version::Id3v23),
-        4 => GivenVersion::Good(Version::Id3v24),
-        _ => GivenVersion::Bad,
+    if is_version(n) {
+        GivenVersion::Good(version_of(n))
+    } else {
+        GivenVersion::Bad
     }
 }
 
@@ -76,18 +78,18 @@ pub(crate) fn running(words: &[u64], version: Version) -> Meter
 {
     let reader = Reader {
         version,
-        in_work: words[1] == 1,
-        begin: words[2] as usize,
-        at: words[3] as usize,
-        end: words[4] as usize,
+        in_work: words[places::METER_IN_WORK] == 1,
+        begin: words[places::METER_BEGIN] as usize,
+        at: words[places::METER_AT] as usize,
+        end: words[places::METER_END] as usize,
         stop: Stop::Running,
     };
     Meter {
         reader,
-        frames: words[7],
-        short: words[8] == 1,
-        compressed: words[9] == 1,
-        missing: words[10] == 1,
+        frames: words[places::METER_FRAMES],
+        short: words[places::METER_SHORT] == 1,
+        compressed: words[places::METER_COMPRESSED] == 1,
+        missing: words[places::METER_MISSING] == 1,
     }
 }
 
@@ -98,10 +100,14 @@ fn is_meter(words: &[u64]) -> bool
     requires { ⌜ 11 ≤ length (now words) ⌝ }
     ensures { λ r. ⌜ r ≡ isMeter (now (words .entry)) ⌝ }
 {
-    if !is_reader(words[0], words[1], words[5], words[6]) {
-        return false;
-    }
-    (words[8] <= 1) & ((words[9] <= 1) & (words[10] <= 1))
+    is_reader(
+        words[places::METER_VERSION],
+        words[places::METER_IN_WORK],
+        words[places::METER_STOP],
+        words[places::METER_NUMBER],
+    )
+        & ((words[places::METER_SHORT] <= 1)
+            & ((words[places::METER_COMPRESSED] <= 1) & (words[places::METER_MISSING] <= 1)))
 }
 
 // What is answered to words that say no meter that runs: the end or the refusal again, or that they are no meter.
@@ -112,10 +118,10 @@ pub(crate) fn stopped(words: &[u64]) -> u32
     if !is_meter(words) {
         return NO_STATE;
     }
-    if words[5] == 1 {
+    if words[places::METER_STOP] == places::STOP_ENDED {
         return END;
     }
-    words[6] as u32
+    words[places::METER_NUMBER] as u32
 }
 
 // ---- what came next
@@ -126,10 +132,10 @@ fn store_moved(words: &mut [u64], m: Meter)
     ensures { λ _. ⌜ now (words .exit) ≡ movedWords m (now (words .entry)) ⌝ }
 {
     let reader = m.reader;
-    words[3] = reader.at as u64;
-    words[7] = m.frames;
-    words[8] = flag(m.short);
-    words[9] = flag(m.compressed);
+    words[places::METER_AT] = reader.at as u64;
+    words[places::METER_FRAMES] = m.frames;
+    words[places::METER_SHORT] = flag(m.short);
+    words[places::METER_COMPRESSED] = flag(m.compressed);
 }
 
 // Puts a popularimeter into words.
@@ -137,12 +143,12 @@ fn store_metered(words: &mut [u64], p: Metered)
     requires { ⌜ 6 ≤ length (now words) ⌝ }
     ensures { λ _. ⌜ now (words .exit) ≡ meteredWords p (now (words .entry)) ⌝ }
 {
-    words[0] = flag(p.in_work);
-    words[1] = p.user.start as u64;
-    words[2] = p.user.len as u64;
-    words[3] = p.rating as u64;
-    words[4] = p.counter;
-    words[5] = p.frame;
+    words[places::METERED_IN_WORK] = flag(p.in_work);
+    words[places::METERED_USER_START] = p.user.start as u64;
+    words[places::METERED_USER_LEN] = p.user.len as u64;
+    words[places::METERED_RATING] = p.rating as u64;
+    words[places::METERED_COUNTER] = p.counter;
+    words[places::METERED_FRAME] = p.frame;
 }
 
 // Puts what came next into the words of a meter that ran, and into those of the popularimeter.
@@ -159,13 +165,13 @@ pub(crate) fn answered(meter: &mut [u64], metered: &mut [u64], next: Next) -> u3
         }
         Next::End(ended) => {
             store_moved(meter, ended);
-            meter[5] = 1;
+            meter[places::METER_STOP] = places::STOP_ENDED;
             END
         }
         Next::Refused(k, failed) => {
             store_moved(meter, failed);
-            meter[5] = 2;
-            meter[6] = k as u64;
+            meter[places::METER_STOP] = places::STOP_REFUSED;
+            meter[places::METER_NUMBER] = k as u64;
             k as u32
         }
     }

@@ -1,4 +1,5 @@
 // Records, loaded from words and stored there. What each word means stands in specs/Words.antt.
+use crate::places;
 use crate::words::flag;
 use format::Fields;
 use format::Heading;
@@ -39,7 +40,7 @@ fn numbers_of(fields: Fields) -> Numbers
 {
     match fields {
         Fields::Text { encoding } => Numbers {
-            kind: 0,
+            kind: places::KIND_TEXT,
             a: encoding as u64,
             b: 0,
             c: 0,
@@ -47,7 +48,7 @@ fn numbers_of(fields: Fields) -> Numbers
             e: 0,
         },
         Fields::Popularimeter { rating, counter } => Numbers {
-            kind: 1,
+            kind: places::KIND_POPULARIMETER,
             a: rating as u64,
             b: counter,
             c: 0,
@@ -61,7 +62,7 @@ fn numbers_of(fields: Fields) -> Numbers
             bits_for_bytes,
             bits_for_millis,
         } => Numbers {
-            kind: 2,
+            kind: places::KIND_TABLE,
             a: frames as u64,
             b: bytes as u64,
             c: millis as u64,
@@ -74,7 +75,7 @@ fn numbers_of(fields: Fields) -> Numbers
             start_offset,
             end_offset,
         } => Numbers {
-            kind: 3,
+            kind: places::KIND_CHAPTER,
             a: start_time as u64,
             b: end_time as u64,
             c: start_offset as u64,
@@ -82,7 +83,7 @@ fn numbers_of(fields: Fields) -> Numbers
             e: 0,
         },
         Fields::Contents { top_level, ordered } => Numbers {
-            kind: 4,
+            kind: places::KIND_CONTENTS,
             a: flag(top_level),
             b: flag(ordered),
             c: 0,
@@ -90,7 +91,7 @@ fn numbers_of(fields: Fields) -> Numbers
             e: 0,
         },
         Fields::Raw => Numbers {
-            kind: 5,
+            kind: places::KIND_RAW,
             a: 0,
             b: 0,
             c: 0,
@@ -107,15 +108,15 @@ fn store_heading(words: &mut [u64], h: Heading)
 {
     let fields = h.fields;
     let n = numbers_of(fields);
-    words[0] = n.kind;
-    words[1] = h.id as u64;
-    words[2] = flag(h.short);
-    words[3] = flag(h.compressed);
-    words[4] = n.a;
-    words[5] = n.b;
-    words[6] = n.c;
-    words[7] = n.d;
-    words[8] = n.e;
+    words[places::RECORD_KIND] = n.kind;
+    words[places::RECORD_ID] = h.id as u64;
+    words[places::RECORD_SHORT] = flag(h.short);
+    words[places::RECORD_COMPRESSED] = flag(h.compressed);
+    words[places::RECORD_A] = n.a;
+    words[places::RECORD_B] = n.b;
+    words[places::RECORD_C] = n.c;
+    words[places::RECORD_D] = n.d;
+    words[places::RECORD_E] = n.e;
 }
 
 // Puts where a record lies into words.
@@ -123,16 +124,16 @@ fn store_places(words: &mut [u64], r: Record)
     requires { ⌜ 19 ≤ length (now words) ⌝ }
     ensures { λ _. ⌜ now (words .exit) ≡ sets (now (words .entry)) 9 (placeList r) ⌝ }
 {
-    words[9] = r.at as u64;
-    words[10] = flag(r.in_work);
-    words[11] = r.body.start as u64;
-    words[12] = r.body.len as u64;
-    words[13] = r.name.start as u64;
-    words[14] = r.name.len as u64;
-    words[15] = r.names.start as u64;
-    words[16] = r.names.len as u64;
-    words[17] = r.rest.start as u64;
-    words[18] = r.rest.len as u64;
+    words[places::RECORD_AT] = r.at as u64;
+    words[places::RECORD_IN_WORK] = flag(r.in_work);
+    words[places::RECORD_BODY_START] = r.body.start as u64;
+    words[places::RECORD_BODY_LEN] = r.body.len as u64;
+    words[places::RECORD_NAME_START] = r.name.start as u64;
+    words[places::RECORD_NAME_LEN] = r.name.len as u64;
+    words[places::RECORD_NAMES_START] = r.names.start as u64;
+    words[places::RECORD_NAMES_LEN] = r.names.len as u64;
+    words[places::RECORD_REST_START] = r.rest.start as u64;
+    words[places::RECORD_REST_LEN] = r.rest.len as u64;
 }
 
 // Puts a record into words.
@@ -251,13 +252,30 @@ fn load_fields(words: &[u64]) -> GivenFields
     requires { ⌜ 19 ≤ length (now words) ⌝ }
     ensures { λ r. ⌜ r ≡ fieldsIn (now (words .entry)) ⌝ }
 {
-    match words[0] {
-        0 => text_fields(words[4]),
-        1 => popularimeter_fields(words[4], words[5]),
-        2 => table_fields(words[4], words[5], words[6], words[7], words[8]),
-        3 => chapter_fields(words[4], words[5], words[6], words[7]),
-        4 => contents_fields(words[4], words[5]),
-        5 => GivenFields::Good(Fields::Raw),
+    match words[places::RECORD_KIND] {
+        places::KIND_TEXT => text_fields(words[places::TEXT_ENCODING]),
+        places::KIND_POPULARIMETER => popularimeter_fields(
+            words[places::POPULARIMETER_RATING],
+            words[places::POPULARIMETER_COUNTER],
+        ),
+        places::KIND_TABLE => table_fields(
+            words[places::TABLE_FRAMES],
+            words[places::TABLE_BYTES],
+            words[places::TABLE_MILLIS],
+            words[places::TABLE_BITS_FOR_BYTES],
+            words[places::TABLE_BITS_FOR_MILLIS],
+        ),
+        places::KIND_CHAPTER => chapter_fields(
+            words[places::CHAPTER_START_TIME],
+            words[places::CHAPTER_END_TIME],
+            words[places::CHAPTER_START_OFFSET],
+            words[places::CHAPTER_END_OFFSET],
+        ),
+        places::KIND_CONTENTS => contents_fields(
+            words[places::CONTENTS_TOP_LEVEL],
+            words[places::CONTENTS_ORDERED],
+        ),
+        places::KIND_RAW => GivenFields::Good(Fields::Raw),
         _ => GivenFields::Bad,
     }
 }
@@ -267,9 +285,9 @@ pub(crate) fn load_heading(words: &[u64]) -> GivenHeading
     requires { ⌜ 19 ≤ length (now words) ⌝ }
     ensures { λ r. ⌜ r ≡ headingOf (now (words .entry)) ⌝ }
 {
-    let id = words[1];
-    let short = words[2];
-    let compressed = words[3];
+    let id = words[places::RECORD_ID];
+    let short = words[places::RECORD_SHORT];
+    let compressed = words[places::RECORD_COMPRESSED];
     if id >= LIMIT_32 {
         return GivenHeading::Bad;
     }

@@ -1,6 +1,11 @@
 // Headers, readers and writers, loaded from words and stored there. What each word means stands in specs/Words.antt.
-use format::Mode;
-use format::Version;
+use crate::places;
+use format::numbered::is_mode;
+use format::numbered::is_version;
+use format::numbered::mode_number;
+use format::numbered::mode_of;
+use format::numbered::version_number;
+use format::numbered::version_of;
 use reader::Header;
 use reader::Reader;
 use reader::Stop;
@@ -9,8 +14,6 @@ ghost use mathlib.Core.Path.{_≡_};
 ghost use mathlib.Core.Bool.{_&&_};
 ghost use Prim.Native.Nat.{_≤_};
 ghost use lib.ListN.{length};
-ghost use Rattle.format.specs.Header.{versionOf};
-ghost use Rattle.format.specs.Numbered.{isVersion, modeNumber, modeOf, versionNumber};
 ghost use Rattle.writer.specs.Writer.{isKnown};
 ghost use Rattle.capi.specs.Words.{flag as flagOf, isFlag, stopNumber, failure, stopOf, isStop, headerWords, isReader, readerWords, readerOf, writerWords, writerOf};
 
@@ -35,35 +38,6 @@ pub(crate) fn flag(on: bool) -> u64
     if on { 1 } else { 0 }
 }
 
-// The number of an edition.
-pub(crate) fn version_number(version: Version) -> u64
-    ensures { λ r. ⌜ r ≡ versionNumber version ⌝ }
-{
-    match version {
-        Version::Id3v22 => 2,
-        Version::Id3v23 => 3,
-        Version::Id3v24 => 4,
-    }
-}
-
-// The edition that a known number says.
-fn version_of(n: u64) -> Version
-    ensures { λ r. ⌜ r ≡ versionOf n ⌝ }
-{
-    match n {
-        2 => Version::Id3v22,
-        3 => Version::Id3v23,
-        _ => Version::Id3v24,
-    }
-}
-
-// Whether a number says an edition.
-fn is_version(n: u64) -> bool
-    ensures { λ r. ⌜ r ≡ isVersion n ⌝ }
-{
-    if 2 <= n { n <= 4 } else { false }
-}
-
 // ---- headers
 
 // Puts a header into words.
@@ -72,10 +46,10 @@ pub(crate) fn store_header(words: &mut [u64], h: Header)
     ensures { λ _. ⌜ now (words .exit) ≡ headerWords h (now (words .entry)) ⌝ }
 {
     let version = h.version;
-    words[0] = version_number(version);
-    words[1] = h.flags as u64;
-    words[2] = h.size as u64;
-    words[3] = h.ext as u64;
+    words[places::HEADER_VERSION] = version_number(version) as u64;
+    words[places::HEADER_FLAGS] = h.flags as u64;
+    words[places::HEADER_SIZE] = h.size as u64;
+    words[places::HEADER_EXT] = h.ext as u64;
 }
 
 // ---- readers
@@ -85,9 +59,9 @@ fn stop_number(stop: Stop) -> u64
     ensures { λ r. ⌜ r ≡ stopNumber stop ⌝ }
 {
     match stop {
-        Stop::Running => 0,
-        Stop::Ended => 1,
-        Stop::Failed(_) => 2,
+        Stop::Running => places::STOP_RUNNING,
+        Stop::Ended => places::STOP_ENDED,
+        Stop::Failed(_) => places::STOP_REFUSED,
     }
 }
 
@@ -106,10 +80,10 @@ fn failure_number(stop: Stop) -> u64
 fn is_stop(stop: u64, number: u64) -> bool
     ensures { λ r. ⌜ r ≡ isStop stop number ⌝ }
 {
-    if stop == 2 {
-        if 1 <= number { number <= 255 } else { false }
+    if stop == places::STOP_REFUSED {
+        (1 <= number) & (number <= 255)
     } else {
-        if stop <= 1 { number == 0 } else { false }
+        (stop <= places::STOP_ENDED) & (number == 0)
     }
 }
 
@@ -119,8 +93,8 @@ fn stop_of(stop: u64, number: u64) -> Stop
     ensures { λ r. ⌜ r ≡ stopOf stop number ⌝ }
 {
     match stop {
-        0 => Stop::Running,
-        1 => Stop::Ended,
+        places::STOP_RUNNING => Stop::Running,
+        places::STOP_ENDED => Stop::Ended,
         _ => Stop::Failed(number as u8),
     }
 }
@@ -129,13 +103,7 @@ fn stop_of(stop: u64, number: u64) -> Stop
 pub(crate) fn is_reader(version: u64, in_work: u64, stop: u64, number: u64) -> bool
     ensures { λ r. ⌜ r ≡ isReader version «in_work» stop number ⌝ }
 {
-    if !is_version(version) {
-        return false;
-    }
-    if in_work > 1 {
-        return false;
-    }
-    is_stop(stop, number)
+    is_version(version) & ((in_work <= 1) & is_stop(stop, number))
 }
 
 // The reader that words say.
@@ -143,16 +111,21 @@ pub(crate) fn load_reader(words: &[u64]) -> GivenReader
     requires { ⌜ 7 ≤ length (now words) ⌝ }
     ensures { λ r. ⌜ r ≡ readerOf (now (words .entry)) ⌝ }
 {
-    if !is_reader(words[0], words[1], words[5], words[6]) {
+    if !is_reader(
+        words[places::READER_VERSION],
+        words[places::READER_IN_WORK],
+        words[places::READER_STOP],
+        words[places::READER_NUMBER],
+    ) {
         return GivenReader::Bad;
     }
     GivenReader::Good(Reader {
-        version: version_of(words[0]),
-        in_work: words[1] == 1,
-        begin: words[2] as usize,
-        at: words[3] as usize,
-        end: words[4] as usize,
-        stop: stop_of(words[5], words[6]),
+        version: version_of(words[places::READER_VERSION]),
+        in_work: words[places::READER_IN_WORK] == 1,
+        begin: words[places::READER_BEGIN] as usize,
+        at: words[places::READER_AT] as usize,
+        end: words[places::READER_END] as usize,
+        stop: stop_of(words[places::READER_STOP], words[places::READER_NUMBER]),
     })
 }
 
@@ -163,50 +136,22 @@ pub(crate) fn store_reader(words: &mut [u64], r: Reader)
 {
     let version = r.version;
     let stop = r.stop;
-    words[0] = version_number(version);
-    words[1] = flag(r.in_work);
-    words[2] = r.begin as u64;
-    words[3] = r.at as u64;
-    words[4] = r.end as u64;
-    words[5] = stop_number(stop);
-    words[6] = failure_number(stop);
+    words[places::READER_VERSION] = version_number(version) as u64;
+    words[places::READER_IN_WORK] = flag(r.in_work);
+    words[places::READER_BEGIN] = r.begin as u64;
+    words[places::READER_AT] = r.at as u64;
+    words[places::READER_END] = r.end as u64;
+    words[places::READER_STOP] = stop_number(stop);
+    words[places::READER_NUMBER] = failure_number(stop);
 }
 
 // ---- writers
-
-// The number of a mode.
-fn mode_number(mode: Mode) -> u64
-    ensures { λ r. ⌜ r ≡ modeNumber mode ⌝ }
-{
-    match mode {
-        Mode::Off => 0,
-        Mode::Crate => 1,
-        Mode::Standard => 2,
-    }
-}
-
-// The mode that a known number says.
-fn mode_of(n: u64) -> Mode
-    ensures { λ r. ⌜ r ≡ modeOf n ⌝ }
-{
-    match n {
-        0 => Mode::Off,
-        1 => Mode::Crate,
-        _ => Mode::Standard,
-    }
-}
 
 // Whether the words before the last are those of a writer.
 fn is_writer(version: u64, mode: u64, altered: u64) -> bool
     ensures { λ r. ⌜ r ≡ (isKnown version mode && isFlag altered) ⌝ }
 {
-    if !is_version(version) {
-        return false;
-    }
-    if mode > 2 {
-        return false;
-    }
-    altered <= 1
+    (is_version(version) & is_mode(mode)) & (altered <= 1)
 }
 
 // The writer that words say.
@@ -214,14 +159,18 @@ pub(crate) fn load_writer(words: &[u64]) -> GivenWriter
     requires { ⌜ 4 ≤ length (now words) ⌝ }
     ensures { λ r. ⌜ r ≡ writerOf (now (words .entry)) ⌝ }
 {
-    if !is_writer(words[0], words[1], words[2]) {
+    if !is_writer(
+        words[places::WRITER_VERSION],
+        words[places::WRITER_MODE],
+        words[places::WRITER_ALTERED],
+    ) {
         return GivenWriter::Bad;
     }
     GivenWriter::Good(Writer {
-        version: version_of(words[0]),
-        mode: mode_of(words[1]),
-        altered: words[2] == 1,
-        used: words[3] as usize,
+        version: version_of(words[places::WRITER_VERSION]),
+        mode: mode_of(words[places::WRITER_MODE]),
+        altered: words[places::WRITER_ALTERED] == 1,
+        used: words[places::WRITER_USED] as usize,
     })
 }
 
@@ -232,8 +181,8 @@ pub(crate) fn store_writer(words: &mut [u64], w: Writer)
 {
     let version = w.version;
     let mode = w.mode;
-    words[0] = version_number(version);
-    words[1] = mode_number(mode);
-    words[2] = flag(w.altered);
-    words[3] = w.used as u64;
+    words[places::WRITER_VERSION] = version_number(version) as u64;
+    words[places::WRITER_MODE] = mode_number(mode) as u64;
+    words[places::WRITER_ALTERED] = flag(w.altered);
+    words[places::WRITER_USED] = w.used as u64;
 }

@@ -86,10 +86,10 @@ module _ (n₀ : ℕ) (v : Version) (w : Bool) (begin end : ℕ) (tag : List ℕ
     abbrev s : List ℕ
     s = slice at end (source w tag work)
 
-    by : (x : Head) → headOf v 1 s ≡ x → Few (4 * n₀) (readFrom (suc n) tag (reader v w begin at end) work)
-    by Head.Nothing e = subst (Few (4 * n₀)) (sym (end-read v n begin at end tag work w e)) tt
-    by (Head.Refused k) e = subst (Few (4 * n₀)) (sym (refused-read v n begin at end tag work w e)) tt
-    by (Head.Found id c f h start len) e =
+    few-on-head : (x : Head) → headOf v 1 s ≡ x → Few (4 * n₀) (readFrom (suc n) tag (reader v w begin at end) work)
+    few-on-head Head.Nothing e = subst (Few (4 * n₀)) (sym (end-read v n begin at end tag work w e)) tt
+    few-on-head (Head.Refused k) e = subst (Few (4 * n₀)) (sym (refused-read v n begin at end tag work w e)) tt
+    few-on-head (Head.Found id c f h start len) e =
         let stored = take len (drop start s) in
         let room = roomOf w work in
         let kind = shownKind v id c in
@@ -110,7 +110,7 @@ module _ (n₀ : ℕ) (v : Version) (w : Bool) (begin end : ℕ) (tag : List ℕ
   all-few : (n : ℕ) → From n
   unfolding readFrom
   all-few zero at work h = tt
-  all-few (suc n) at work h = by n (all-few n) at work h (headOf v 1 (slice at end (source w tag work))) refl
+  all-few (suc n) at work h = few-on-head n (all-few n) at work h (headOf v 1 (slice at end (source w tag work))) refl
 
 -- ---- a tag
 

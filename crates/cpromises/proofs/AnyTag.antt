@@ -192,10 +192,10 @@ module _ (m : ℕ) (v : Version) (w : Bool) (begin end : ℕ) (tag : List ℕ) w
     abbrev s : List ℕ
     s = slice at end (source w tag work)
 
-    by : (x : Head) → headOf v 1 s ≡ x → Shown m (readFrom (suc n) tag (reader v w begin at end) work)
-    by Head.Nothing e = subst (Shown m) (sym (end-read v n begin at end tag work w e)) (λ a. nothing)
-    by (Head.Refused k) e = subst (Shown m) (sym (refused-read v n begin at end tag work w e)) (λ a. nothing)
-    by (Head.Found id c f short start len) e =
+    shown-on-head : (x : Head) → headOf v 1 s ≡ x → Shown m (readFrom (suc n) tag (reader v w begin at end) work)
+    shown-on-head Head.Nothing e = subst (Shown m) (sym (end-read v n begin at end tag work w e)) (λ a. nothing)
+    shown-on-head (Head.Refused k) e = subst (Shown m) (sym (refused-read v n begin at end tag work w e)) (λ a. nothing)
+    shown-on-head (Head.Found id c f short start len) e =
         let stored = take len (drop start s) in
         let room = roomOf w work in
         let kind = shownKind v id c in
@@ -219,7 +219,7 @@ module _ (m : ℕ) (v : Version) (w : Bool) (begin end : ℕ) (tag : List ℕ) w
   all-shown : (n : ℕ) → From n
   unfolding readFrom
   all-shown zero at work b = λ a. nothing
-  all-shown (suc n) at work b = by n (all-shown n) at work b (headOf v 1 (slice at end (source w tag work))) refl
+  all-shown (suc n) at work b = shown-on-head n (all-shown n) at work b (headOf v 1 (slice at end (source w tag work))) refl
 
 -- ---- a tag
 
@@ -239,18 +239,18 @@ module _ (m : ℕ) (tag work : List ℕ) (b : AllBytes tag) where
       (λ s. of-picked Opens (ltb (length work) (length u)) (λ l a. nothing) (λ l. all-shown m v true 0 (length u) tag (length tag) 0 (putFront u work) whole))
       (λ s. all-shown m v false (regionStart tag) (regionEnd tag) tag (length tag) (regionStart tag) work region))
 
-  -- All that is read is shown by the words.
+  -- All that is read is shown shown-on-head the words.
   tag-shown : AtMost m (readAll tag work .0) → AllShow m (readAll tag work .0)
   unfolding readFor
   tag-shown = opens
 
 pub sv-reads-any : SvReads
 sv-reads-any tag work reader words numbers count b lent =
-    sv-reads tag work reader words numbers count (lent .seven) (lent .nineteen) (lent .one) refl (tag-shown (length numbers) tag work b (lent .few))
+    sv-reads tag work reader words numbers count (lent .reader-words) (lent .record-words) (lent .count-words) refl (tag-shown (length numbers) tag work b (lent .deviations-fit))
 
 pub sv-any-followed : SvAnyFollowed
 sv-any-followed tag more work reader words numbers count b there lent =
     let e = followed tag more work there in
-    let shown = tag-shown (length numbers) tag work (bytes-front tag more b) (lent .few) in
-    sv-reads (tag ++ more) work reader words numbers count (lent .seven) (lent .nineteen) (lent .one) e shown
-    ∙ sym (sv-reads tag work reader words numbers count (lent .seven) (lent .nineteen) (lent .one) refl shown)
+    let shown = tag-shown (length numbers) tag work (bytes-front tag more b) (lent .deviations-fit) in
+    sv-reads (tag ++ more) work reader words numbers count (lent .reader-words) (lent .record-words) (lent .count-words) e shown
+    ∙ sym (sv-reads tag work reader words numbers count (lent .reader-words) (lent .record-words) (lent .count-words) refl shown)

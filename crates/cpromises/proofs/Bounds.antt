@@ -26,17 +26,17 @@ use Rattle.cpromises.specs.Bounds.{SvFewFrames, SvFinishes}
 
 -- what n steps found in so many bytes, some of them spare
 record Bounded (n spare : ℕ) (o : SvReading) (bytes : ℕ) : Type 0 where
-  few : 6 * length (o .0) ≤ bytes
-  long : o .1 ≡ 0 → 6 * n + spare ≤ bytes
+  frames-bound : 6 * length (o .0) ≤ bytes
+  steps-bound : o .1 ≡ 0 → 6 * n + spare ≤ bytes
 
 -- a call that answers a number other than 0
 stops-bounded : (n spare bytes k : ℕ) → Bounded n spare ([], suc k) bytes
-stops-bounded n spare bytes k = record { few = omega arith; long = λ z. absurd (omega arith) }
+stops-bounded n spare bytes k = record { frames-bound = omega arith; steps-bound = λ z. absurd (omega arith) }
 
 -- the words are a record, and what follows it; or they are none, or its references are refused
 shown-bounded : (n bytes fewer k : ℕ) (l : List Rec) (o : SvReading) → fewer + 6 ≤ bytes → Bounded n 0 o fewer → Bounded (suc n) 0 (andShown k l o) bytes
 shown-bounded n bytes fewer zero [] o h b = stops-bounded (suc n) 0 bytes 20
-shown-bounded n bytes fewer zero (r ∷ l) o h b = record { few = omega (arith, b .few); long = λ z. omega (arith, b .long z) }
+shown-bounded n bytes fewer zero (r ∷ l) o h b = record { frames-bound = omega (arith, b .frames-bound); steps-bound = λ z. omega (arith, b .steps-bound z) }
 shown-bounded n bytes fewer (suc k) l o h b = stops-bounded (suc n) 0 bytes k
 
 module _ (tag : List ℕ) where
@@ -83,7 +83,7 @@ module _ (tag : List ℕ) where
 
   from-bounded : (n : ℕ) → Bounds n
   unfolding svReadFrom
-  from-bounded zero r work reader words numbers count f = record { few = omega arith; long = λ e. omega arith }
+  from-bounded zero r work reader words numbers count f = record { frames-bound = omega arith; steps-bound = λ e. omega arith }
   from-bounded (suc n) r work reader words numbers count f =
       any-bounded n (from-bounded n) r work reader words numbers count f (short 7 reader || short 19 words) refl
 
@@ -103,7 +103,7 @@ module _ (n : ℕ) (tag work reader words numbers count : List ℕ) where
         let g : readerOf (readerWords r reader) ≡ GivenReader.Good r = sym (ap (λ (o : Left2). readerOf (o .2)) t) ∙ open-next tag work reader h e in
         let b = from-bounded tag n r after (readerWords r reader) words numbers count g in
         let w = open-within tag work r (ap (λ (o : Opened × List ℕ). o .0) e) in
-        subst Opens (sym t) (record { few = omega (arith, b .few, w); long = λ z. omega (arith, b .long z, w) })
+        subst Opens (sym t) (record { frames-bound = omega (arith, b .frames-bound, w); steps-bound = λ z. omega (arith, b .steps-bound z, w) })
     open-bounded (Opened.Refused zero) e p = absurd (omega (arith, p .0))
     open-bounded (Opened.Refused (suc k)) e p =
         subst Opens (sym (open-then tag work reader {o = Opened.Refused (suc k)} {left = after} h (sym e) refl)) (stops-bounded n 10 (length tag) k)
@@ -119,9 +119,9 @@ module _ (n : ℕ) (tag work reader words numbers count : List ℕ) where
 pub sv-few-frames : SvFewFrames
 sv-few-frames n tag work reader words numbers count =
     let b = all-bounded n tag work reader words numbers count in
-    omega (arith, b .few)
+    omega (arith, b .frames-bound)
 
 pub sv-finishes : SvFinishes
 sv-finishes tag work reader words numbers count e =
     let b = all-bounded (length tag) tag work reader words numbers count in
-    omega (arith, b .long e)
+    omega (arith, b .steps-bound e)

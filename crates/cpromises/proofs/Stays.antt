@@ -71,10 +71,10 @@ module _ (tag work reader words tag′ work′ words′ : List ℕ) (k : ℕ) (h
         (λ z. step-then tag′ work′ (readerWords r′ reader) words′ (enough-for (readerWords r′ reader) long) {s = Step.Refused j r′} {left = work′} g (sym (refused-again r r′ tag work tag′ work′ j s)) refl
         ∙ rw (words-again r′ reader h, z))
 
-  by : (g : GivenReader) → readerOf reader ≡ g → Again (svStep tag work reader words)
-  by GivenReader.Bad f =
+  again-on-given : (g : GivenReader) → readerOf reader ≡ g → Again (svStep tag work reader words)
+  again-on-given GivenReader.Bad f =
       subst Again (sym (step-bad tag work reader words enough f)) (λ z. step-bad tag′ work′ reader words′ (enough-for reader h) f ∙ rw z)
-  by (GivenReader.Good r) f = again r f (stepOf r tag work .0) refl
+  again-on-given (GivenReader.Good r) f = again r f (stepOf r tag work .0) refl
 
 pub sv-stays : SvStays
-sv-stays tag work reader words tag′ work′ words′ k h h19 h19′ = by tag work reader words tag′ work′ words′ k h h19 h19′ (readerOf reader) refl
+sv-stays tag work reader words tag′ work′ words′ k h h19 h19′ = again-on-given tag work reader words tag′ work′ words′ k h h19 h19′ (readerOf reader) refl

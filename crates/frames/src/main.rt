@@ -4,6 +4,8 @@ mod print;
 
 use format::Shown;
 use format::Version;
+use format::numbered::version_of;
+use format::small::wide64;
 use prints::decimal;
 use prints::input::next_bytes;
 use prints::input::next_u8;
@@ -22,19 +24,10 @@ struct Case {
     len: u32,
 }
 
-// The edition that a byte says.
-fn version(edition: u8) -> Version {
-    match edition {
-        2 => Version::Id3v22,
-        3 => Version::Id3v23,
-        _ => Version::Id3v24,
-    }
-}
-
 // A case whose edition was read.
 fn next_case(edition: &[u8; 1]) -> Case {
     Case {
-        version: version(edition[0]),
+        version: version_of(wide64(edition[0])),
         in_work: next_u8() != 0,
         room: next_u32(),
         begin: next_u32(),

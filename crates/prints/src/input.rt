@@ -1,15 +1,10 @@
 // Reading test data from standard input, numbers with the highest byte first. What is missing at the end counts as 0.
-use crate::four;
+use loads::read32;
 ghost use Rattle.io.specs.Counts.{Counts};
 
 // A byte.
 fn of_one(b: &[u8; 1]) -> u8 {
     b[0]
-}
-
-// The number that four bytes say.
-fn of_four(b: &[u8; 4]) -> u32 {
-    four(b[0], b[1], b[2], b[3])
 }
 
 // The next byte.
@@ -23,7 +18,7 @@ pub fn next_u8() -> u8 {
 pub fn next_u32() -> u32 {
     let mut b = [0u8; 4];
     io::read_full(0, &mut b);
-    of_four(&b)
+    read32(&b, 0)
 }
 
 // The number in the next eight bytes.

@@ -4,20 +4,9 @@ use crate::room_for_text;
 use crate::show;
 use libc::STDIN_FILENO;
 use libc::STDOUT_FILENO;
-ghost use Prim.Native.Nat.{_≤_, _<_};
+use loads::read32;
+ghost use Prim.Native.Nat.{_≤_};
 ghost use lib.ListN.{length};
-
-// A byte as a wider number.
-fn wide(x: u8) -> usize
-    ensures { λ r. ⌜ r < 256 ⌝ }
-{
-    x as usize
-}
-
-// The number that four bytes make.
-fn number_of(a: u8, b: u8, c: u8, d: u8) -> usize {
-    ((wide(a) * 256 + wide(b)) * 256 + wide(c)) * 256 + wide(d)
-}
 
 // Reads a tag of `len` bytes; answers whether it was all there.
 fn read_tag(area: &mut [u8], len: usize) -> bool
@@ -46,8 +35,8 @@ fn show_case(area: &mut [u8], work: &mut [u8], text: &mut [u8], number: u64) -> 
     if io::read_full(STDIN_FILENO, &mut head) < 8 {
         return false;
     }
-    let room = number_of(head[0], head[1], head[2], head[3]);
-    let len = number_of(head[4], head[5], head[6], head[7]);
+    let room = read32(&head, 0) as usize;
+    let len = read32(&head, 4) as usize;
     if work.len() < room {
         return false;
     }

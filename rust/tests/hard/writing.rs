@@ -8,9 +8,14 @@ use streamvault::sys::*;
 
 impl Buffers {
     pub fn begin(&mut self, numbers: &mut Numbers) {
-        let given = [word(numbers), word(numbers) % 5, word(numbers) % 4];
+        let plain = numbers.once_in(3);
+        let given = if plain { [word(numbers), 0, 0] } else { [word(numbers), word(numbers) % 5, word(numbers) % 4] };
         self.state.put(some_words(numbers, SV_WRITER_WORDS), numbers.once_in(2));
-        let answer = calls::begin(given[0], given[1], given[2], self.state.lent());
+        let answer = if plain {
+            calls::begin_plain(given[0], self.state.lent())
+        } else {
+            calls::begin(given[0], given[1], given[2], self.state.lent())
+        };
         self.meet("begin", BEGINS, answer);
         let mut want = self.state.was().to_vec();
         if want.len() < SV_WRITER_WORDS {

@@ -6,23 +6,18 @@ use borrow.Author.Needs.{needs}
 use Rattle.capi.proofs.references.Statement.{statement}
 use Rattle.capi.proofs.references.Tie as tie
 
-enum-known-fields : tie.Need-enum-known-fields
-enum-known-fields c = search needs
-
-unpack-requires : tie.Need-unpack-requires
-unpack-requires c κs = search needs
-
-same-length : tie.Need-same-length
-same-length c = search needs
-
 returns : tie.Need-returns
 returns c =
-    let a = c .before .before .before .before .before .before .before .before .before .args in
-    rw (c .before .before .before .before .before .fields .given .1, ← take-length (a .rest .now)) (c .before .before .unpack .ensures)
+    let at-unpacked = c .before .before in
+    let at-table = at-unpacked .before .before .before in
+    let at-start = at-table .before .before .before .before in
+    rw (at-table .fields .given .1, ← take-length (at-start .args .rest .now)) (at-unpacked .unpack .ensures)
 
 returns-2 : tie.Need-returns-2
-returns-2 c = let a = c .before .before .before .args in sym (no-references (a .fields) (a .rest .now) (a .out .now) (c .match .keys2))
+returns-2 c =
+    let at-start = c .before .before .before in
+    let a = at-start .args in sym (no-references (a .fields) (a .rest .now) (a .out .now) (c .match .keys2))
 
 pub references-spec : {M : Type 1} → statement M
 references-spec =
-    tie.close (tie.spec enum-known-fields unpack-requires same-length returns returns-2)
+    tie.close (tie.spec (λ c. search needs) (λ c κs. search needs) (λ c. search needs) returns returns-2)

@@ -1,8 +1,7 @@
 -- `capi::sv_add` meets its contract. Assumes nothing.
 use mathlib.Core.Path.{_≡_, sym, _∙_}
-use Prim.Native.Nat.{ℕ, _≤_}
+use Prim.Native.Nat.{_≤_}
 use native.Mathlib.Omega.{arith}
-use mathlib.Core.List.{List}
 use lib.ListN.{length, length-set}
 use lib.Seq.{set-set}
 use Rattle.capi.proofs.Left.{enough3, add-short, add-bad, add-none, add-then}
@@ -14,52 +13,35 @@ use Rattle.capi.proofs.sv_add.Tie as tie
 
 -- ---- the words are enough
 
-abbrev words : tie.Else1 → List ℕ
-words c = c .before .before .before .before .before .before .before .before .before .args .«record» .now
+abbrev given : tie.Else1 → tie.Start
+given t = let known = t .before .before .before .before in let all-known = known .before .before in all-known .before .before .before
 
-abbrev name : tie.Else1 → List ℕ
-name c = c .before .before .before .before .before .before .before .before .before .args .name .now
-
-abbrev names : tie.Else1 → List ℕ
-names c = c .before .before .before .before .before .before .before .before .before .args .names .now
-
-abbrev rest : tie.Else1 → List ℕ
-rest c = c .before .before .before .before .before .before .before .before .before .args .rest .now
-
-abbrev deviations : tie.Else1 → List ℕ
-deviations c = c .before .before .before .before .before .before .before .before .before .args .deviations .now
-
-abbrev buffer : tie.Else1 → List ℕ
-buffer c = c .before .before .before .before .before .before .before .before .before .args .buffer .now
-
-abbrev writer : tie.Else1 → List ℕ
-writer c = c .before .before .before .before .before .before .before .before .before .args .writer .now
-
-abbrev count : tie.Else1 → List ℕ
-count c = c .before .before .before .before .before .before .before .before .before .args .count .now
-
-room : (t : tie.Else1) → (19 ≤ length (words t)) × ((4 ≤ length (writer t)) × (1 ≤ length (count t)))
-room t = enough3 19 4 1 (words t) (writer t) (count t) (t .if1 .left)
+room : (t : tie.Else1) → let a = given t .args in (19 ≤ length (a .«record» .now)) × ((4 ≤ length (a .writer .now)) × (1 ≤ length (a .count .now)))
+room t = let a = given t .args in enough3 19 4 1 (a .«record» .now) (a .writer .now) (a .count .now) (t .if1 .left)
 
 -- ---- the writer has answered, and its answer picks the case
 
-abbrev tested : tie.After-slice-known4 → tie.Else1
-tested c = c .before .before .before .before .before .before .before .before .before .before .before .before .before
+abbrev at-heading : tie.After-slice-known4 → tie.After-load-heading
+at-heading c = let at-good = c .before .before .before .before in at-good .before .before .before
 
-went : (c : tie.After-slice-known4) {r : Added} → c .before .before .add .result ≡ r
-    → let t = tested c in svAdd (words t) (name t) (names t) (rest t) (deviations t) (buffer t) (writer t) (count t) ≡ afterAdd (r, c .before .before .add .last .1 .0) (writer t) (count t)
-went c h =
-    let t = tested c in
-    let w = sym (c .before .before .before .before .before .before .before .before .before .before .before .load-writer .ensures) ∙ c .before .before .before .before .before .before .before .before .before .state .given .1 in
-    let g = sym (c .before .before .before .before .before .before .before .load-heading .ensures) ∙ c .before .before .before .before .before .given .given .1 in
-    add-then (words t) (name t) (names t) (rest t) (deviations t) (buffer t) (writer t) (count t) (t .if1 .left) w g (c .before .before .add .ensures .0) h
+abbrev at-writer : tie.After-slice-known4 → tie.After-load-writer
+at-writer c = at-heading c .before .before .before .before
+
+abbrev at-words : tie.After-slice-known4 → tie.Else1
+at-words c = at-writer c .before .before
+
+answer-picks : (c : tie.After-slice-known4) {r : Added} → c .before .before .add .result ≡ r
+    → let a = given (at-words c) .args in svAdd (a .«record» .now) (a .name .now) (a .names .now) (a .rest .now) (a .deviations .now) (a .buffer .now) (a .writer .now) (a .count .now) ≡ afterAdd (r, c .before .before .add .last .1 .0) (a .writer .now) (a .count .now)
+answer-picks c h =
+    let at-add = c .before .before in
+    let w = sym (at-writer c .load-writer .ensures) ∙ at-heading c .before .before .state .given .1 in
+    let g = sym (at-heading c .load-heading .ensures) ∙ at-add .before .before .before .given .given .1 in
+    add-then _ _ _ _ _ _ _ _ (at-words c .if1 .left) w g (at-add .add .ensures .0) h
 
 -- ---- the needs
 
 returns : tie.Need-returns
-returns c =
-    let a = c .before .before .before .before .before .before .before .before .before .args in
-    sym (add-short (a .«record» .now) (a .name .now) (a .names .now) (a .rest .now) (a .deviations .now) (a .buffer .now) (a .writer .now) (a .count .now) (c .if1 .taken))
+returns c = sym (add-short _ _ _ _ _ _ _ _ (c .if1 .taken))
 
 slice-write-count : tie.Need-slice-write-count
 slice-write-count c = room c .1 .1
@@ -67,86 +49,39 @@ slice-write-count c = room c .1 .1
 load-writer-requires : tie.Need-load-writer-requires
 load-writer-requires c κs = room (c .before) .1 .0
 
-enum-known-state : tie.Need-enum-known-state
-enum-known-state c = search needs
-
-enum-told : tie.Need-enum-told
-enum-told c = search needs
-
-same-length : tie.Need-same-length
-same-length c = search needs
-
-same-length-2 : tie.Need-same-length-2
-same-length-2 c = search needs
-
 returns-2 : tie.Need-returns-2
 returns-2 c =
-    let t = c .before .before .before .before in
-    sym (add-bad (words t) (name t) (names t) (rest t) (deviations t) (buffer t) (writer t) (count t) (t .if1 .left) (sym (c .before .before .load-writer .ensures) ∙ c .enum-told .given .1))
+    let at-load = c .before .before in
+    sym (add-bad _ _ _ _ _ _ _ _ (at-load .before .before .if1 .left) (sym (at-load .load-writer .ensures) ∙ c .enum-told .given .1))
 
 load-heading-requires : tie.Need-load-heading-requires
-load-heading-requires c κs = room (c .before .before .before .before .before) .0
-
-enum-known-given : tie.Need-enum-known-given
-enum-known-given c = search needs
-
-enum-told-2 : tie.Need-enum-told-2
-enum-told-2 c = search needs
-
-same-length-3 : tie.Need-same-length-3
-same-length-3 c = search needs
-
-same-length-4 : tie.Need-same-length-4
-same-length-4 c = search needs
+load-heading-requires c κs = let at-load = c .before .before .before in room (at-load .before .before) .0
 
 returns-3 : tie.Need-returns-3
 returns-3 c =
-    let t = c .before .before .before .before .before .before .before .before in
-    sym (add-none (words t) (name t) (names t) (rest t) (deviations t) (buffer t) (writer t) (count t) (t .if1 .left) (sym (c .before .before .before .before .before .before .load-writer .ensures) ∙ c .before .before .before .before .state .given .1) (sym (c .before .before .load-heading .ensures) ∙ c .enum-told2 .given .1))
-
-add-requires : tie.Need-add-requires
-add-requires c κs = search needs
-
-enum-known-added : tie.Need-enum-known-added
-enum-known-added c = search needs
+    let at-state = c .before .before .before .before in
+    let at-load = at-state .before .before in
+    sym (add-none _ _ _ _ _ _ _ _ (at-load .before .before .if1 .left) (sym (at-load .load-writer .ensures) ∙ at-state .state .given .1) (sym (c .before .before .load-heading .ensures) ∙ c .enum-told2 .given .1))
 
 store-writer-requires : tie.Need-store-writer-requires
-store-writer-requires c κs = room (tested (c .before .before .before .before)) .1 .0
+store-writer-requires c κs = let at-answer = c .before .before .before .before in room (at-words at-answer) .1 .0
 
 slice-write-count-2 : tie.Need-slice-write-count-2
-slice-write-count-2 c = let h = room (tested (c .before .before .before .before .before .before .before)) .1 .1 in simp length-set (omega arith)
-
-enum-known-added-2 : tie.Need-enum-known-added-2
-enum-known-added-2 c = search needs
-
-cast-result : tie.Need-cast-result
-cast-result c = search needs
-
-same-length-5 : tie.Need-same-length-5
-same-length-5 c = search needs
-
-same-length-6 : tie.Need-same-length-6
-same-length-6 c = search needs
-
-same-length-7 : tie.Need-same-length-7
-same-length-7 c = search needs
+slice-write-count-2 c =
+    let at-stored = c .before .before .before in
+    let at-answer = at-stored .before .before .before .before in
+    let h = room (at-words at-answer) .1 .1 in
+    simp length-set (omega arith)
 
 returns-4 : tie.Need-returns-4
 returns-4 c =
-    let e = went (c .before .before .before .before .before .before .before) (c .before .before .before .before .before .added .given .1) in
-    rw set-set (cc (e, c .before .before .store-writer .ensures))
-
-same-length-8 : tie.Need-same-length-8
-same-length-8 c = search needs
-
-same-length-9 : tie.Need-same-length-9
-same-length-9 c = search needs
-
-same-length-10 : tie.Need-same-length-10
-same-length-10 c = search needs
+    let at-stored = c .before .before in
+    let at-accepted = at-stored .before .before .before in
+    let e = answer-picks (at-accepted .before .before) (at-accepted .added .given .1) in
+    rw set-set (cc (e, at-stored .store-writer .ensures))
 
 returns-5 : tie.Need-returns-5
-returns-5 c = sym (went (c .before .before .before) (c .before .added2 .given .1))
+returns-5 c = sym (answer-picks (c .before .before .before) (c .before .added2 .given .1))
 
 pub sv-add-spec : {M : Type 1} → statement M
 sv-add-spec =
@@ -155,28 +90,28 @@ sv-add-spec =
     returns
     slice-write-count
     load-writer-requires
-    enum-known-state
-    enum-told
-    same-length
-    same-length-2
+    (λ c. search needs)
+    (λ c. search needs)
+    (λ c. search needs)
+    (λ c. search needs)
     returns-2
     load-heading-requires
-    enum-known-given
-    enum-told-2
-    same-length-3
-    same-length-4
+    (λ c. search needs)
+    (λ c. search needs)
+    (λ c. search needs)
+    (λ c. search needs)
     returns-3
-    add-requires
-    enum-known-added
+    (λ c κs. search needs)
+    (λ c. search needs)
     store-writer-requires
     slice-write-count-2
-    enum-known-added-2
-    cast-result
-    same-length-5
-    same-length-6
-    same-length-7
+    (λ c. search needs)
+    (λ c. search needs)
+    (λ c. search needs)
+    (λ c. search needs)
+    (λ c. search needs)
     returns-4
-    same-length-8
-    same-length-9
-    same-length-10
+    (λ c. search needs)
+    (λ c. search needs)
+    (λ c. search needs)
     returns-5)

@@ -1,8 +1,7 @@
 -- `capi::sv_finish` meets its contract. Assumes nothing.
 use mathlib.Core.Path.{_≡_, sym, _∙_}
-use Prim.Native.Nat.{ℕ, _≤_}
+use Prim.Native.Nat.{_≤_}
 use native.Mathlib.Omega.{arith}
-use mathlib.Core.List.{List}
 use lib.ListN.{length, length-set}
 use lib.Seq.{set-set}
 use Rattle.capi.proofs.Left.{enough2, finish-short, finish-bad, finish-then}
@@ -14,41 +13,30 @@ use Rattle.capi.proofs.sv_finish.Tie as tie
 
 -- ---- the words are enough
 
-abbrev padding : tie.Else1 → ℕ
-padding c = c .before .before .before .before .before .args .padding
+abbrev given : tie.Else1 → tie.Start
+given t = let all-known = t .before .before .before in all-known .before .before
 
-abbrev buffer : tie.Else1 → List ℕ
-buffer c = c .before .before .before .before .before .args .buffer .now
-
-abbrev output : tie.Else1 → List ℕ
-output c = c .before .before .before .before .before .args .output .now
-
-abbrev writer : tie.Else1 → List ℕ
-writer c = c .before .before .before .before .before .args .writer .now
-
-abbrev count : tie.Else1 → List ℕ
-count c = c .before .before .before .before .before .args .count .now
-
-room : (t : tie.Else1) → (4 ≤ length (writer t)) × (1 ≤ length (count t))
-room t = enough2 4 1 (writer t) (count t) (t .if1 .left)
+room : (t : tie.Else1) → let a = given t .args in (4 ≤ length (a .writer .now)) × (1 ≤ length (a .count .now))
+room t = let a = given t .args in enough2 4 1 (a .writer .now) (a .count .now) (t .if1 .left)
 
 -- ---- the writer has answered, and its answer picks the case
 
-abbrev tested : tie.After-slice-known3 → tie.Else1
-tested c = c .before .before .before .before .before .before .before .before
+abbrev at-loaded : tie.After-slice-known3 → tie.After-load-writer
+at-loaded c = let at-good = c .before .before .before .before in at-good .before .before .before
 
-went : (c : tie.After-slice-known3) {r : Finished} → c .before .before .finish .result ≡ r
-    → let t = tested c in svFinish (padding t) (buffer t) (output t) (writer t) (count t) ≡ afterFinish (r, c .before .before .finish .last .1 .0) (count t)
-went c h =
-    let t = tested c in
-    finish-then (padding t) (buffer t) (output t) (writer t) (count t) (t .if1 .left) (sym (c .before .before .before .before .before .before .before .load-writer .ensures) ∙ c .before .before .before .before .before .state .given .1) (c .before .before .finish .ensures) h
+abbrev at-words : tie.After-slice-known3 → tie.Else1
+at-words c = at-loaded c .before
+
+answer-picks : (c : tie.After-slice-known3) {r : Finished} → c .before .before .finish .result ≡ r
+    → let a = given (at-words c) .args in svFinish (a .padding) (a .buffer .now) (a .output .now) (a .writer .now) (a .count .now) ≡ afterFinish (r, c .before .before .finish .last .1 .0) (a .count .now)
+answer-picks c h =
+    let at-finish = c .before .before in
+    finish-then _ _ _ _ _ (at-words c .if1 .left) (sym (at-loaded c .load-writer .ensures) ∙ at-finish .before .before .before .state .given .1) (at-finish .finish .ensures) h
 
 -- ---- the needs
 
 returns : tie.Need-returns
-returns c =
-    let a = c .before .before .before .before .before .args in
-    sym (finish-short (a .padding) (a .buffer .now) (a .output .now) (a .writer .now) (a .count .now) (c .if1 .taken))
+returns c = sym (finish-short _ _ _ _ _ (c .if1 .taken))
 
 slice-write-count : tie.Need-slice-write-count
 slice-write-count c = room c .1
@@ -56,52 +44,19 @@ slice-write-count c = room c .1
 load-writer-requires : tie.Need-load-writer-requires
 load-writer-requires c κs = room c .0
 
-enum-known-state : tie.Need-enum-known-state
-enum-known-state c = search needs
-
-enum-told : tie.Need-enum-told
-enum-told c = search needs
-
-same-length : tie.Need-same-length
-same-length c = search needs
-
 returns-2 : tie.Need-returns-2
 returns-2 c =
-    let t = c .before .before .before in
-    sym (finish-bad (padding t) (buffer t) (output t) (writer t) (count t) (t .if1 .left) (sym (c .before .before .load-writer .ensures) ∙ c .enum-told .given .1))
-
-finish-requires : tie.Need-finish-requires
-finish-requires c κs = search needs
-
-enum-known-finished : tie.Need-enum-known-finished
-enum-known-finished c = search needs
+    let at-load = c .before .before in
+    sym (finish-bad _ _ _ _ _ (at-load .before .if1 .left) (sym (at-load .load-writer .ensures) ∙ c .enum-told .given .1))
 
 slice-write-count-2 : tie.Need-slice-write-count-2
-slice-write-count-2 c = let h = room (tested (c .before .before .before)) .1 in simp length-set (omega arith)
-
-enum-known-finished-2 : tie.Need-enum-known-finished-2
-enum-known-finished-2 c = search needs
-
-cast-result : tie.Need-cast-result
-cast-result c = search needs
-
-same-length-2 : tie.Need-same-length-2
-same-length-2 c = search needs
-
-same-length-3 : tie.Need-same-length-3
-same-length-3 c = search needs
+slice-write-count-2 c = let h = room (at-words (c .before .before .before)) .1 in simp length-set (omega arith)
 
 returns-3 : tie.Need-returns-3
-returns-3 c = rw set-set (sym (went (c .before .before .before) (c .before .finished .given .1)))
-
-same-length-4 : tie.Need-same-length-4
-same-length-4 c = search needs
-
-same-length-5 : tie.Need-same-length-5
-same-length-5 c = search needs
+returns-3 c = rw set-set (sym (answer-picks (c .before .before .before) (c .before .finished .given .1)))
 
 returns-4 : tie.Need-returns-4
-returns-4 c = sym (went (c .before .before .before) (c .before .finished2 .given .1))
+returns-4 c = sym (answer-picks (c .before .before .before) (c .before .finished2 .given .1))
 
 pub sv-finish-spec : {M : Type 1} → statement M
 sv-finish-spec =
@@ -110,18 +65,18 @@ sv-finish-spec =
     returns
     slice-write-count
     load-writer-requires
-    enum-known-state
-    enum-told
-    same-length
+    (λ c. search needs)
+    (λ c. search needs)
+    (λ c. search needs)
     returns-2
-    finish-requires
-    enum-known-finished
+    (λ c κs. search needs)
+    (λ c. search needs)
     slice-write-count-2
-    enum-known-finished-2
-    cast-result
-    same-length-2
-    same-length-3
+    (λ c. search needs)
+    (λ c. search needs)
+    (λ c. search needs)
+    (λ c. search needs)
     returns-3
-    same-length-4
-    same-length-5
+    (λ c. search needs)
+    (λ c. search needs)
     returns-4)

@@ -1,8 +1,7 @@
 -- `capi::sv_meter_next` meets its contract. Assumes nothing.
 use mathlib.Core.Path.{sym, ap, _∙_}
-use Prim.Native.Nat.{ℕ, _≤_}
+use Prim.Native.Nat.{_≤_}
 use native.Mathlib.Omega.{arith}
-use mathlib.Core.List.{List}
 use lib.ListN.{length}
 use borrow.Author.Tests.{not-true, not-false}
 use Rattle.reader.specs.declared.Stop.{Stop}
@@ -17,90 +16,70 @@ use borrow.Author.Needs.{needs}
 use Rattle.capi.proofs.sv_meter_next.Statement.{statement}
 use Rattle.capi.proofs.sv_meter_next.Tie as tie
 
--- ---- the words are enough
+-- ---- the words are enough, and say a meter that runs
 
-abbrev tag : tie.Else1 → List ℕ
-tag c = c .before .before .before .before .before .args .tag .now
+abbrev given : tie.Else1 → tie.Start
+given t = let all-known = t .before .before .before in all-known .before .before
 
-abbrev work : tie.Else1 → List ℕ
-work c = c .before .before .before .before .before .args .work .now
+room : (t : tie.Else1) → let a = given t .args in (11 ≤ length (a .meter .now)) × (6 ≤ length (a .metered .now))
+room t = let a = given t .args in enough2 11 6 (a .meter .now) (a .metered .now) (t .if1 .left)
 
-abbrev meter : tie.Else1 → List ℕ
-meter c = c .before .before .before .before .before .args .meter .now
+abbrev at-runs : tie.After-version-in → tie.Else2
+at-runs c = c .before .before
 
-abbrev metered : tie.Else1 → List ℕ
-metered c = c .before .before .before .before .before .args .metered .now
-
-room : (t : tie.Else1) → (11 ≤ length (meter t)) × (6 ≤ length (metered t))
-room t = enough2 11 6 (meter t) (metered t) (t .if1 .left)
+abbrev at-words : tie.After-version-in → tie.Else1
+at-words c = at-runs c .before .before .before
 
 -- ---- the needs
 
 returns : tie.Need-returns
-returns c =
-    let a = c .before .before .before .before .before .args in
-    sym (next-short (a .tag .now) (a .work .now) (a .meter .now) (a .metered .now) (c .if1 .taken))
+returns c = sym (next-short _ _ _ _ (c .if1 .taken))
 
 is-running-requires : tie.Need-is-running-requires
 is-running-requires c κs = room (c .before) .0
 
 stopped-requires : tie.Need-stopped-requires
-stopped-requires c κs = room (c .before .before .before .before) .0
-
-same-length : tie.Need-same-length
-same-length c = search needs
+stopped-requires c κs = let at-stops = c .before in room (at-stops .before .before .before) .0
 
 returns-2 : tie.Need-returns-2
 returns-2 c =
-    let t = c .before .before .before .before .before in
-    let e = next-stopped (tag t) (work t) (meter t) (metered t) (t .if1 .left) (sym (c .before .before .before .is-running .ensures) ∙ not-true _ (c .before .before .if2 .taken)) in
-    cc (e, c .stopped .ensures)
+    let at-stops = c .before .before in
+    let t = at-stops .before .before .before in
+    rw (c .stopped .ensures) (sym (next-stopped _ _ _ _ (t .if1 .left) (sym (at-stops .before .is-running .ensures) ∙ not-true _ (at-stops .if2 .taken))))
 
 slice-read-version-in : tie.Need-slice-read-version-in
-slice-read-version-in c = let h = room (c .before .before .before .before) in omega (arith, h .0)
-
-version-in-requires : tie.Need-version-in-requires
-version-in-requires c κs = search needs
-
-enum-known-given : tie.Need-enum-known-given
-enum-known-given c = search needs
-
-enum-told : tie.Need-enum-told
-enum-told c = search needs
-
-same-length-2 : tie.Need-same-length-2
-same-length-2 c = search needs
+slice-read-version-in c = let at-runs = c .before in let h = room (at-runs .before .before .before) in omega (arith, h .0)
 
 returns-3 : tie.Need-returns-3
 returns-3 c =
-    let t = c .before .before .before .before .before .before .before in
-    sym (next-unknown (tag t) (work t) (meter t) (metered t) (t .if1 .left) (bad-version (word 0 (meter t)) (sym (c .before .before .version-in .ensures) ∙ c .enum-told .given .1)))
+    let at-version = c .before .before in
+    let t = at-words at-version in
+    sym (next-unknown _ _ _ _ (t .if1 .left) (bad-version (word 0 (given t .args .meter .now)) (sym (at-version .version-in .ensures) ∙ c .enum-told .given .1)))
 
 running-requires : tie.Need-running-requires
-running-requires c κs = room (c .before .before .before .before .before .before .before .before .before) .0
-
-next-requires : tie.Need-next-requires
-next-requires c κs = search needs
+running-requires c κs = room (at-words (c .before .before .before .before)) .0
 
 answered-requires : tie.Need-answered-requires
-answered-requires c κs = let h = room (c .before .before .before .before .before .before .before .before .before .before .before .before .before .before .before .before) in (omega (arith, h .0), omega (arith, h .1))
-
-same-length-3 : tie.Need-same-length-3
-same-length-3 c = search needs
-
-same-length-4 : tie.Need-same-length-4
-same-length-4 c = search needs
-
-same-length-5 : tie.Need-same-length-5
-same-length-5 c = search needs
+answered-requires c κs =
+    let at-next = c .before .before .before .before in
+    let at-good = at-next .before .before .before .before in
+    let h = room (at-words (at-good .before .before .before)) in
+    (omega (arith, h .0), omega (arith, h .1))
 
 returns-4 : tie.Need-returns-4
 returns-4 c =
-    let t = c .before .before .before .before .before .before .before .before .before .before .before .before .before .before .before .before .before .before .before .before .before in
-    let v = good-version (word 0 (meter t)) (sym (c .before .before .before .before .before .before .before .before .before .before .before .before .before .before .before .before .version-in .ensures) ∙ c .before .before .before .before .before .before .before .before .before .before .before .before .before .before .given .given .1) in
-    let m = c .before .before .before .before .before .before .before .before .before .before .before .running .ensures ∙ ap (λ (z : Version). meterWith z Stop.Running (meter t)) (v .1) in
-    let n = c .before .before .before .before .before .before .before .before .before .next .ensures ∙ ap (λ (z : Meter). nextOf z (tag t) (work t)) m in
-    next-then (tag t) (work t) (meter t) (metered t) (t .if1 .left) (v .0) (sym (c .before .before .before .before .before .before .before .before .before .before .before .before .before .before .before .before .before .before .before .is-running .ensures) ∙ not-false _ (c .before .before .before .before .before .before .before .before .before .before .before .before .before .before .before .before .before .before .if2 .left)) n (c .before .before .before .before .answered .ensures)
+    let at-answered = c .before .before .before .before in
+    let at-lent = at-answered .before .before .before in
+    let at-next = at-lent .before .before in
+    let at-running = at-next .before .before in
+    let at-good = at-running .before .before .before in
+    let at-version = at-good .before .before in
+    let t = at-words at-version in
+    let a = given t .args in
+    let v = good-version (word 0 (a .meter .now)) (sym (at-version .version-in .ensures) ∙ at-good .given .given .1) in
+    let m = at-running .running .ensures ∙ ap (λ (z : Version). meterWith z Stop.Running (a .meter .now)) (v .1) in
+    let n = at-next .next .ensures ∙ ap (λ (z : Meter). nextOf z (a .tag .now) (a .work .now)) m in
+    next-then _ _ _ _ (t .if1 .left) (v .0) (sym (at-runs at-version .before .is-running .ensures) ∙ not-false _ (at-runs at-version .if2 .left)) n (at-answered .answered .ensures)
 
 pub sv-meter-next-spec : {M : Type 1} → statement M
 sv-meter-next-spec =
@@ -109,18 +88,18 @@ sv-meter-next-spec =
     returns
     is-running-requires
     stopped-requires
-    same-length
+    (λ c. search needs)
     returns-2
     slice-read-version-in
-    version-in-requires
-    enum-known-given
-    enum-told
-    same-length-2
+    (λ c κs. search needs)
+    (λ c. search needs)
+    (λ c. search needs)
+    (λ c. search needs)
     returns-3
     running-requires
-    next-requires
+    (λ c κs. search needs)
     answered-requires
-    same-length-3
-    same-length-4
-    same-length-5
+    (λ c. search needs)
+    (λ c. search needs)
+    (λ c. search needs)
     returns-4)

@@ -1,8 +1,7 @@
 -- `capi::sv_references` meets its contract. Assumes nothing.
 use mathlib.Core.Path.{_≡_, sym, _∙_}
-use Prim.Native.Nat.{ℕ, _≤_}
+use Prim.Native.Nat.{_≤_}
 use native.Mathlib.Omega.{arith}
-use mathlib.Core.List.{List}
 use lib.ListN.{length, length-set}
 use lib.Seq.{set-set}
 use Rattle.capi.proofs.Left.{references-short, references-bad, references-then, enough2}
@@ -14,38 +13,30 @@ use Rattle.capi.proofs.sv_references.Tie as tie
 
 -- ---- the words are enough
 
-abbrev words : tie.Else1 → List ℕ
-words c = c .before .before .before .before .before .args .«record» .now
+abbrev given : tie.Else1 → tie.Start
+given t = let all-known = t .before .before .before in all-known .before .before
 
-abbrev rest : tie.Else1 → List ℕ
-rest c = c .before .before .before .before .before .args .rest .now
-
-abbrev deviations : tie.Else1 → List ℕ
-deviations c = c .before .before .before .before .before .args .deviations .now
-
-abbrev count : tie.Else1 → List ℕ
-count c = c .before .before .before .before .before .args .count .now
-
-room : (t : tie.Else1) → (19 ≤ length (words t)) × (1 ≤ length (count t))
-room t = enough2 19 1 (words t) (count t) (t .if1 .left)
+room : (t : tie.Else1) → let a = given t .args in (19 ≤ length (a .«record» .now)) × (1 ≤ length (a .count .now))
+room t = let a = given t .args in enough2 19 1 (a .«record» .now) (a .count .now) (t .if1 .left)
 
 -- ---- the references are put, and the answer picks the case
 
-abbrev tested : tie.After-slice-known3 → tie.Else1
-tested c = c .before .before .before .before .before .before .before .before
+abbrev at-loaded : tie.After-slice-known3 → tie.After-load-heading
+at-loaded c = let at-good = c .before .before .before .before in at-good .before .before .before
 
-went : (c : tie.After-slice-known3) {o : Put} → c .before .before .references .result ≡ o
-    → let t = tested c in svReferences (words t) (rest t) (deviations t) (count t) ≡ afterUnpack (o, c .before .before .references .last .0) (count t)
-went c h =
-    let t = tested c in
-    references-then (words t) (rest t) (deviations t) (count t) (t .if1 .left) (sym (c .before .before .before .before .before .before .before .load-heading .ensures) ∙ c .before .before .before .before .before .given .given .1) (c .before .before .references .ensures) h
+abbrev at-words : tie.After-slice-known3 → tie.Else1
+at-words c = at-loaded c .before
+
+answer-picks : (c : tie.After-slice-known3) {o : Put} → c .before .before .references .result ≡ o
+    → let a = given (at-words c) .args in svReferences (a .«record» .now) (a .rest .now) (a .deviations .now) (a .count .now) ≡ afterUnpack (o, c .before .before .references .last .0) (a .count .now)
+answer-picks c h =
+    let at-put = c .before .before in
+    references-then _ _ _ _ (at-words c .if1 .left) (sym (at-loaded c .load-heading .ensures) ∙ at-put .before .before .before .given .given .1) (at-put .references .ensures) h
 
 -- ---- the needs
 
 returns : tie.Need-returns
-returns c =
-    let a = c .before .before .before .before .before .args in
-    sym (references-short (a .«record» .now) (a .rest .now) (a .deviations .now) (a .count .now) (c .if1 .taken))
+returns c = sym (references-short _ _ _ _ (c .if1 .taken))
 
 slice-write-count : tie.Need-slice-write-count
 slice-write-count c = room c .1
@@ -53,52 +44,19 @@ slice-write-count c = room c .1
 load-heading-requires : tie.Need-load-heading-requires
 load-heading-requires c κs = room c .0
 
-enum-known-given : tie.Need-enum-known-given
-enum-known-given c = search needs
-
-enum-told : tie.Need-enum-told
-enum-told c = search needs
-
-same-length : tie.Need-same-length
-same-length c = search needs
-
 returns-2 : tie.Need-returns-2
 returns-2 c =
-    let t = c .before .before .before in
-    sym (references-bad (words t) (rest t) (deviations t) (count t) (t .if1 .left) (sym (c .before .before .load-heading .ensures) ∙ c .enum-told .given .1))
-
-references-requires : tie.Need-references-requires
-references-requires c κs = search needs
-
-enum-known-put : tie.Need-enum-known-put
-enum-known-put c = search needs
+    let at-load = c .before .before in
+    sym (references-bad _ _ _ _ (at-load .before .if1 .left) (sym (at-load .load-heading .ensures) ∙ c .enum-told .given .1))
 
 slice-write-count-2 : tie.Need-slice-write-count-2
-slice-write-count-2 c = let h = room (tested (c .before .before .before)) .1 in simp length-set (omega arith)
-
-enum-known-put-2 : tie.Need-enum-known-put-2
-enum-known-put-2 c = search needs
-
-cast-result : tie.Need-cast-result
-cast-result c = search needs
-
-same-length-2 : tie.Need-same-length-2
-same-length-2 c = search needs
-
-same-length-3 : tie.Need-same-length-3
-same-length-3 c = search needs
+slice-write-count-2 c = let h = room (at-words (c .before .before .before)) .1 in simp length-set (omega arith)
 
 returns-3 : tie.Need-returns-3
-returns-3 c = rw set-set (sym (went (c .before .before .before) (c .before .put .given .1)))
-
-same-length-4 : tie.Need-same-length-4
-same-length-4 c = search needs
-
-same-length-5 : tie.Need-same-length-5
-same-length-5 c = search needs
+returns-3 c = rw set-set (sym (answer-picks (c .before .before .before) (c .before .put .given .1)))
 
 returns-4 : tie.Need-returns-4
-returns-4 c = sym (went (c .before .before .before) (c .before .put2 .given .1))
+returns-4 c = sym (answer-picks (c .before .before .before) (c .before .put2 .given .1))
 
 pub sv-references-spec : {M : Type 1} → statement M
 sv-references-spec =
@@ -107,18 +65,18 @@ sv-references-spec =
     returns
     slice-write-count
     load-heading-requires
-    enum-known-given
-    enum-told
-    same-length
+    (λ c. search needs)
+    (λ c. search needs)
+    (λ c. search needs)
     returns-2
-    references-requires
-    enum-known-put
+    (λ c κs. search needs)
+    (λ c. search needs)
     slice-write-count-2
-    enum-known-put-2
-    cast-result
-    same-length-2
-    same-length-3
+    (λ c. search needs)
+    (λ c. search needs)
+    (λ c. search needs)
+    (λ c. search needs)
     returns-3
-    same-length-4
-    same-length-5
+    (λ c. search needs)
+    (λ c. search needs)
     returns-4)

@@ -15,37 +15,17 @@ Inv-loop space₀ n i₀ space i = (i ≤ length space) × (length space ≡ len
 abbrev μ-loop : tie.MeasureT-loop
 μ-loop space₀ n i₀ space i = length space₀ - i
 
-loop-holds : tie.Need-loop-holds Inv-loop μ-loop
-loop-holds c = search needs
-
-next-u32-requires : tie.Need-next-u32-requires Inv-loop μ-loop
-next-u32-requires c κs = search needs
-
-mul-space : tie.Need-mul-space Inv-loop μ-loop
-mul-space c = search needs
-
-slice-write-space : tie.Need-slice-write-space Inv-loop μ-loop
-slice-write-space c = search needs
-
-add-i : tie.Need-add-i Inv-loop μ-loop
-add-i c = search needs
-
 loop-less : tie.Need-loop-less Inv-loop μ-loop
 loop-less c = omega (arith, ltb-true)
 
 loop-again : tie.Need-loop-again Inv-loop μ-loop
 loop-again c =
-    let L = c .before .before .before .loop in
+    let at-loop = c .before .before .before in
+    let L = at-loop .loop in
     omega (arith, ltb-true, length-set (L .space) (L .i) (c .next-u32 .result))
-
-same-length : tie.Need-same-length Inv-loop μ-loop
-same-length c = search needs
 
 returns : tie.Need-returns Inv-loop μ-loop
 returns c = (search needs, sym (length-take-le _ _ (search needs)))
-
-same-length-2 : tie.Need-same-length-2 Inv-loop μ-loop
-same-length-2 c = search needs
 
 returns-2 : tie.Need-returns-2 Inv-loop μ-loop
 returns-2 c = (search needs, sym (length-take-le _ _ (search needs)))
@@ -56,14 +36,14 @@ next-numbers-spec =
     (tie.spec
     Inv-loop
     μ-loop
-    loop-holds
-    next-u32-requires
-    mul-space
-    slice-write-space
-    add-i
+    (λ c. search needs)
+    (λ c κs. search needs)
+    (λ c. search needs)
+    (λ c. search needs)
+    (λ c. search needs)
     loop-less
     loop-again
-    same-length
+    (λ c. search needs)
     returns
-    same-length-2
+    (λ c. search needs)
     returns-2)

@@ -1,35 +1,10 @@
 -- `trips::main` is safe and ends. The measure is how many numbers of cases are left. Assumes nothing.
-use Prim.Native.Nat.{_-_}
+use Prim.Native.Nat.{_-_, _^_}
 use native.Mathlib.Omega.{arith}
 use Rattle.trips.proofs.main.Statement.{statement}
 use Rattle.trips.proofs.main.Tie as tie
 
-abbrev Inv-loop : tie.InvT-loop
-Inv-loop number₀ number = Unit {0}
-
-abbrev μ-loop : tie.MeasureT-loop
-μ-loop number₀ number = 18446744073709551615 - number
-
-loop-holds : tie.Need-loop-holds Inv-loop μ-loop
-loop-holds c = tt
-
-next-requires : tie.Need-next-requires Inv-loop μ-loop
-next-requires c κs = tt
-
-add-number : tie.Need-add-number Inv-loop μ-loop
-add-number c = omega arith
-
-loop-less : tie.Need-loop-less Inv-loop μ-loop
-loop-less c = omega arith
-
-loop-again : tie.Need-loop-again Inv-loop μ-loop
-loop-again c = tt
-
-returns : tie.Need-returns Inv-loop μ-loop
-returns c = tt
-
-returns-2 : tie.Need-returns-2 Inv-loop μ-loop
-returns-2 c = tt
-
 pub main-spec : {M : Type 1} → statement M
-main-spec = tie.close (tie.spec Inv-loop μ-loop loop-holds next-requires add-number loop-less loop-again returns returns-2)
+main-spec =
+    tie.close
+    (tie.spec (λ first number. Unit {0}) (λ first number. 2 ^ 64 - number) (λ c. tt) (λ c κs. tt) (λ c. omega arith) (λ c. omega arith) (λ c. tt) (λ c. tt) (λ c. tt))

@@ -7,11 +7,8 @@ use Rattle.capi.proofs.records.popularimeter_fields.Tie as tie
 returns : tie.Need-returns
 returns c = rw (le-ltb _ _ (c .if1 .taken))
 
-cast-t4 : tie.Need-cast-t4
-cast-t4 c = search needs
-
 returns-2 : tie.Need-returns-2
 returns-2 c = rw (lt-ltb _ _ (c .if1 .left))
 
 pub popularimeter-fields-spec : {M : Type 1} → statement M
-popularimeter-fields-spec = tie.close (tie.spec returns cast-t4 returns-2)
+popularimeter-fields-spec = tie.close (tie.spec returns (λ c. search needs) returns-2)

@@ -6,30 +6,6 @@ use borrow.Author.Needs.{needs}
 use Rattle.capi.proofs.words.store_writer.Statement.{statement}
 use Rattle.capi.proofs.words.store_writer.Tie as tie
 
-version-number-requires : tie.Need-version-number-requires
-version-number-requires c κs = search needs
-
-slice-write-words : tie.Need-slice-write-words
-slice-write-words c = search needs
-
-mode-number-requires : tie.Need-mode-number-requires
-mode-number-requires c κs = search needs
-
-slice-write-words-2 : tie.Need-slice-write-words-2
-slice-write-words-2 c = simp length-set (omega arith)
-
-flag-requires : tie.Need-flag-requires
-flag-requires c κs = search needs
-
-slice-write-words-3 : tie.Need-slice-write-words-3
-slice-write-words-3 c = simp length-set (omega arith)
-
-slice-write-words-4 : tie.Need-slice-write-words-4
-slice-write-words-4 c = simp length-set (omega arith)
-
-same-length : tie.Need-same-length
-same-length c = search needs
-
 returns : tie.Need-returns
 unfolding writerWords
 returns c = rw (c .before .before .version-number .ensures, c .before .mode-number .ensures, c .flag .ensures)
@@ -38,12 +14,14 @@ pub store-writer-spec : {M : Type 1} → statement M
 store-writer-spec =
     tie.close
     (tie.spec
-    version-number-requires
-    slice-write-words
-    mode-number-requires
-    slice-write-words-2
-    flag-requires
-    slice-write-words-3
-    slice-write-words-4
-    same-length
+    (λ c κs. search needs)
+    (λ c. search needs)
+    (λ c. search needs)
+    (λ c κs. search needs)
+    (λ c. search needs)
+    (λ c. simp length-set (omega arith))
+    (λ c κs. search needs)
+    (λ c. simp length-set (omega arith))
+    (λ c. simp length-set (omega arith))
+    (λ c. search needs)
     returns)
