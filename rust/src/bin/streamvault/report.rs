@@ -45,14 +45,27 @@ pub fn problems(sum: &Sum, out: &mut dyn Write) -> io::Result<()> {
     Ok(())
 }
 
+/// What is wrong, and what the sum has nevertheless.
 fn told(lack: &Lack) -> String {
+    let what = what(lack);
     match lack {
-        Lack::Refused { refusal, counted } => format!("{refusal} ({})", before(*counted)),
-        Lack::Cut { promised, there, short, counted } => {
-            let short = if *short { ", a frame is short" } else { "" };
-            format!("cut: {there} bytes of a tag of {promised} are there{short} ({})", before(*counted))
+        Lack::Refused { counted, .. } | Lack::Cut { counted, .. } => {
+            format!("{what} (popularimeters counted before it: {counted})")
         }
-        Lack::Compressed => "a compressed popularimeter, not counted".to_string(),
+        Lack::Compressed => format!("{what}, not counted"),
+        _ => what,
+    }
+}
+
+/// What is wrong.
+pub fn what(lack: &Lack) -> String {
+    match lack {
+        Lack::Refused { refusal, .. } => refusal.to_string(),
+        Lack::Cut { promised, there, short, .. } => {
+            let short = if *short { ", a frame is short" } else { "" };
+            format!("cut: {there} bytes of a tag of {promised} are there{short}")
+        }
+        Lack::Compressed => "a compressed popularimeter".to_string(),
         Lack::Left(Left::CutHeader(at)) => format!("a frame header at byte {at}, cut by the end of the tag, not read"),
         Lack::Left(Left::Id(id, at)) => format!("the id {id} at byte {at}, behind the frames, not read"),
         Lack::Further(Further::Second(at)) => format!("a second tag at byte {at}, not read"),
@@ -61,15 +74,11 @@ fn told(lack: &Lack) -> String {
     }
 }
 
-fn before(counted: u64) -> String {
-    format!("popularimeters counted before it: {counted}")
-}
-
 /// A line for each user.
 pub fn csv(sum: &Sum, out: &mut dyn Write) -> io::Result<()> {
     writeln!(out, "user,popularimeters,counter")?;
     for (user, total) in &sum.users {
-        let user = show::csv(&show::user(user));
+        let user = show::csv_user(user);
         writeln!(out, "{user},{},{}", total.popularimeters, total.counter)?;
     }
     Ok(())
@@ -112,7 +121,7 @@ fn list(items: impl Iterator<Item = String>) -> String {
 /// A problem as an object, if it belongs in the list of this name.
 fn item(problem: &Problem, name: &str) -> Option<String> {
     let (list, fields) = listed(&problem.lack);
-    let path = show::json(&problem.path.to_string_lossy());
+    let path = show::json(&show::exact_path(&problem.path));
     (list == name).then(|| format!("{{\"file\": {path}{fields}}}"))
 }
 
