@@ -21,7 +21,8 @@ streamvault sum [--csv | --json] [--jobs N] PATH...
     - Each whole popularimeter of the top level counts, also several in one file.
       Those inside chapters do not.
     - A file that is reached by two names counts once. Links to files are
-      followed, links to folders below the paths are not.
+      followed, links to folders below the paths are not. What is neither a file
+      nor a folder, as a pipe, is passed over there.
 
     All that may be missing from the sum is listed, and the exit status is not 0:
 
@@ -35,6 +36,8 @@ streamvault sum [--csv | --json] [--jobs N] PATH...
     - A further tag, which is not summed: directly behind the first one, or at the
       end of the file, where the footer of a 2.4 tag stands last or before an
       ID3v1 tag. Nothing is looked for elsewhere.
+    - A link to a folder that is not summed under another name. It can be named as
+      one of the paths.
     - A file or a folder that cannot be read, or that became shorter meanwhile.
 
     What was whole before a refusal or a cut counts, and the list says how many

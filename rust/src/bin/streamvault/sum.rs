@@ -80,6 +80,8 @@ pub enum Lack {
     Left(Left),
     /// It has a further tag.
     Further(Further),
+    /// It is a link to a folder that is not summed.
+    Elsewhere,
     /// It cannot be read.
     Unreadable(io::Error),
 }
@@ -250,6 +252,10 @@ impl Worker {
                 Met::File(path) => self.file(order, path)?,
                 Met::Again => self.sum.again += 1,
                 Met::Link => self.sum.links += 1,
+                Met::Elsewhere(path) => {
+                    self.sum.links += 1;
+                    self.lacking(order, path, vec![Lack::Elsewhere]);
+                }
                 Met::Unreadable(path, error) => self.lacking(order, path, vec![Lack::Unreadable(error)]),
             }
         }
