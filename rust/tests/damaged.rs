@@ -86,7 +86,7 @@ fn told(name: &str, lacks: &[String]) {
     let (out, status) = said(&output);
     let elsewhere = ["refused", "a second tag", "a tag at the end"];
     let of_tag = lacks.iter().filter(|lack| !elsewhere.iter().any(|other| lack.starts_with(other)));
-    let what = |lack: &String| lack.split(" (").next().unwrap().trim_end_matches(", not counted").to_string();
+    let what = |lack: &String| lack.split(" (").next().unwrap().replace(", not counted", ", not read");
     let lines: String = of_tag.map(|lack| format!("streamvault: {path}: {}\n", what(lack))).collect();
     assert_eq!(String::from_utf8(output.stderr).unwrap(), lines);
     let refused = out.lines().last().unwrap().starts_with("refused ");

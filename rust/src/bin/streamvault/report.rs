@@ -52,7 +52,7 @@ fn told(lack: &Lack) -> String {
         Lack::Refused { counted, .. } | Lack::Cut { counted, .. } => {
             format!("{what} (popularimeters counted before it: {counted})")
         }
-        Lack::Compressed => format!("{what}, not counted"),
+        Lack::Compressed => "a compressed popularimeter, not counted".to_string(),
         _ => what,
     }
 }
@@ -65,7 +65,7 @@ pub fn what(lack: &Lack) -> String {
             let short = if *short { ", a frame is short" } else { "" };
             format!("cut: {there} bytes of a tag of {promised} are there{short}")
         }
-        Lack::Compressed => "a compressed popularimeter".to_string(),
+        Lack::Compressed => "a compressed popularimeter, not read".to_string(),
         Lack::Left(Left::CutHeader(at)) => format!("a frame header at byte {at}, cut by the end of the tag, not read"),
         Lack::Left(Left::Id(id, at)) => format!("the id {id} at byte {at}, behind the frames, not read"),
         Lack::Further(Further::Second(at)) => format!("a second tag at byte {at}, not read"),
