@@ -50,7 +50,7 @@ const NO_MODE: u64 = u64::MAX;
 impl Writer {
     /// Begins a writer with mode [`Off`](Mode::Off), for a file that is not altered.
     pub fn new(version: Version) -> Writer {
-        let words = begun(version, Mode::Off.word(), u64::from(false));
+        let words = begun(|words| calls::begin(version.edition().into(), SV_MODE_OFF, 0, words));
         Writer { words, buffer: Vec::new(), added: false }
     }
 
@@ -74,7 +74,8 @@ impl Writer {
         if self.added {
             self.words[SV_WRITER_MODE] = NO_MODE;
         } else {
-            self.words = begun(self.version(), mode, altered);
+            let edition = self.words[SV_WRITER_VERSION];
+            self.words = begun(|words| calls::begin(edition, mode, altered, words));
         }
         self
     }
@@ -189,10 +190,9 @@ impl Writer {
     }
 }
 
-/// The words of a writer that was begun with these.
-fn begun(version: Version, mode: u64, altered: u64) -> [u64; SV_WRITER_WORDS] {
+/// The words of a writer that this call begins.
+fn begun(begin: impl FnOnce(&mut [u64]) -> u32) -> [u64; SV_WRITER_WORDS] {
     let mut words = [0; SV_WRITER_WORDS];
-    let answer = calls::begin(u64::from(version.edition()), mode, altered, &mut words);
-    assert_eq!(answer, 0, "every version, mode and mark is accepted");
+    assert_eq!(begin(&mut words), 0, "every version, mode and mark is accepted");
     words
 }
