@@ -318,7 +318,7 @@ mod tests {
 
     /// A tag with these popularimeters.
     fn tag(version: Version, users: &[(&[u8], u64)]) -> Vec<u8> {
-        let mut writer = Writer::new(version, Mode::Standard);
+        let mut writer = Writer::new(version).mode(Mode::Standard);
         for &(user, counter) in users {
             let content = Content::Popularimeter { user, rating: 0, counter };
             let id = if version == Version::Id3v22 { b"POP".into() } else { streamvault::Id::from(b"POPM") };
@@ -428,7 +428,7 @@ mod tests {
         let run = &run[..run.len() - 4];
         let chapter =
             Content::Chapter { element: &b"c"[..], start_time: 0, end_time: 0, start_offset: 0, end_offset: 0, run };
-        let mut writer = Writer::new(Version::Id3v23, Mode::Off);
+        let mut writer = Writer::new(Version::Id3v23);
         writer.add(b"CHAP", &chapter).unwrap();
         let (sum, lacks) = sum_of(&[&writer.finish(0).unwrap()]);
         assert_eq!((sum.tags, sum.all), (1, Total::default()));
