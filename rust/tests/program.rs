@@ -11,7 +11,7 @@ use std::os::unix::ffi::OsStrExt;
 use std::os::unix::fs::{symlink, OpenOptionsExt};
 use std::path::Path;
 use std::process::{Command, Output, Stdio};
-use streamvault::{Content, Mode, Version, Writer};
+use streamvault::{Content, Version, Writer};
 
 fn program() -> Command {
     let mut command = command(env!("CARGO_BIN_EXE_streamvault"));
@@ -29,7 +29,7 @@ fn err(output: &Output) -> String {
 
 /// A tag with a popularimeter of each user, all with the same counter.
 fn tag(users: &[&str], counter: u64) -> Vec<u8> {
-    let mut writer = Writer::new(Version::Id3v24, Mode::Off);
+    let mut writer = Writer::new(Version::Id3v24);
     for user in users {
         writer.add(b"POPM", &Content::Popularimeter { user: user.as_bytes(), rating: 0, counter }).unwrap();
     }
