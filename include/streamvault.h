@@ -257,6 +257,106 @@ uint32_t sv_add(const uint64_t *record, size_t record_len, const uint8_t *name, 
 uint32_t sv_finish(uint64_t padding, const uint8_t *buffer, size_t buffer_len, uint8_t *output, size_t output_len,
                    const uint64_t *writer, size_t writer_len, uint64_t *count, size_t count_len);
 
+/*
+ * ---- conveniences
+ *
+ * What follows exports nothing: it is compiled with the code that uses it, as C99 or C++11, and calls the functions above.
+ */
+
+/* The version of the library. */
+#define SV_VERSION_MAJOR 0
+#define SV_VERSION_MINOR 1
+#define SV_VERSION_PATCH 0
+#define SV_VERSION "0.1.0"
+
+/* What a number means that a call answered, as text: a refusal, 0 or SV_END. */
+static inline const char *sv_meaning(uint32_t number)
+{
+    switch (number) {
+    case 0: return "accepted";
+    case SV_END: return "there is no further frame or popularimeter";
+    case SV_NO_TAG: return "fewer than ten bytes, or they do not begin with \"ID3\"";
+    case SV_UNKNOWN_VERSION: return "the edition is not 2.2, 2.3 or 2.4; or a version, mode, mark or state that is none";
+    case SV_UNKNOWN_FLAGS: return "one of the low four flag bits of the tag header is set";
+    case SV_COMPRESSED_TAG: return "a 2.2 tag that is compressed as a whole";
+    case SV_MISSING_BYTES: return "bytes are missing: of the extended header, of a data length, or of a 2.3 body";
+    case SV_SMALL_EXTENDED_HEADER: return "the extended header's size is below 6";
+    case SV_ID_NOT_UTF8: return "a frame's id is not UTF-8";
+    case SV_ENCRYPTED: return "a frame is encrypted";
+    case SV_GROUPED: return "a frame belongs to a group";
+    case SV_SMALL_FRAME: return "a 2.3 frame with a data length has a size below 4";
+    case SV_MISSING_FIELD: return "a field of a frame's body is missing";
+    case SV_UNKNOWN_ENCODING: return "a text's encoding is over 3";
+    case SV_TOO_DEEP: return "frames lie inside one another at depth 9";
+    case SV_WORK_TOO_SMALL: return "the work buffer does not hold what is to be resynchronised";
+    case SV_NO_ROOM: return "the result is longer than the room lent, or a buffer is shorter than what it has to hold";
+    case SV_WRONG_ID: return "the id is not 3 (2.2) or 4 characters of A-Z and 0-9, or not of the record's kind; or no record";
+    case SV_EMPTY_BODY: return "a 2.2 body is empty";
+    case SV_LONG_BODY: return "a 2.2 body is over 16,777,215 bytes";
+    case SV_TOO_LONG: return "a stored body, or the frames with the padding, have 2^28 bytes or more";
+    case SV_NOT_WRITABLE: return "a raw record under an id of a kind, or a record marked short or compressed";
+    case SV_TEXT_ENDS_EARLY: return "a reader would end the text early";
+    case SV_ZERO_IN_NAME: return "the user or the element id holds a zero";
+    case SV_WRONG_CHILDREN: return "over 255 children, or some are given and do not end in a zero";
+    case SV_WRONG_RUN: return "the run of subframes is refused, short, padded, not used up, too deep or unsynchronised";
+    case SV_WRONG_WIDTH: return "a width of a lookup table is not 1 to 32";
+    case SV_WIDTHS_NOT_IN_FOURS: return "the widths' sum is no multiple of 4";
+    case SV_WIDTHS_OVER_64: return "the widths' sum is over 64";
+    case SV_WRONG_DEVIATION: return "a deviation lacks its pair or does not fit its width, or a step is 2^24 or more";
+    case SV_ODD_REFERENCES: return "the widths sum to 4 and the references are odd in number";
+    default: return "a number that is none";
+    }
+}
+
+/* An id's bytes as one number, highest first: sv_id("POPM") is 0x504F504D. */
+static inline uint64_t sv_id(const char *id)
+{
+    uint64_t number = 0;
+    for (; *id != '\0'; id++)
+        number = number << 8 | (unsigned char)*id;
+    return number;
+}
+
+/* A record to be written, with its bytes. Those that its kind lacks are not looked at, and stay null and 0. */
+typedef struct sv_given {
+    uint64_t record[SV_RECORD_WORDS]; /* kind, id and the numbers of the kind, at the places named above */
+    const uint8_t *name;              /* the user, or the element id */
+    size_t name_len;
+    const uint8_t *names;             /* the children, each closed by a zero */
+    size_t names_len;
+    const uint8_t *rest;              /* the text, the run of subframes, or the raw body */
+    size_t rest_len;
+    const uint32_t *deviations;       /* those of a lookup table, two by two */
+    size_t deviations_len;
+} sv_given;
+
+/* A record of this kind, one of SV_KIND_..., and this id, with all else null and 0. */
+static inline sv_given sv_given_of(uint64_t kind, const char *id)
+{
+    static const sv_given empty = {{0}, NULL, 0, NULL, 0, NULL, 0, NULL, 0};
+    sv_given given = empty;
+    given.record[SV_RECORD_KIND] = kind;
+    given.record[SV_RECORD_ID] = sv_id(id);
+    return given;
+}
+
+/*
+ * sv_add with the slices of `given`: it appends the record as one frame to the collecting buffer. The writer has
+ * SV_WRITER_WORDS words. Where `count` is not null it is set to the bytes appended, 0 on a refusal and for a frame that is
+ * left out.
+ */
+static inline uint32_t sv_add_given(const sv_given *given, uint8_t *buffer, size_t buffer_len, uint64_t *writer,
+                                    uint64_t *count)
+{
+    uint64_t added[SV_COUNT_WORDS] = {0};
+    uint32_t answer = sv_add(given->record, SV_RECORD_WORDS, given->name, given->name_len, given->names, given->names_len,
+                             given->rest, given->rest_len, given->deviations, given->deviations_len, buffer, buffer_len,
+                             writer, SV_WRITER_WORDS, added, SV_COUNT_WORDS);
+    if (count != NULL)
+        *count = added[0];
+    return answer;
+}
+
 #ifdef __cplusplus
 }
 #endif

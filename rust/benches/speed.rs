@@ -8,7 +8,7 @@
 use std::ffi::{c_int, c_void};
 use std::hint::black_box;
 use std::time::Instant;
-use streamvault::{calls, sys::*, Content, Encoding, Mode, Version, Writer};
+use streamvault::{calls, sys::*, Content, Encoding, Version, Writer};
 
 const TAGS: usize = 20_000;
 const MEGABYTE: usize = 1 << 20;
@@ -22,7 +22,9 @@ fn main() {
         small_tags(version);
     }
     raw_bodies();
-    for (name, bytes) in [("clean", clean()), ("random", random()), ("FF-dense", dense()), ("FF-dense at random", dense_at_random())] {
+    for (name, bytes) in
+        [("clean", clean()), ("random", random()), ("FF-dense", dense()), ("FF-dense at random", dense_at_random())]
+    {
         resynchronising(name, &bytes);
         unsynchronising(name, &bytes);
         adding(name, &bytes);
@@ -43,7 +45,7 @@ fn best<T>(mut run: impl FnMut() -> T) -> f64 {
 
 /// As a box leaves it: some texts, a popularimeter, a private frame.
 fn small_tag(version: Version, counter: u64) -> Vec<u8> {
-    let mut writer = Writer::new(version, Mode::Off);
+    let mut writer = Writer::new(version);
     let text = |text| Content::Text { encoding: Encoding::Latin1, text };
     writer.add(b"TIT2", &text(&b"A song of some length"[..])).unwrap();
     writer.add(b"TPE1", &text(b"Somebody")).unwrap();
@@ -156,7 +158,7 @@ fn plain_counter(body: &[u8]) -> Option<u64> {
 
 fn raw_bodies() {
     let tag = |len| {
-        let mut writer = Writer::new(Version::Id3v24, Mode::Off);
+        let mut writer = Writer::new(Version::Id3v24);
         writer.add(b"PRIV", &Content::Raw { body: vec![7; len] }).unwrap();
         writer.finish(0).unwrap()
     };

@@ -59,7 +59,7 @@ fn print_refusal(refusal: Refusal, out: &mut dyn Write) -> io::Result<()> {
 
 /// A tag with one popularimeter.
 fn write_tag() -> Result<Vec<u8>, Refusal> {
-    let mut writer = Writer::new(Version::Id3v24, Mode::Standard);
+    let mut writer = Writer::new(Version::Id3v24).mode(Mode::Standard);
     writer.add(b"POPM", &Content::Popularimeter { user: b"room 7", rating: 0, counter: 65_280 })?;
     writer.finish(1)
 }

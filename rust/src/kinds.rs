@@ -65,8 +65,9 @@ impl Mode {
     }
 }
 
-/// The kinds of frames.
+/// The kinds of frames. More may come, so that a `match` outside this crate needs an arm for others.
 #[derive(Clone, Copy, Debug, PartialEq, Eq, PartialOrd, Ord, Hash)]
+#[non_exhaustive]
 pub enum Kind {
     /// A text: ids that begin with T, except TXX and TXXX.
     Text,

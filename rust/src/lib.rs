@@ -6,14 +6,14 @@
 //! - [`Meter`] reads the counters of a tag that lies in memory, and nothing else.
 //! - [`header`] and [`Reader`] read all of it frame by frame, [`read`] at once.
 //! - [`Writer`] makes a tag of records.
-//! - [`references`] unpacks a lookup table.
-//! - A [`Refusal`] is a number and its meaning.
+//! - [`references`] unpacks a lookup table, [`Content::subframes`] what a chapter holds.
+//! - A [`Refusal`] is a number with its name and its meaning.
 //!
 //! ```
 //! use streamvault::{Content, Meter, Mode, Version, Writer};
 //!
 //! // write a tag
-//! let mut writer = Writer::new(Version::Id3v23, Mode::Crate);
+//! let mut writer = Writer::new(Version::Id3v23).mode(Mode::Crate);
 //! writer.add(b"POPM", &Content::Popularimeter { user: b"room 7", rating: 0, counter: 90 })?;
 //! let tag = writer.finish(16)?;
 //!
@@ -38,6 +38,7 @@ mod reader;
 mod record;
 mod refusal;
 mod state;
+mod subframes;
 pub mod sys;
 mod work;
 mod writer;
@@ -48,5 +49,11 @@ pub use meter::{Ending, Meter, Popularimeter};
 pub use reader::{header, read, Header, Reader, Records};
 pub use record::{references, Content, Frame, Record, Reference, Table};
 pub use refusal::Refusal;
+pub use subframes::Subframes;
 pub use work::Work;
 pub use writer::Writer;
+
+/// The examples of the package's README are run as tests.
+#[cfg(doctest)]
+#[doc = include_str!("../README.md")]
+struct Readme;

@@ -2,7 +2,7 @@
 
 use crate::state::State;
 use crate::sys::*;
-use crate::{calls, Refusal, Version, Work};
+use crate::{calls, Header, Refusal, Version, Work};
 
 /// A popularimeter as a [`Meter`] lends it.
 #[derive(Clone, Copy, Debug, PartialEq, Eq, Hash)]
@@ -83,6 +83,11 @@ impl<'t, W: Work> Meter<'t, W> {
     /// `Vec<u8>`: see [`Work`].
     pub fn open(tag: &'t [u8], work: W) -> Result<Meter<'t, W>, Refusal> {
         State::open(tag, work, calls::meter_open).map(|state| Meter { state })
+    }
+
+    /// The header of the tag.
+    pub fn header(&self) -> Header {
+        self.state.header()
     }
 
     /// The edition of the tag.

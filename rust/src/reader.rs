@@ -92,6 +92,19 @@ impl<'t, W: Work> Reader<'t, W> {
         State::open(tag, work, calls::open).map(|state| Reader { state })
     }
 
+    /// The header of the tag.
+    ///
+    /// ```
+    /// let tag = b"ID3\x03\0\0\0\0\0\x0CTIT2\0\0\0\x02\0\0\0A";
+    /// let reader = streamvault::Reader::open(tag, Vec::new())?;
+    /// assert_eq!(reader.header().size, 12);
+    /// assert_eq!(reader.header().tag_len(), tag.len());
+    /// # Ok::<(), streamvault::Refusal>(())
+    /// ```
+    pub fn header(&self) -> Header {
+        self.state.header()
+    }
+
     /// The edition of the tag.
     pub fn version(&self) -> Version {
         self.state.version()
@@ -99,9 +112,7 @@ impl<'t, W: Work> Reader<'t, W> {
 
     /// The next frame of the top level. After the last one, and after a refusal was handed out, there is none.
     pub fn next_frame(&mut self) -> Option<Result<Frame<'_>, Refusal>> {
-        let mut words = [0; SV_RECORD_WORDS];
-        let next = self.state.next(|tag, work, reader| calls::step(tag, work, reader, &mut words))?;
-        Some(next.map(|()| Found { words, buffer: self.state.buffer(words[SV_RECORD_IN_WORK]) }.frame()))
+        step(&mut self.state)
     }
 
     /// The refusal that the reading ended with, if it did.
@@ -120,6 +131,13 @@ impl<'t, W: Work> Reader<'t, W> {
     pub fn records(self) -> Records<'t, W> {
         Records { reader: self }
     }
+}
+
+/// The next frame of those that a state goes through.
+pub(crate) fn step<'s, W: Work>(state: &'s mut State<'_, W, SV_READER_WORDS>) -> Option<Result<Frame<'s>, Refusal>> {
+    let mut words = [0; SV_RECORD_WORDS];
+    let next = state.next(|tag, work, reader| calls::step(tag, work, reader, &mut words))?;
+    Some(next.map(|()| Found { words, buffer: state.buffer(words[SV_RECORD_IN_WORK]) }.frame()))
 }
 
 /// The frames of a tag as records: what [`Reader::records`] gives.

@@ -2,7 +2,7 @@
 
 use crate::calls::{self, Given};
 use crate::sys::*;
-use crate::{Encoding, Id, Kind, Refusal};
+use crate::{Encoding, Id, Kind, Refusal, Subframes, Version};
 use std::hash::{Hash, Hasher};
 
 /// What a frame holds, by its kind.
@@ -12,7 +12,20 @@ use std::hash::{Hash, Hasher};
 ///
 /// Contents are equal where their fields are. The references of tables are equal where their deviations are: bits that
 /// are left over behind the last whole reference say nothing, and are not written either.
+///
+/// More kinds may come, so that a `match` outside this crate needs an arm for others.
+///
+/// ```compile_fail
+/// fn is_raw(content: &streamvault::Content<&[u8]>) -> bool {
+///     use streamvault::Content::*;
+///     match content {
+///         Text { .. } | Popularimeter { .. } | Table { .. } | Chapter { .. } | Contents { .. } => false,
+///         Raw { .. } => true,
+///     }
+/// }
+/// ```
 #[derive(Clone, Copy, Debug)]
+#[non_exhaustive]
 pub enum Content<B> {
     /// A text, undecoded, without its closing zeros.
     Text {
@@ -158,6 +171,27 @@ impl<B: AsRef<[u8]>> Content<B> {
         }
     }
 
+    /// The subframes of a chapter or of a table of contents, as records; none of any other kind. The version is that of
+    /// the tag that it was read from, or is written to.
+    ///
+    /// ```
+    /// use streamvault::{read, Version};
+    ///
+    /// let tag = b"ID3\x04\0\0\0\0\0\x27CHAP\0\0\0\x1D\0\0\0\
+    ///     \0\0\0\0\0\0\0\0\0\0\0\0\0\0\0\0TIT2\0\0\0\x02\0\0\0A";
+    /// let chapter = &read(tag)?[0];
+    /// for sub in chapter.content.subframes(Version::Id3v24) {
+    ///     assert_eq!(sub?.id.as_bytes(), b"TIT2");
+    /// }
+    /// # Ok::<(), streamvault::Refusal>(())
+    /// ```
+    pub fn subframes(&self, version: Version) -> Subframes<'_> {
+        match self.borrowed() {
+            Content::Chapter { run, .. } | Content::Contents { run, .. } => Subframes::new(version, run),
+            _ => Subframes::new(version, &[]),
+        }
+    }
+
     /// What is compared: all that is handed to the C interface, and of a table the bits of its references.
     fn compared(&self) -> impl Eq + Hash + '_ {
         let content = self.borrowed();
@@ -185,8 +219,8 @@ impl<B: AsRef<[u8]>> Hash for Content<B> {
     }
 }
 
-/// A frame of the top level as it was read. Its bytes are parts of the tag, or of the reader's work buffer, which the
-/// next step may change.
+/// A frame as it was read, of the top level or of a run. Its bytes are parts of the tag or the run, or of the reader's
+/// work buffer, which the next step may change.
 #[derive(Clone, Copy, Debug, PartialEq, Eq)]
 pub struct Frame<'a> {
     /// The id.

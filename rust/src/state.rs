@@ -2,7 +2,7 @@
 
 use crate::sys::*;
 use crate::work::{Work, MOST_DEPTH};
-use crate::{Refusal, Version};
+use crate::{header, Header, Refusal, Version};
 
 /// A tag that is gone through, a work buffer, and the `N` words between calls, of which the first seven are a reader's.
 #[derive(Clone, Debug)]
@@ -21,6 +21,11 @@ impl<'t, W: Work, const N: usize> State<'t, W, N> {
         Refusal::of(answer).map(|()| state)
     }
 
+    /// Goes through these bytes by words that no opening left.
+    pub fn with_words(tag: &'t [u8], work: W, words: [u64; N]) -> Self {
+        State { tag, work, words, done: false }
+    }
+
     /// Goes on by this call. After the end, and after a refusal was handed out, there is nothing more.
     pub fn next(&mut self, call: impl FnMut(&[u8], &mut [u8], &mut [u64]) -> u32) -> Option<Result<(), Refusal>> {
         if self.done {
@@ -34,6 +39,11 @@ impl<'t, W: Work, const N: usize> State<'t, W, N> {
     /// The words as they are now.
     pub fn words(&self) -> &[u64; N] {
         &self.words
+    }
+
+    /// The header of the tag that was opened.
+    pub fn header(&self) -> Header {
+        header(self.tag).expect("a tag that was opened has a header")
     }
 
     /// The edition of the tag.

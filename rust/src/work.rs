@@ -8,7 +8,25 @@ pub(crate) const MOST_DEPTH: usize = 8;
 /// A slice stays as long as it is, and a frame that needs more is refused with
 /// [`SV_WORK_TOO_SMALL`](crate::sys::SV_WORK_TOO_SMALL). A `Vec<u8>` grows instead, to at most eight times the tag, which
 /// suffices for every tag; it may be empty at first.
-pub trait Work {
+///
+/// These are all there are: other types cannot be made one.
+///
+/// ```compile_fail
+/// struct Mine(Vec<u8>);
+///
+/// impl streamvault::Work for Mine {
+///     fn bytes(&self) -> &[u8] {
+///         &self.0
+///     }
+///     fn bytes_mut(&mut self) -> &mut [u8] {
+///         &mut self.0
+///     }
+///     fn grow(&mut self, _most: usize) -> bool {
+///         false
+///     }
+/// }
+/// ```
+pub trait Work: sealed::Sealed {
     /// The buffer as it is now.
     fn bytes(&self) -> &[u8];
 
@@ -17,6 +35,16 @@ pub trait Work {
 
     /// Makes the buffer longer, up to `most` bytes; false where it stays as it was.
     fn grow(&mut self, most: usize) -> bool;
+}
+
+/// Keeps [`Work`] to the types of this module: what a reader lends lies where the library said only if the buffer is the
+/// same at each call.
+mod sealed {
+    pub trait Sealed {}
+    impl Sealed for &mut [u8] {}
+    impl<const N: usize> Sealed for &mut [u8; N] {}
+    impl Sealed for Vec<u8> {}
+    impl Sealed for &mut Vec<u8> {}
 }
 
 impl Work for &mut [u8] {

@@ -9,7 +9,7 @@ use crate::{calls, Content, Frame, Header, Id, Mode, Record, Reference, Refusal,
 /// ```
 /// use streamvault::{read, Content, Mode, Version, Writer};
 ///
-/// let mut writer = Writer::new(Version::Id3v24, Mode::Standard);
+/// let mut writer = Writer::new(Version::Id3v24).mode(Mode::Standard);
 /// writer.add(b"POPM", &Content::Popularimeter { user: b"a@b.example", rating: 5, counter: 65_280 })?;
 /// let tag = writer.finish(1)?;
 ///
@@ -22,37 +22,62 @@ use crate::{calls, Content, Frame, Header, Id, Mode, Record, Reference, Refusal,
 /// ```
 ///
 /// A refused call leaves the writer as it was.
+///
+/// [`mode`](Writer::mode) and [`altered`](Writer::altered) are for a writer that has no frame yet: version, mode and mark
+/// stay as they were begun. A writer that is told another after a frame was added is none any more, and every further
+/// call is refused with [`Refusal::UNKNOWN_VERSION`].
+///
+/// ```
+/// use streamvault::{Content, Mode, Refusal, Version, Writer};
+///
+/// let mut writer = Writer::new(Version::Id3v24);
+/// writer.add(b"PRIV", &Content::Raw { body: b"x" })?;
+/// let writer = writer.mode(Mode::Standard);
+/// assert_eq!(writer.finish(0), Err(Refusal::UNKNOWN_VERSION));
+/// # Ok::<(), streamvault::Refusal>(())
+/// ```
 #[derive(Clone, Debug)]
 pub struct Writer {
     words: [u64; SV_WRITER_WORDS],
     buffer: Vec<u8>,
+    /// Whether a frame was accepted, be it one that was left out.
+    added: bool,
 }
 
+/// A mode that is none.
+const NO_MODE: u64 = u64::MAX;
+
 impl Writer {
-    /// Begins a writer for a file that is not altered. [`Mode::default`] is off.
-    pub fn new(version: Version, mode: Mode) -> Writer {
-        Writer::begin(version, mode, false)
+    /// Begins a writer with mode [`Off`](Mode::Off), for a file that is not altered.
+    pub fn new(version: Version) -> Writer {
+        let words = begun(|words| calls::begin(version.edition().into(), SV_MODE_OFF, 0, words));
+        Writer { words, buffer: Vec::new(), added: false }
     }
 
-    /// Begins a writer for an altered file: frames that such a file loses (MLLT, TLEN and nine more) are accepted and
-    /// left out.
-    pub fn altered(version: Version, mode: Mode) -> Writer {
-        Writer::begin(version, mode, true)
+    /// The same with another mode, before the first frame.
+    #[must_use]
+    pub fn mode(self, mode: Mode) -> Writer {
+        let altered = self.words[SV_WRITER_ALTERED];
+        self.begun_again(mode.word(), altered)
     }
 
-    /// Begins a writer with [`Mode::Off`] for a file that is not altered.
-    pub fn plain(version: Version) -> Writer {
-        Writer::begun(|words| calls::begin_plain(version.edition().into(), words))
+    /// The same for a file that is altered, or that is not, before the first frame. Frames that an altered file loses
+    /// (MLLT, TLEN and nine more) are accepted and left out.
+    #[must_use]
+    pub fn altered(self, altered: bool) -> Writer {
+        let mode = self.words[SV_WRITER_MODE];
+        self.begun_again(mode, u64::from(altered))
     }
 
-    fn begin(version: Version, mode: Mode, altered: bool) -> Writer {
-        Writer::begun(|words| calls::begin(version.edition().into(), mode.word(), altered.into(), words))
-    }
-
-    fn begun(begin: impl FnOnce(&mut [u64]) -> u32) -> Writer {
-        let mut words = [0; SV_WRITER_WORDS];
-        assert_eq!(begin(&mut words), 0, "every version and mode is accepted");
-        Writer { words, buffer: Vec::new() }
+    /// The same begun with these words. After a frame was added the mode is then none, which the library refuses.
+    fn begun_again(mut self, mode: u64, altered: u64) -> Writer {
+        if self.added {
+            self.words[SV_WRITER_MODE] = NO_MODE;
+        } else {
+            let edition = self.words[SV_WRITER_VERSION];
+            self.words = begun(|words| calls::begin(edition, mode, altered, words));
+        }
+        self
     }
 
     /// The edition that it writes.
@@ -63,6 +88,30 @@ impl Writer {
     /// Bytes of the frames that were added.
     pub fn used(&self) -> usize {
         self.words[SV_WRITER_USED] as usize
+    }
+
+    /// The frames that were added, one after the other, as they are collected: not yet unsynchronised in 2.2 and 2.3. Those
+    /// of a writer with mode off are a run of subframes for a chapter or a table of contents.
+    ///
+    /// ```
+    /// use streamvault::{Content, Encoding, Version, Writer};
+    ///
+    /// let mut inner = Writer::new(Version::Id3v24);
+    /// inner.add(b"TIT2", &Content::Text { encoding: Encoding::Utf8, text: "One" })?;
+    /// let mut writer = Writer::new(Version::Id3v24);
+    /// let chapter = Content::Chapter {
+    ///     element: &b"c1"[..],
+    ///     start_time: 0,
+    ///     end_time: 90_000,
+    ///     start_offset: u32::MAX,
+    ///     end_offset: u32::MAX,
+    ///     run: inner.frames(),
+    /// };
+    /// writer.add(b"CHAP", &chapter)?;
+    /// # Ok::<(), streamvault::Refusal>(())
+    /// ```
+    pub fn frames(&self) -> &[u8] {
+        &self.buffer[..self.used()]
     }
 
     /// Adds a frame, and gives the bytes that it took: 0 where the frame was left out. The references of a table are
@@ -80,11 +129,11 @@ impl Writer {
     /// Adds a frame as it was read, without a copy in between.
     ///
     /// ```
-    /// use streamvault::{Mode, Reader, Version, Writer};
+    /// use streamvault::{Reader, Version, Writer};
     ///
     /// let tag = b"ID3\x04\0\0\0\0\0\x12POPM\0\0\0\x08\0\0a\0\x05\x01\0\0\0\0";
     /// let mut reader = Reader::open(tag, Vec::new())?;
-    /// let mut writer = Writer::new(Version::Id3v24, Mode::Off);
+    /// let mut writer = Writer::new(Version::Id3v24);
     /// while let Some(frame) = reader.next_frame() {
     ///     writer.add_frame(&frame?)?;
     /// }
@@ -108,7 +157,7 @@ impl Writer {
         let mut tag = Vec::new();
         let mut answer = self.finish_in(padding, &mut tag);
         for frames in [self.used(), 2 * self.used()] {
-            if answer.is_err_and(|refusal| refusal.number() == SV_NO_ROOM) {
+            if answer.is_err_and(|refusal| refusal == Refusal::NO_ROOM) {
                 tag.resize(Header::LEN + frames + padding, 0);
                 answer = self.finish_in(padding, &mut tag);
             }
@@ -132,10 +181,18 @@ impl Writer {
             let given = handed.given();
             let answer = calls::add(given, &mut self.buffer, &mut self.words, &mut count);
             if answer != SV_NO_ROOM {
+                self.added |= answer == 0;
                 return Refusal::of(answer).map(|()| count[0] as usize);
             }
             let longer = (self.used() + handed.len() + 64).max(2 * self.buffer.len());
             self.buffer.resize(longer, 0);
         }
     }
+}
+
+/// The words of a writer that this call begins.
+fn begun(begin: impl FnOnce(&mut [u64]) -> u32) -> [u64; SV_WRITER_WORDS] {
+    let mut words = [0; SV_WRITER_WORDS];
+    assert_eq!(begin(&mut words), 0, "every version, mode and mark is accepted");
+    words
 }

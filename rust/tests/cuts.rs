@@ -39,7 +39,7 @@ fn add_popularimeter(writer: &mut Writer, user: &[u8], counter: u64) {
 /// A popularimeter first, in the middle and last; between them a text, a picture and in later editions a chapter with a
 /// popularimeter inside; padding.
 fn tag(version: Version, mode: Mode) -> Vec<u8> {
-    let mut writer = Writer::new(version, mode);
+    let mut writer = Writer::new(version).mode(mode);
     add_popularimeter(&mut writer, b"room 1", 0xFF00);
     let title = Content::Text { encoding: Encoding::Utf16, text: b"\xFF\xFEA\0 \0s\0o\0n\0g\0" };
     writer.add(id(version, b"TT2", b"TIT2"), &title).unwrap();
@@ -47,7 +47,7 @@ fn tag(version: Version, mode: Mode) -> Vec<u8> {
     let picture = [&b"\0PNG\x03\0"[..], &[0xFF, 0xE0, 0xFF, 0x00].repeat(8)].concat();
     writer.add(id(version, b"PIC", b"APIC"), &Content::Raw { body: picture }).unwrap();
     if version != Version::Id3v22 {
-        let mut inner = Writer::new(version, Mode::Off);
+        let mut inner = Writer::new(version);
         add_popularimeter(&mut inner, b"room 3", 77);
         let run = &inner.finish(0).unwrap()[10..];
         let element = &b"c1"[..];

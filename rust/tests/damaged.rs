@@ -1,4 +1,5 @@
-//! The sum over each damaged sample: it is listed, whatever is printed, and the status is not 0.
+//! The sum over each damaged sample: it is listed, whatever is printed, and the status is not 0. The listing of each tells
+//! the same of its first tag.
 
 mod common;
 
@@ -77,12 +78,29 @@ fn listed(name: &str, all: &str, lacks: &[String]) {
     assert_eq!(out.matches(&format!("{{\"file\": \"{path}\"")).count(), lacks.len(), "{out}");
 }
 
+/// Lists one sample: what is wrong with its tag is told, apart from a refusal, which is in the listing.
+fn told(name: &str, lacks: &[String]) {
+    let path = format!("samples/damaged/{name}.mp3");
+    let output =
+        command(env!("CARGO_BIN_EXE_streamvault")).current_dir(root()).arg("list").arg(&path).output().unwrap();
+    let (out, status) = said(&output);
+    let elsewhere = ["refused", "a second tag", "a tag at the end"];
+    let of_tag = lacks.iter().filter(|lack| !elsewhere.iter().any(|other| lack.starts_with(other)));
+    let what = |lack: &String| lack.split(" (").next().unwrap().replace(", not counted", ", not read");
+    let lines: String = of_tag.map(|lack| format!("streamvault: {path}: {}\n", what(lack))).collect();
+    assert_eq!(String::from_utf8(output.stderr).unwrap(), lines);
+    let refused = out.lines().last().unwrap().starts_with("refused ");
+    assert_eq!(status, i32::from(refused || !lines.is_empty()), "{out}");
+}
+
 /// A test for each sample, and the names of all.
 macro_rules! samples {
     ($($test:ident: $name:literal, $all:literal, [$($lack:expr),*];)*) => {
         $(#[test]
         fn $test() {
-            listed($name, $all, &[$($lack),*]);
+            let lacks = [$($lack),*];
+            listed($name, $all, &lacks);
+            told($name, &lacks);
         })*
 
         const NAMES: &[&str] = &[$($name),*];

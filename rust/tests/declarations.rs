@@ -24,6 +24,12 @@ fn text(path: &str) -> String {
     fs::read_to_string(&path).unwrap_or_else(|error| panic!("{}: {error}", path.display()))
 }
 
+/// The C header up to its conveniences, which export nothing.
+fn header() -> String {
+    let header = text("include/streamvault.h");
+    header.split_once("/*\n * ---- conveniences\n").expect("conveniences").0.to_string()
+}
+
 /// Every file of the exporting crate's source, one after another.
 fn source() -> String {
     let mut out = String::new();
@@ -223,14 +229,14 @@ fn the_source_exports_what_rust_declares() {
 
 #[test]
 fn the_header_declares_what_rust_declares() {
-    let header = declared_in_c(&text("include/streamvault.h"));
+    let header = declared_in_c(&header());
     assert_eq!(header.keys().collect::<Vec<_>>(), EXPORTED);
     assert_eq!(header, declared_in_rust(&text("rust/src/sys.rs")));
 }
 
 #[test]
 fn the_constants_of_the_header_are_those_of_rust() {
-    let header = constants_in_c(&text("include/streamvault.h"));
+    let header = constants_in_c(&header());
     let rust = constants_after(&text("rust/src/sys.rs"), "pub const SV_", "///");
     assert!(header.len() > 80);
     assert_eq!(numbers(&header), numbers(&rust));
@@ -252,7 +258,7 @@ fn the_source_places_words_as_rust_does() {
 #[test]
 fn the_refusals_are_those_of_the_source_and_mean_the_same_in_c_and_rust() {
     let source = constants_after(&text("crates/format/src/refusals.rt"), "pub const ", "//");
-    let header = constants_in_c(&text("include/streamvault.h"));
+    let header = constants_in_c(&header());
     let rust = constants_after(&text("rust/src/sys.rs"), "pub const SV_", "///");
     assert!(source.len() >= 29);
     for (name, (number, _)) in &source {

@@ -1,33 +1,27 @@
-//! Compiles the C examples against the header and the archive, and runs them; runs the Rust one beside the C one.
+//! Compiles the C examples against the header and the archive, and runs them; runs the Rust ones beside them.
 
 mod common;
 #[allow(dead_code)]
 #[path = "../examples/minutes.rs"]
 mod minutes;
+#[allow(dead_code)]
+#[path = "../examples/write.rs"]
+mod write;
 
-use common::{command, folder, root, said};
+use common::{command, compile, folder, root, said, Language};
 use std::io::Write;
 use std::path::{Path, PathBuf};
-use std::process::{Command, Stdio};
+use std::process::Stdio;
+use streamvault::{read, Content, Encoding, Record, Version};
 
-/// The C compiler for x86-64: `CC`, or `cc`.
-fn compiler() -> String {
-    std::env::var("CC").unwrap_or_else(|_| "cc".to_string())
+/// Compiles an example as C.
+fn compiled(name: &str, into: &Path) -> PathBuf {
+    compiled_as(Language::C99, name, into)
 }
 
-/// Compiles an example with every warning an error.
-fn compiled(name: &str, into: &Path) -> PathBuf {
+fn compiled_as(language: Language, name: &str, into: &Path) -> PathBuf {
     let program = into.join(name);
-    let done = Command::new(compiler())
-        .args(["-std=c99", "-O2", "-Wall", "-Wextra", "-Werror", "-pedantic", "-I"])
-        .arg(root().join("include"))
-        .arg(root().join("examples").join(name).with_extension("c"))
-        .arg(env!("STREAMVAULT_ARCHIVE"))
-        .arg("-o")
-        .arg(&program)
-        .output()
-        .unwrap_or_else(|error| panic!("{}, named by CC: {error}", compiler()));
-    assert!(done.status.success(), "{}", String::from_utf8_lossy(&done.stderr));
+    compile(language, &[root().join("examples").join(name).with_extension("c")], &program);
     program
 }
 
@@ -86,26 +80,25 @@ fn hard_use_in_c_has_known_answers() {
 }
 
 #[test]
-fn the_header_is_also_cplusplus() {
-    let compiler = std::env::var("CXX").unwrap_or_else(|_| "c++".to_string());
-    let there = Command::new(&compiler).arg("--version").output();
-    if !there.is_ok_and(|done| done.status.success()) {
-        eprintln!("not tried: there is no C++ compiler {compiler}, which CXX can name");
-        return;
+fn write_makes_the_same_tag_in_c_cplusplus_and_rust() {
+    let tag = write::tag().unwrap();
+    for language in Language::ALL {
+        let folder = folder(&format!("write-{language:?}"));
+        let (program, file) = (compiled_as(language, "write", &folder), folder.join("tag"));
+        assert_eq!(said(&command(&program).arg(&file).output().unwrap()), (String::new(), 0));
+        assert_eq!(std::fs::read(&file).unwrap(), tag, "{language:?}");
+        assert_eq!(said(&command(&program).output().unwrap()), (String::new(), 2));
     }
-    let code = "#include \"streamvault.h\"\nint main() { return sv_header(nullptr, 0, nullptr, 0) - SV_NO_ROOM; }\n";
-    let folder = folder("cplusplus");
-    let (source, program) = (folder.join("main.cpp"), folder.join("main"));
-    std::fs::write(&source, code).unwrap();
-    let done = Command::new(&compiler)
-        .args(["-std=c++11", "-Wall", "-Wextra", "-Werror", "-I"])
-        .arg(root().join("include"))
-        .arg(&source)
-        .arg(env!("STREAMVAULT_ARCHIVE"))
-        .arg("-o")
-        .arg(&program)
-        .output()
-        .unwrap();
-    assert!(done.status.success(), "{}", String::from_utf8_lossy(&done.stderr));
-    assert_eq!(said(&command(&program).output().unwrap()).1, 0);
+}
+
+#[test]
+fn what_write_made_is_read_back() {
+    let records = read(&write::tag().unwrap()).unwrap();
+    let ids: Vec<_> = records.iter().map(|record| record.id.to_string()).collect();
+    assert_eq!(ids, ["TIT2", "POPM", "MLLT", "CHAP", "CTOC"]);
+    let title = |text: &str| Content::Text { encoding: Encoding::Utf8, text: text.into() };
+    assert_eq!(records[0].content, title("March"));
+    assert_eq!(records[1].content, Content::Popularimeter { user: b"room 7".to_vec(), rating: 0, counter: 65_280 });
+    let subframes: Result<Vec<_>, _> = records[3].content.subframes(Version::Id3v24).collect();
+    assert_eq!(subframes.unwrap(), [Record::new(b"TIT2", title("Part one"))]);
 }

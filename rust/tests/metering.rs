@@ -72,7 +72,7 @@ fn records(version: Version) -> Vec<Record> {
 }
 
 fn written(version: Version, mode: Mode, records: &[Record]) -> Vec<u8> {
-    let mut writer = Writer::new(version, mode);
+    let mut writer = Writer::new(version).mode(mode);
     for record in records {
         writer.add_record(record).unwrap();
     }

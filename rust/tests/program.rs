@@ -3,9 +3,15 @@
 mod common;
 
 use common::{command, folder, root, said};
-use std::fs;
-use std::os::unix::fs::symlink;
+use std::ffi::{c_char, CStr, OsStr};
+use std::fs::{self, File};
+use std::io::Read;
+use std::os::fd::AsRawFd;
+use std::os::unix::ffi::OsStrExt;
+use std::os::unix::fs::{symlink, OpenOptionsExt};
+use std::path::Path;
 use std::process::{Command, Output, Stdio};
+use streamvault::{Content, Version, Writer};
 
 fn program() -> Command {
     let mut command = command(env!("CARGO_BIN_EXE_streamvault"));
@@ -19,6 +25,15 @@ fn run(words: &[&str]) -> Output {
 
 fn err(output: &Output) -> String {
     String::from_utf8(output.stderr.clone()).unwrap()
+}
+
+/// A tag with a popularimeter of each user, all with the same counter.
+fn tag(users: &[&str], counter: u64) -> Vec<u8> {
+    let mut writer = Writer::new(Version::Id3v24);
+    for user in users {
+        writer.add(b"POPM", &Content::Popularimeter { user: user.as_bytes(), rating: 0, counter }).unwrap();
+    }
+    writer.finish(0).unwrap()
 }
 
 #[test]
@@ -92,7 +107,7 @@ fn the_number_of_threads_changes_nothing() {
     for format in [&[][..], &["--csv"], &["--json"]] {
         let summed = |jobs: &str| run(&[&["sum", "--jobs", jobs], format, &[path]].concat());
         let one = summed("1");
-        assert_eq!(said(&one).1, 1);
+        assert_eq!(said(&one).1, 3);
         assert_eq!(one, run(&[&["sum"], format, &[path]].concat()));
         for jobs in ["2", "3", "8", "50"] {
             assert_eq!(one, summed(jobs), "{jobs} threads, {format:?}");
@@ -122,11 +137,41 @@ fn a_file_counts_once_and_links_to_folders_are_not_followed() {
 }
 
 #[test]
+fn a_link_to_a_folder_that_is_not_summed_is_listed() {
+    let folder = folder("elsewhere");
+    for inner in ["summed", "other"] {
+        fs::create_dir(folder.join(inner)).unwrap();
+        fs::write(folder.join(inner).join("a.mp3"), tag(&["room 1"], 5)).unwrap();
+    }
+    symlink("../other", folder.join("summed/link")).unwrap();
+    let path = |name: &str| folder.join(name).to_str().unwrap().to_string();
+    let line = format!("1 links to folders not followed\n{}: a link to a folder elsewhere", path("summed/link"));
+    let (out, status) = said(&run(&["sum", &path("summed")]));
+    assert_eq!(status, 1);
+    assert!(out.contains("in all 5 from 1 ") && out.contains(&line), "{out}");
+    let output = run(&["sum", "--csv", &path("summed")]);
+    assert_eq!(said(&output).1, 1);
+    assert!(err(&output).starts_with(&line), "{}", err(&output));
+    let (out, status) = said(&run(&["sum", "--json", &path("summed")]));
+    assert_eq!(status, 1);
+    let item = format!("\"links_elsewhere\": [\n    {{\"file\": \"{}\"}}\n  ]", path("summed/link"));
+    assert!(out.contains("\"links_not_followed\": 1") && out.contains(&item), "{out}");
+    // nothing is missing where the folder is summed as well, by whatever name, before or after
+    for other in ["other", "summed/link", "summed/../other"] {
+        for paths in [[path("summed"), path(other)], [path(other), path("summed")]] {
+            let (out, status) = said(&run(&["sum", &paths[0], &paths[1]]));
+            assert_eq!(status, 0, "{out}");
+            assert!(out.contains("in all 10 from 2 ") && !out.contains("elsewhere, not"), "{out}");
+        }
+    }
+}
+
+#[test]
 fn what_cannot_be_read_is_listed() {
     let folder = folder("unreadable");
     symlink("gone", folder.join("dangling.mp3")).unwrap();
     let (out, status) = said(&run(&["sum", folder.to_str().unwrap(), "no/such/path"]));
-    assert_eq!(status, 1);
+    assert_eq!(status, 3);
     assert!(out.contains("dangling.mp3: not readable: ") && out.contains("no/such/path: not readable: "), "{out}");
 }
 
@@ -134,7 +179,7 @@ fn what_cannot_be_read_is_listed() {
 fn a_file_whose_bytes_cannot_be_read_is_listed() {
     // it opens, and its first byte is none that can be read
     let (out, status) = said(&run(&["sum", "/proc/self/mem"]));
-    assert_eq!(status, 1);
+    assert_eq!(status, 3);
     assert!(out.contains("/proc/self/mem: not readable: "), "{out}");
 }
 
@@ -194,6 +239,203 @@ fn the_listing_from_standard_input_and_of_a_refused_file() {
     assert_eq!(status, 1);
     assert!(out.ends_with("counter 7\nrefused 5\n"), "{out}");
     assert_eq!(said(&run(&["list", "samples/march/no-tag.mp3"])), ("refused 1\n".to_string(), 1));
+}
+
+/// A tag of one frame whose id would clear a screen.
+const CLEARING: &[u8] = b"ID3\x04\0\0\0\0\0\x0A\x1b[2J\0\0\0\0\0\0";
+
+#[test]
+fn an_id_is_listed_as_its_bytes_to_a_pipe_and_to_a_file() {
+    let folder = folder("id");
+    let path = folder.join("id.mp3");
+    fs::write(&path, CLEARING).unwrap();
+    let want = "tag 2.4 size 10 flags 0 ext 0\nframe 0 \x1b[2J at 0 body 0 raw whole\nend 1\n";
+    let listing = || {
+        let mut command = program();
+        command.arg("list").arg(&path);
+        command
+    };
+    assert_eq!(said(&listing().output().unwrap()), (want.to_string(), 0));
+    let copy = folder.join("listing");
+    assert!(listing().stdout(File::create(&copy).unwrap()).status().unwrap().success());
+    assert_eq!(fs::read_to_string(copy).unwrap(), want);
+}
+
+#[test]
+fn an_id_is_escaped_on_a_terminal() {
+    let path = folder("id-shown").join("id.mp3");
+    fs::write(&path, CLEARING).unwrap();
+    let mut command = program();
+    command.arg("list").arg(&path);
+    let want = "tag 2.4 size 10 flags 0 ext 0\nframe 0 \\u{1b}[2J at 0 body 0 raw whole\nend 1\n";
+    assert_eq!(shown(command), (want.to_string(), 0));
+}
+
+extern "C" {
+    fn grantpt(terminal: i32) -> i32;
+    fn unlockpt(terminal: i32) -> i32;
+    fn ptsname(terminal: i32) -> *const c_char;
+}
+
+/// What a command shows on a terminal, and its exit status.
+fn shown(mut command: Command) -> (String, i32) {
+    // not to become the terminal of the tests
+    const O_NOCTTY: i32 = 0o400;
+    let open = |path: &Path| File::options().read(true).write(true).custom_flags(O_NOCTTY).open(path).unwrap();
+    let mut screen = open(Path::new("/dev/ptmx"));
+    let number = screen.as_raw_fd();
+    // SAFETY: the file is open, and only one test asks for a name, which ends at a zero
+    let name = unsafe {
+        assert_eq!((grantpt(number), unlockpt(number)), (0, 0));
+        CStr::from_ptr(ptsname(number))
+    };
+    let status = command.stdout(open(Path::new(OsStr::from_bytes(name.to_bytes())))).status().unwrap();
+    // the terminal's end is an error, once no program has it open
+    drop(command);
+    let mut bytes = Vec::new();
+    let _ = screen.read_to_end(&mut bytes);
+    (String::from_utf8(bytes).unwrap().replace("\r\n", "\n"), status.code().unwrap())
+}
+
+#[test]
+fn a_listing_tells_what_it_lacks() {
+    let path = "samples/damaged/cut-between-frames-2.4.mp3";
+    let output = run(&["list", path]);
+    let (out, status) = said(&output);
+    assert_eq!(status, 1);
+    assert!(out.ends_with("end 3\n"), "{out}");
+    assert_eq!(err(&output), format!("streamvault: {path}: cut: 92 bytes of a tag of 120 are there\n"));
+}
+
+#[test]
+fn no_user_is_a_formula_to_a_spreadsheet() {
+    let path = folder("formulas").join("a.mp3");
+    let users = ["=1+1", "+49 30", "-1", "@SUM(1)", "\t=1", "\r=1", " =1", "a;=1", "a@b.example", "'=1"];
+    fs::write(&path, tag(&users, 7)).unwrap();
+    let path = path.to_str().unwrap();
+    let want = "user,popularimeters,counter
+hex:093D31,1,7
+hex:0D3D31,1,7
+hex:203D31,1,7
+'=1,1,7
+hex:2B3439203330,1,7
+hex:2D31,1,7
+hex:3D312B31,1,7
+hex:4053554D283129,1,7
+\"a;=1\",1,7
+a@b.example,1,7
+";
+    assert_eq!(said(&run(&["sum", "--csv", path])), (want.to_string(), 0));
+    // elsewhere they are printed as they are
+    let (table, _) = said(&run(&["sum", path]));
+    let (json, _) = said(&run(&["sum", "--json", path]));
+    for user in users.into_iter().filter(|user| user.starts_with(['=', '+', '-', '@'])) {
+        assert!(table.contains(&format!("  {user}\n")), "{table}");
+        assert!(json.contains(&format!("{{\"user\": \"{user}\", ")), "{json}");
+    }
+}
+
+#[test]
+fn a_path_is_printed_without_loss() {
+    let folder = folder("paths");
+    for name in [&b"caf\xE9.mp3"[..], b"caf\xEA.mp3", b"caf\\xE9.mp3", "clear\x1b[2J\n\u{202e}.mp3".as_bytes()] {
+        fs::write(folder.join(OsStr::from_bytes(name)), b"ID3").unwrap();
+    }
+    let path = folder.to_str().unwrap();
+    let names = [r"caf\\xE9.mp3", r"caf\xE9.mp3", r"caf\xEA.mp3", r"clear\u{1b}[2J\n\u{202e}.mp3"];
+    let want = names.map(|name| format!("{path}/{name}"));
+    let listed = |text: &str| -> Vec<String> {
+        text.lines().filter_map(|line| Some(line.split_once(": refused 1: ")?.0.to_string())).collect()
+    };
+    let (out, status) = said(&run(&["sum", path]));
+    assert_eq!((listed(&out), status), (want.to_vec(), 1));
+    let output = run(&["sum", "--csv", path]);
+    assert_eq!((listed(&err(&output)), said(&output).1), (want.to_vec(), 1));
+
+    let (out, status) = said(&run(&["sum", "--json", path]));
+    assert_eq!(status, 1);
+    let hex = |name: &[u8]| -> String {
+        [path.as_bytes(), b"/", name].concat().iter().map(|byte| format!("{byte:02X}")).collect()
+    };
+    for file in [
+        format!("hex:{}", hex(b"caf\xE9.mp3")),
+        format!("hex:{}", hex(b"caf\xEA.mp3")),
+        format!(r"{path}/caf\\xE9.mp3"),
+        format!(r"{path}/clear\u001b[2J\u000a\u202e.mp3"),
+    ] {
+        assert!(out.contains(&format!("{{\"file\": \"{file}\", ")), "{file} in {out}");
+    }
+    assert!(!out.contains(|c: char| c.is_control() && c != '\n'), "{out}");
+}
+
+#[test]
+fn a_listing_names_its_file_without_loss() {
+    let path = folder("path-of-a-list").join(OsStr::from_bytes(b"caf\xE9\x1b.mp3"));
+    let output = program().arg("list").arg(&path).output().unwrap();
+    assert_eq!(said(&output), (String::new(), 3));
+    assert!(err(&output).contains(r"/caf\xE9\u{1b}.mp3: "), "{}", err(&output));
+}
+
+#[test]
+fn every_status() {
+    for (words, status) in [
+        (&["sum", "samples/march"][..], 0),
+        (&["list", "samples/march/first.mp3"], 0),
+        (&["sum", "samples/damaged/refused-encrypted.mp3"], 1),
+        (&["sum", "samples/damaged/cut-in-padding-2.4.mp3"], 1),
+        (&["sum", "samples/damaged/second-tag.mp3"], 1),
+        (&["list", "samples/damaged/refused-encrypted.mp3"], 1),
+        (&["list", "samples/damaged/cut-in-padding-2.4.mp3"], 1),
+        (&["list", "samples/damaged/short-frame.mp3"], 1),
+        (&["sum"], 2),
+        (&["list", "samples/march/first.mp3", "samples/march/third.mp3"], 2),
+        (&["sum", "samples/no such"], 3),
+        (&["list", "samples/no such"], 3),
+        (&["list", "samples"], 3),
+        // what cannot be read wins
+        (&["sum", "samples/damaged", "samples/no such"], 3),
+        (&["sum", "--csv", "samples/damaged", "samples/no such"], 3),
+        (&["sum", "--json", "samples/no such", "samples/damaged"], 3),
+    ] {
+        assert_eq!(said(&run(words)).1, status, "{words:?}");
+    }
+}
+
+#[test]
+fn what_is_not_printed_is_status_1() {
+    let commands =
+        [&["sum", "samples/march"][..], &["sum", "--csv", "samples/march"], &["sum", "--json", "samples/march"]];
+    for words in commands.into_iter().chain([&["list", "samples/march/first.mp3"][..], &["--help"], &["--version"]]) {
+        let printed_to = |out: Stdio| program().args(words).stdout(out).stderr(Stdio::piped()).output().unwrap();
+        let full = File::options().write(true).open("/dev/full").unwrap();
+        // what is open for reading only
+        for file in [full, File::open("/dev/null").unwrap()] {
+            let output = printed_to(file.into());
+            assert_eq!(output.status.code(), Some(1), "{words:?}");
+            assert!(err(&output).starts_with("streamvault: standard output: "), "{}", err(&output));
+        }
+        // a pipe that nothing reads any more
+        let mut reader = Command::new("true").stdin(Stdio::piped()).spawn().unwrap();
+        let pipe = reader.stdin.take().unwrap();
+        reader.wait().unwrap();
+        let output = printed_to(pipe.into());
+        assert_eq!((output.status.code(), err(&output).as_str()), (Some(1), ""), "{words:?}");
+    }
+}
+
+#[test]
+fn what_cannot_be_told_leaves_the_status() {
+    for (words, status) in [
+        (&["sum", "--csv", "samples/damaged"][..], 1),
+        (&["list", "samples/damaged/cut-in-padding-2.4.mp3"], 1),
+        (&["sum"], 2),
+        (&["sum", "--csv", "samples/no such"], 3),
+        (&["list", "samples/no such"], 3),
+    ] {
+        let full = File::options().write(true).open("/dev/full").unwrap();
+        let output = program().args(words).stderr(full).output().unwrap();
+        assert_eq!(said(&output).1, status, "{words:?}");
+    }
 }
 
 #[test]

@@ -1,6 +1,8 @@
 //! Reading through the safe interface: cases of document 01, the lending reader, work buffers.
 
-use streamvault::{header, read, references, sys, Content, Encoding, Id, Kind, Reader, Record, Reference, Version};
+use streamvault::{
+    header, read, references, sys, Content, Encoding, Id, Kind, Meter, Reader, Record, Reference, Version,
+};
 
 /// A tag of this edition and these flags around frames.
 fn tag(edition: u8, flags: u8, frames: &[u8]) -> Vec<u8> {
@@ -61,6 +63,19 @@ fn the_fields_of_a_header() {
     let found = header(b"ID3\x03\0\xC0\0\0\x01\0\0\0\0\x0A\0\0").unwrap();
     assert_eq!((found.version, found.flags, found.size, found.ext), (Version::Id3v23, 0xC0, 128, 10));
     assert_eq!(found.tag_len(), 138);
+}
+
+#[test]
+fn a_reader_and_a_meter_have_the_header_of_their_tag() {
+    let extended = [&b"\0\0\0\x06\0\0"[..], &frame(b"PRIV", 0, b"x")].concat();
+    for tag in [tag(2, 0, b""), tag(3, 0x40, &extended), whole_tag(), tag(4, 0x80, &[0; 300])] {
+        let want = header(&tag).unwrap();
+        let mut reader = Reader::open(&tag, Vec::new()).unwrap();
+        assert_eq!(reader.header(), want);
+        while reader.next_frame().is_some() {}
+        assert_eq!(reader.header(), want);
+        assert_eq!(Meter::open(&tag, Vec::new()).unwrap().header(), want);
+    }
 }
 
 // ---- the five kinds

@@ -5,7 +5,8 @@ mod common;
 use common::Numbers;
 use std::hash::{DefaultHasher, Hash, Hasher};
 use streamvault::{
-    read, references, sys, Content, Encoding, Frame, Id, Mode, Reader, Record, Reference, Table, Version, Writer,
+    read, references, sys, Content, Encoding, Frame, Id, Mode, Reader, Record, Reference, Refusal, Table, Version,
+    Writer,
 };
 
 const VERSIONS: [Version; 3] = [Version::Id3v22, Version::Id3v23, Version::Id3v24];
@@ -44,9 +45,9 @@ fn records(version: Version) -> Vec<Record> {
 
 /// A chapter and a table of contents, each with a subframe.
 fn nested(version: Version) -> [Record; 2] {
-    let mut inner = Writer::new(version, Mode::Off);
+    let mut inner = Writer::new(version);
     inner.add(b"TIT2", &Content::Text { encoding: Encoding::Latin1, text: b"inner" }).unwrap();
-    let run = inner.finish(0).unwrap()[10..].to_vec();
+    let run = inner.frames().to_vec();
     let chapter = Content::Chapter {
         element: b"c1".to_vec(),
         start_time: u32::MAX,
@@ -66,7 +67,7 @@ fn nested(version: Version) -> [Record; 2] {
 }
 
 fn written(version: Version, mode: Mode, records: &[Record], padding: usize) -> Vec<u8> {
-    let mut writer = Writer::new(version, mode);
+    let mut writer = Writer::new(version).mode(mode);
     for record in records {
         let before = writer.used();
         let bytes = writer.add_record(record).unwrap();
@@ -115,12 +116,12 @@ fn a_table_with_bits_left_over_is_read_back_equal() {
     let packed_and_stored = [(&b"\xA5\xC3\x01\xFF"[..], &b"\xA5\xC3\x01"[..]), (b"\xA5\xCF", b"\xA5\xC0")];
     for version in VERSIONS {
         for (packed, stored) in packed_and_stored {
-            let given = table_record(version, (4, 8), packed);
-            let back = read(&written(version, Mode::Standard, &[given.clone()], 0)).unwrap();
+            let given = [table_record(version, (4, 8), packed)];
+            let back = read(&written(version, Mode::Standard, &given, 0)).unwrap();
             let Content::Table { packed: bytes, .. } = &back[0].content else { panic!("a table is read") };
             assert_eq!(bytes, stored);
-            assert_eq!(back, [given.clone()]);
-            assert_eq!(hash_of(&back[0]), hash_of(&given));
+            assert_eq!(back, given);
+            assert_eq!(hash_of(&back[0]), hash_of(&given[0]));
         }
     }
 }
@@ -206,7 +207,7 @@ fn frames_are_copied_from_tag_to_tag() {
     for version in VERSIONS {
         let tag = written(version, Mode::Standard, &records(version), 0);
         let mut reader = Reader::open(&tag, Vec::new()).unwrap();
-        let mut writer = Writer::new(version, Mode::Off);
+        let mut writer = Writer::new(version);
         while let Some(frame) = reader.next_frame() {
             writer.add_frame(&frame.unwrap()).unwrap();
         }
@@ -219,7 +220,7 @@ fn frames_are_copied_from_tag_to_tag() {
 #[test]
 fn unsynchronising_by_mode() {
     let stored = |mode, body: &[u8]| {
-        let mut writer = Writer::new(Version::Id3v24, mode);
+        let mut writer = Writer::new(Version::Id3v24).mode(mode);
         writer.add(b"PRIV", &Content::Raw { body }).unwrap();
         writer.finish(0).unwrap()[20..].to_vec()
     };
@@ -240,10 +241,10 @@ fn unsynchronising_by_mode() {
 #[test]
 fn headers_padding_and_flags() {
     let body = Content::Raw { body: b"x" };
-    let mut writer = Writer::new(Version::Id3v22, Mode::Off);
+    let mut writer = Writer::new(Version::Id3v22);
     assert_eq!(writer.add(b"UFI", &body), Ok(7));
     assert_eq!(writer.finish(2).unwrap(), b"ID3\x02\0\0\0\0\0\x09UFI\0\0\x01x\0\0");
-    let mut writer = Writer::new(Version::Id3v24, Mode::Crate);
+    let mut writer = Writer::new(Version::Id3v24).mode(Mode::Crate);
     assert_eq!(writer.add(b"PRIV", &body), Ok(11));
     assert_eq!(writer.finish(0).unwrap(), b"ID3\x04\0\x80\0\0\0\x0BPRIV\0\0\0\x01\0\x02x");
     let mut output = [7; 30];
@@ -254,7 +255,7 @@ fn headers_padding_and_flags() {
 #[test]
 fn a_counter_has_as_many_bytes_as_it_needs() {
     for (counter, bytes) in [(0, 0), (1, 1), (255, 1), (65_280, 2), (1 << 32, 5), (u64::MAX, 8)] {
-        let mut writer = Writer::new(Version::Id3v24, Mode::Off);
+        let mut writer = Writer::new(Version::Id3v24);
         let content = Content::Popularimeter { user: b"", rating: 0, counter };
         assert_eq!(writer.add(b"POPM", &content), Ok(12 + bytes), "{counter}");
     }
@@ -264,7 +265,7 @@ fn a_counter_has_as_many_bytes_as_it_needs() {
 fn a_table_is_packed() {
     let table = Table { bits_for_bytes: 4, bits_for_millis: 8, ..Table::default() };
     let pairs = [Reference { bytes: 0xA, millis: 0x5C }, Reference { bytes: 3, millis: 1 }];
-    let mut writer = Writer::new(Version::Id3v23, Mode::Off);
+    let mut writer = Writer::new(Version::Id3v23);
     writer.add_table(b"MLLT", &table, &pairs).unwrap();
     let want = Content::Table { table, packed: vec![0xA5, 0xC3, 0x01] };
     assert_eq!(read(&writer.finish(0).unwrap()).unwrap()[0].content, want);
@@ -274,7 +275,7 @@ fn a_table_is_packed() {
 
 /// The number that a frame is refused with, and that the writer is then as before.
 fn refused(version: Version, id: &[u8; 4], content: &Content<&[u8]>) -> u32 {
-    let mut writer = Writer::new(version, Mode::Off);
+    let mut writer = Writer::new(version);
     writer.add(b"PRIV", &Content::Raw { body: b"x" }).unwrap();
     let before = writer.finish(0).unwrap();
     let number = writer.add(id, content).unwrap_err().number();
@@ -314,7 +315,7 @@ fn records_are_refused_by_the_table() {
 #[test]
 fn tables_are_refused_by_the_table() {
     let refused = |table: Table, pairs: &[Reference]| {
-        let mut writer = Writer::new(Version::Id3v24, Mode::Off);
+        let mut writer = Writer::new(Version::Id3v24);
         writer.add_table(b"MLLT", &table, pairs).unwrap_err().number()
     };
     let widths = |a, b| Table { bits_for_bytes: a, bits_for_millis: b, ..Table::default() };
@@ -332,7 +333,9 @@ fn refused_each_way(version: Version, record: &Record) -> u32 {
     let Record { id, short, compressed, .. } = *record;
     let frame = Frame { id, at: 0, short, compressed, body: b"", content };
     let mut answers = Vec::new();
-    for mut writer in MODES.into_iter().flat_map(|mode| [Writer::new(version, mode), Writer::altered(version, mode)]) {
+    for mut writer in
+        MODES.into_iter().flat_map(|mode| [false, true].map(|altered| Writer::new(version).mode(mode).altered(altered)))
+    {
         answers.push(writer.add_record(record));
         answers.push(writer.add_frame(&frame));
         if !short && !compressed {
@@ -345,13 +348,16 @@ fn refused_each_way(version: Version, record: &Record) -> u32 {
     number
 }
 
+/// The number that a fault is refused with, and what takes the fault away.
+type Fault<'a> = (u32, &'a dyn Fn(&mut Record));
+
 /// Takes the faults of a record away one by one: it is refused with these numbers in their order.
-fn refused_in_order(version: Version, mut record: Record, faults: &[(u32, &dyn Fn(&mut Record))]) {
+fn refused_in_order(version: Version, mut record: Record, faults: &[Fault<'_>]) {
     for (number, mend) in faults {
         assert_eq!(refused_each_way(version, &record), *number, "{record:?}");
         mend(&mut record);
     }
-    assert!(Writer::new(version, Mode::Off).add_record(&record).is_ok(), "{record:?}");
+    assert!(Writer::new(version).add_record(&record).is_ok(), "{record:?}");
 }
 
 /// A record with both marks set, under an id that no edition has.
@@ -402,7 +408,7 @@ fn the_first_fault_of_a_table_is_the_librarys_to_say() {
 fn odd_references_come_after_a_wrong_deviation() {
     let refused = |bytes, pairs: &[Reference]| {
         let table = Table { bytes, bits_for_bytes: 2, bits_for_millis: 2, ..Table::default() };
-        Writer::new(Version::Id3v24, Mode::Off).add_table(b"MLLT", &table, pairs).unwrap_err().number()
+        Writer::new(Version::Id3v24).add_table(b"MLLT", &table, pairs).unwrap_err().number()
     };
     let (good, wide) = (Reference { bytes: 3, millis: 1 }, Reference { bytes: 3, millis: 4 });
     assert_eq!(refused(1 << 24, &[good]), sys::SV_WRONG_DEVIATION);
@@ -474,13 +480,13 @@ fn the_first_fault_of_a_chapter_is_the_librarys_to_say() {
 fn what_was_short_or_compressed_is_not_written() {
     let mut record = Record::new(b"PRIV", Content::Raw { body: b"x".to_vec() });
     record.short = true;
-    let mut writer = Writer::new(Version::Id3v23, Mode::Off);
+    let mut writer = Writer::new(Version::Id3v23);
     assert_eq!(writer.add_record(&record).unwrap_err().number(), sys::SV_NOT_WRITABLE);
 }
 
 #[test]
 fn bodies_of_2_2_are_neither_empty_nor_too_long() {
-    let mut writer = Writer::new(Version::Id3v22, Mode::Off);
+    let mut writer = Writer::new(Version::Id3v22);
     let empty = writer.add(b"UFI", &Content::Raw { body: b"" }).unwrap_err();
     assert_eq!(empty.number(), sys::SV_EMPTY_BODY);
     let long = vec![1; 1 << 24];
@@ -491,7 +497,7 @@ fn bodies_of_2_2_are_neither_empty_nor_too_long() {
 
 #[test]
 fn padding_that_is_too_long_is_refused_without_room_for_it() {
-    let writer = Writer::new(Version::Id3v24, Mode::Off);
+    let writer = Writer::new(Version::Id3v24);
     for padding in [1 << 28, usize::MAX] {
         assert_eq!(writer.finish(padding).unwrap_err().number(), sys::SV_TOO_LONG);
     }
@@ -500,7 +506,7 @@ fn padding_that_is_too_long_is_refused_without_room_for_it() {
 
 #[test]
 fn an_output_that_is_too_short_is_refused_and_left_alone() {
-    let writer = Writer::new(Version::Id3v24, Mode::Off);
+    let writer = Writer::new(Version::Id3v24);
     let mut output = [7; 9];
     assert_eq!(writer.finish_in(0, &mut output).unwrap_err().number(), sys::SV_NO_ROOM);
     assert_eq!(output, [7; 9]);
@@ -508,7 +514,7 @@ fn an_output_that_is_too_short_is_refused_and_left_alone() {
 
 #[test]
 fn an_altered_file_loses_frames() {
-    let mut writer = Writer::altered(Version::Id3v24, Mode::default());
+    let mut writer = Writer::new(Version::Id3v24).altered(true);
     let text = Content::Text { encoding: Encoding::Latin1, text: b"7" };
     assert_eq!(writer.add(b"TLEN", &text), Ok(0));
     assert_eq!(writer.add(b"TIT2", &text), Ok(12));
@@ -517,11 +523,88 @@ fn an_altered_file_loses_frames() {
     assert_eq!(read(&writer.finish(0).unwrap()).unwrap().len(), 1);
 }
 
+// ---- how a writer is begun
+
+/// Which of FF 00, FF E0 are unsynchronised, and whether TLEN is left out.
+fn begun_as(mut writer: Writer) -> (bool, bool, bool) {
+    let version = writer.version();
+    let text = Content::Text { encoding: Encoding::Latin1, text: b"7" };
+    let left_out = writer.add(id(version, b"TLE", b"TLEN"), &text).unwrap() == 0;
+    writer.add(id(version, b"UFI", b"PRIV"), &Content::Raw { body: b"\xFF\x00\xFF\xE0" }).unwrap();
+    let tag = writer.finish(0).unwrap();
+    let has = |bytes: &[u8]| tag.windows(bytes.len()).any(|part| part == bytes);
+    (has(b"\xFF\x00\x00"), has(b"\xFF\x00\xE0"), left_out)
+}
+
+#[test]
+fn a_new_writer_has_mode_off_and_is_not_altered() {
+    for version in VERSIONS {
+        assert_eq!(begun_as(Writer::new(version)), (false, false, false), "{version}");
+    }
+}
+
+#[test]
+fn mode_and_mark_are_set_in_any_order_and_the_last_counts() {
+    for version in VERSIONS {
+        let new = || Writer::new(version);
+        assert_eq!(begun_as(new().mode(Mode::Crate)), (true, false, false), "{version}");
+        assert_eq!(begun_as(new().altered(true)), (false, false, true), "{version}");
+        assert_eq!(begun_as(new().mode(Mode::Standard).altered(true)), (true, true, true), "{version}");
+        assert_eq!(begun_as(new().altered(true).mode(Mode::Standard)), (true, true, true), "{version}");
+        let last = new().altered(true).mode(Mode::Standard).altered(false).mode(Mode::Off);
+        assert_eq!(begun_as(last), (false, false, false), "{version}");
+    }
+}
+
+/// Writers of 2.4 that were told another mode or mark after a frame was added, or left out.
+fn told_too_late() -> Vec<Writer> {
+    let text = Content::Text { encoding: Encoding::Latin1, text: b"7" };
+    let mut one = Writer::new(Version::Id3v24);
+    one.add(b"TIT2", &text).unwrap();
+    let mut none = Writer::new(Version::Id3v24).altered(true);
+    assert_eq!(none.add(b"TLEN", &text), Ok(0));
+    let late = |writer: Writer| {
+        let (one, two) = (writer.clone(), writer.clone());
+        [writer.mode(Mode::Standard), one.mode(Mode::Off), two.altered(false)]
+    };
+    late(one).into_iter().chain(late(none)).collect()
+}
+
+#[test]
+fn after_the_first_frame_mode_and_mark_stay() {
+    for mut writer in told_too_late() {
+        let used = writer.used();
+        assert_eq!(writer.add(b"PRIV", &Content::Raw { body: b"x" }), Err(Refusal::UNKNOWN_VERSION));
+        assert_eq!(writer.finish(0), Err(Refusal::UNKNOWN_VERSION));
+        assert_eq!((writer.version(), writer.used()), (Version::Id3v24, used));
+        let again = writer.altered(true).mode(Mode::Off);
+        assert_eq!(again.finish(0), Err(Refusal::UNKNOWN_VERSION));
+    }
+}
+
+#[test]
+fn a_frame_that_was_refused_does_not_count() {
+    let mut writer = Writer::new(Version::Id3v24);
+    assert_eq!(writer.add(b"abcd", &Content::Raw { body: b"" }), Err(Refusal::WRONG_ID));
+    assert_eq!(begun_as(writer.mode(Mode::Standard).altered(true)), (true, true, true));
+}
+
+#[test]
+fn the_frames_of_a_writer_are_what_it_collected() {
+    let mut writer = Writer::new(Version::Id3v23).mode(Mode::Standard);
+    assert!(writer.frames().is_empty());
+    writer.add(b"PRIV", &Content::Raw { body: b"\xFF\xE0" }).unwrap();
+    assert_eq!(writer.frames(), b"PRIV\0\0\0\x02\0\0\xFF\xE0");
+    let mut off = Writer::new(Version::Id3v23);
+    off.add(b"PRIV", &Content::Raw { body: b"\xFF\xE0" }).unwrap();
+    assert_eq!(off.frames(), &off.finish(0).unwrap()[10..]);
+}
+
 #[test]
 fn large_bodies_grow_the_buffers() {
     let body = [0xFF, 0xE0].repeat(100_000);
     for version in [Version::Id3v23, Version::Id3v24] {
-        let mut writer = Writer::new(version, Mode::Standard);
+        let mut writer = Writer::new(version).mode(Mode::Standard);
         for _ in 0..3 {
             writer.add(b"PRIV", &Content::Raw { body: &body }).unwrap();
         }

@@ -12,7 +12,7 @@ fn id(version: Version, three: &[u8; 3], four: &[u8; 4]) -> Id {
 
 /// As a box leaves it: some texts, a popularimeter, a private frame (in 2.2 an identifier).
 pub fn box_tag(version: Version, mode: Mode, user: &[u8], counter: u64) -> Vec<u8> {
-    let mut writer = Writer::new(version, mode);
+    let mut writer = Writer::new(version).mode(mode);
     let text = |text| Content::Text { encoding: Encoding::Latin1, text };
     writer.add(id(version, b"TT2", b"TIT2"), &text(&b"A song of some length"[..])).unwrap();
     writer.add(id(version, b"TP1", b"TPE1"), &text(b"Somebody")).unwrap();
@@ -39,7 +39,7 @@ const TEXTS: [(&[u8; 3], &[u8; 4]); 10] = [
 
 /// As a shop sells it: ten texts in UTF-16, a comment, a picture of 4 KiB, and a popularimeter.
 pub fn sold_tag(version: Version, user: &[u8], counter: u64) -> Vec<u8> {
-    let mut writer = Writer::new(version, Mode::Off);
+    let mut writer = Writer::new(version);
     for (three, four) in TEXTS {
         let text = "\u{FEFF}17 Some words of it".encode_utf16().flat_map(u16::to_le_bytes).collect::<Vec<u8>>();
         writer.add(id(version, three, four), &Content::Text { encoding: Encoding::Utf16, text }).unwrap();

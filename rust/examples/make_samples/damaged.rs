@@ -29,7 +29,7 @@ type Named = Vec<(&'static str, Vec<u8>)>;
 
 /// A tag with a title, a popularimeter, a picture, another popularimeter and padding.
 fn song(version: Version, mode: Mode, padding: usize) -> Result<Vec<u8>, Refusal> {
-    let mut writer = Writer::new(version, mode);
+    let mut writer = Writer::new(version).mode(mode);
     add_title(&mut writer, "Song")?;
     add_popularimeter(&mut writer, b"room 1", 7)?;
     writer.add(id(version, b"PIC", b"APIC"), &Content::Raw { body: picture(version) })?;
@@ -50,7 +50,7 @@ fn place(tag: &[u8], number: usize) -> Result<usize, Refusal> {
     for _ in 0..=number {
         at = reader.next_frame().expect("a song has this frame")?.at;
     }
-    Ok(10 + at as usize)
+    Ok(10 + at)
 }
 
 /// An upload that stopped, at each sort of place.

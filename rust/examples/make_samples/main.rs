@@ -67,7 +67,7 @@ fn id(version: Version, three: &[u8; 3], four: &[u8; 4]) -> Id {
 
 /// A tag with a title and popularimeters.
 fn tag(version: Version, mode: Mode, title: &str, users: &[(&[u8], u64)]) -> Result<Vec<u8>, Refusal> {
-    let mut writer = Writer::new(version, mode);
+    let mut writer = Writer::new(version).mode(mode);
     add_title(&mut writer, title)?;
     for &(user, counter) in users {
         add_popularimeter(&mut writer, user, counter)?;

@@ -1,4 +1,4 @@
-//! What several tests use: running programs, a folder of one's own, and a generator of numbers.
+//! What several tests use: running and compiling programs, a folder of one's own, and a generator of numbers.
 #![allow(dead_code)]
 
 use std::fs;
@@ -36,6 +36,47 @@ pub fn folder(name: &str) -> PathBuf {
     }
     fs::create_dir_all(&folder).unwrap();
     folder
+}
+
+/// The languages that the C header is for.
+#[derive(Clone, Copy, Debug)]
+pub enum Language {
+    C99,
+    Cplusplus11,
+}
+
+impl Language {
+    pub const ALL: [Language; 2] = [Language::C99, Language::Cplusplus11];
+
+    /// The compiler for x86-64: what `CC` or `CXX` names, else the usual one.
+    fn compiler(self) -> String {
+        let (variable, usual) = match self {
+            Language::C99 => ("CC", "cc"),
+            Language::Cplusplus11 => ("CXX", "c++"),
+        };
+        std::env::var(variable).unwrap_or_else(|_| usual.to_string())
+    }
+
+    fn words(self) -> [&'static str; 3] {
+        match self {
+            Language::C99 => ["-std=c99", "-x", "c"],
+            Language::Cplusplus11 => ["-std=c++11", "-x", "c++"],
+        }
+    }
+}
+
+/// Compiles sources with the header and the archive to a program, with every warning an error.
+pub fn compile(language: Language, sources: &[PathBuf], program: &Path) {
+    let done = Command::new(language.compiler())
+        .args(["-O2", "-Wall", "-Wextra", "-Werror", "-pedantic", "-I"])
+        .arg(root().join("include"))
+        .args(language.words())
+        .args(sources)
+        .args(["-x", "none", env!("STREAMVAULT_ARCHIVE"), "-o"])
+        .arg(program)
+        .output()
+        .unwrap_or_else(|error| panic!("{}, which CC or CXX can name: {error}", language.compiler()));
+    assert!(done.status.success(), "{language:?}: {}", String::from_utf8_lossy(&done.stderr));
 }
 
 /// A generator of numbers, the same ones each time: splitmix64.

@@ -205,7 +205,7 @@ fn user(numbers: &mut Numbers) -> Vec<u8> {
 pub fn written(numbers: &mut Numbers) -> Result<(Vec<u8>, Vec<Record>), Refusal> {
     let version = *numbers.one(&[Version::Id3v22, Version::Id3v23, Version::Id3v24]);
     let mode = *numbers.one(&[Mode::Off, Mode::Crate, Mode::Standard]);
-    let mut writer = Writer::new(version, mode);
+    let mut writer = Writer::new(version).mode(mode);
     let mut accepted = Vec::new();
     for _ in 0..numbers.below(6) {
         let record = record(numbers, version);
@@ -270,7 +270,7 @@ fn run(numbers: &mut Numbers, version: Version) -> Vec<u8> {
     if version == Version::Id3v22 || numbers.once_in(2) {
         return Vec::new();
     }
-    let mut writer = Writer::new(version, Mode::Off);
+    let mut writer = Writer::new(version);
     let text = Content::Text { encoding: Encoding::Latin1, text: b"inner" };
     let counter = Content::Popularimeter { user: b"inner", rating: 1, counter: numbers.any() };
     let both = writer.add(b"TIT2", &text).and_then(|_| writer.add(b"POPM", &counter));

@@ -1,6 +1,7 @@
 //! The words of the command line.
 
-use std::ffi::OsString;
+use crate::show;
+use std::ffi::{OsStr, OsString};
 use std::path::PathBuf;
 
 /// What is printed where the words make no command.
@@ -20,9 +21,10 @@ streamvault sum [--csv | --json] [--jobs N] PATH...
     - Each whole popularimeter of the top level counts, also several in one file.
       Those inside chapters do not.
     - A file that is reached by two names counts once. Links to files are
-      followed, links to folders below the paths are not.
+      followed, links to folders below the paths are not. What is neither a file
+      nor a folder, as a pipe, is passed over there.
 
-    All that may be missing from the sum is listed, and the exit status is then 1:
+    All that may be missing from the sum is listed, and the exit status is not 0:
 
     - A refused tag, with the number and its meaning.
     - A cut tag: one with fewer bytes than its header says, or with a frame that
@@ -34,6 +36,8 @@ streamvault sum [--csv | --json] [--jobs N] PATH...
     - A further tag, which is not summed: directly behind the first one, or at the
       end of the file, where the footer of a 2.4 tag stands last or before an
       ID3v1 tag. Nothing is looked for elsewhere.
+    - A link to a folder that is not summed under another name. It can be named as
+      one of the paths.
     - A file or a folder that cannot be read, or that became shorter meanwhile.
 
     What was whole before a refusal or a cut counts, and the list says how many
@@ -42,22 +46,37 @@ streamvault sum [--csv | --json] [--jobs N] PATH...
 
     A user is printed as it is where its bytes are printable ASCII. Any other user,
     an empty one, and one that begins with hex: are printed as hex: and the bytes
-    in hexadecimal.
+    in hexadecimal. In the list of what may be missing a path has escapes: \\xE9 for
+    a byte that is not UTF-8, \\u{1b} and the like for characters that do not show,
+    \\\\ for a backslash.
 
     --csv     one line for each user; all that may be missing goes to standard
-              error
+              error. A user that a spreadsheet would take for a formula (the first
+              character other than a space is = + - or @) is printed as hex: too.
     --json    one object with everything; sums are strings, since they can be too
-              large for a number
+              large for a number. A path that is not UTF-8, or begins with hex:, is
+              hex: and its bytes in hexadecimal.
     --jobs N  N threads read the files, 1 to 1024; as many as there are cores if it
               is not given. What is printed is the same with any number.
 
 streamvault list FILE
 
-    Lists the header and the frames of the top level of one tag, of any length.
-    FILE may be - for standard input. Users are in hexadecimal, - for an empty one.
+    Lists the header and the frames of the top level of the tag at the front of the
+    file, of any length. FILE may be - for standard input. Users are in hexadecimal,
+    - for an empty one. An id is printed as its bytes; on a terminal it has escapes,
+    as paths have.
 
-Exit status: 0 all was read to its end; 1 something was refused or not readable,
-or (sum only) may be missing from the sum; 2 bad usage.
+    A refusal is the last line. What else sum would list of this tag is said on
+    standard error. Further tags are not looked for.
+
+Exit status:
+
+    0  all was read to its end, and printed
+    1  something was refused or cut, or may be missing from the sum or the list;
+       or not all could be printed
+    2  bad usage
+    3  a file or a folder could not be read, whatever else was listed: make it
+       readable and run again
 ";
 
 /// How a sum is printed.
@@ -96,7 +115,7 @@ pub fn parse(words: &[OsString]) -> Result<Command, String> {
         Some("--version" | "-V") => Ok(Command::Version),
         Some("sum") => sum(rest),
         Some("list") => list(rest),
-        _ => Err(format!("{} is no command", first.to_string_lossy())),
+        _ => Err(format!("{} is no command", shown(first))),
     }
 }
 
@@ -192,8 +211,13 @@ fn list(words: &[OsString]) -> Result<Command, String> {
     }
 }
 
-fn no_option(option: &OsString) -> String {
-    format!("{} is no option", option.to_string_lossy())
+fn no_option(option: &OsStr) -> String {
+    format!("{} is no option", shown(option))
+}
+
+/// A word for people: it may be the name of a file.
+fn shown(word: &OsStr) -> String {
+    show::escaped(word.as_encoded_bytes())
 }
 
 #[cfg(test)]
@@ -242,5 +266,6 @@ mod tests {
         assert_eq!(parsed(&["sum", "--csv", "--json", "a"]), Err("--csv and --json exclude each other".to_string()));
         assert_eq!(parsed(&["list", "--all", "a"]), Err("--all is no option".to_string()));
         assert_eq!(parsed(&["sum", "--csv"]), Err("sum needs a path".to_string()));
+        assert_eq!(parsed(&["sum", "-\x1b[2J"]), Err("-\\u{1b}[2J is no option".to_string()));
     }
 }

@@ -4,24 +4,24 @@ use crate::show;
 use std::io::{self, Write};
 use streamvault::{header, Content, Frame, Reader, Refusal};
 
-/// Prints the header and the frames of the top level; false where it ends with a refusal.
-pub fn list(tag: &[u8], out: &mut dyn Write) -> io::Result<bool> {
+/// Prints the header and the frames of the top level; false where it ends with a refusal. For a terminal ids are escaped.
+pub fn list(tag: &[u8], terminal: bool, out: &mut dyn Write) -> io::Result<bool> {
     let found = match header(tag) {
         Ok(found) => found,
         Err(refusal) => return refused(refusal, out),
     };
     writeln!(out, "tag {} size {} flags {} ext {}", found.version, found.size, found.flags, found.ext)?;
     match Reader::open(tag, Vec::new()) {
-        Ok(reader) => frames(reader, out),
+        Ok(reader) => frames(reader, terminal, out),
         Err(refusal) => refused(refusal, out),
     }
 }
 
-fn frames(mut reader: Reader<'_, Vec<u8>>, out: &mut dyn Write) -> io::Result<bool> {
+fn frames(mut reader: Reader<'_, Vec<u8>>, terminal: bool, out: &mut dyn Write) -> io::Result<bool> {
     let mut number = 0;
     while let Some(next) = reader.next_frame() {
         match next {
-            Ok(found) => frame(number, &found, out)?,
+            Ok(found) => frame(number, &found, terminal, out)?,
             Err(refusal) => return refused(refusal, out),
         }
         number += 1;
@@ -30,10 +30,14 @@ fn frames(mut reader: Reader<'_, Vec<u8>>, out: &mut dyn Write) -> io::Result<bo
     Ok(true)
 }
 
-/// The line of a frame. Its id is printed as its bytes.
-fn frame(number: u64, frame: &Frame<'_>, out: &mut dyn Write) -> io::Result<()> {
+/// The line of a frame. Its id is printed as its bytes, which a terminal might obey: there they are escaped.
+fn frame(number: u64, frame: &Frame<'_>, terminal: bool, out: &mut dyn Write) -> io::Result<()> {
     write!(out, "frame {number} ")?;
-    out.write_all(frame.id.as_bytes())?;
+    if terminal {
+        write!(out, "{}", show::escaped(frame.id.as_bytes()))?;
+    } else {
+        out.write_all(frame.id.as_bytes())?;
+    }
     let whole = if frame.short { "short" } else { "whole" };
     write!(out, " at {} body {} {} {whole}", frame.at, frame.body.len(), frame.kind())?;
     if let Content::Popularimeter { user, rating, counter } = frame.content {
@@ -53,8 +57,14 @@ mod tests {
     use super::*;
 
     fn listed(tag: &[u8]) -> (bool, String) {
+        let [(ended, text), for_a_terminal] = [false, true].map(|terminal| listed_for(terminal, tag));
+        assert_eq!((ended, &text), (for_a_terminal.0, &for_a_terminal.1));
+        (ended, text)
+    }
+
+    fn listed_for(terminal: bool, tag: &[u8]) -> (bool, String) {
         let mut out = Vec::new();
-        let ended = list(tag, &mut out).unwrap();
+        let ended = list(tag, terminal, &mut out).unwrap();
         (ended, String::from_utf8(out).unwrap())
     }
 
@@ -79,6 +89,16 @@ frame 1 TT2 at 8 body 3 text short
 end 2
 ";
         assert_eq!(listed(tag), (true, want.to_string()));
+    }
+
+    #[test]
+    fn only_a_terminal_gets_ids_escaped() {
+        for (id, want) in [(&b"\x1b[2J"[..], "\\u{1b}[2J"), (b"A\r\nB", "A\\r\\nB"), (b"\xC2\x9B1m", "\\u{9b}1m")] {
+            let tag = [b"ID3\x04\0\0\0\0\0\x0A", id, b"\0\0\0\0\0\0"].concat();
+            let line = |id: &str| format!("tag 2.4 size 10 flags 0 ext 0\nframe 0 {id} at 0 body 0 raw whole\nend 1\n");
+            assert_eq!(listed_for(false, &tag), (true, line(std::str::from_utf8(id).unwrap())));
+            assert_eq!(listed_for(true, &tag), (true, line(want)));
+        }
     }
 
     #[test]

@@ -15,49 +15,72 @@ use files::Files;
 use progress::Progress;
 use std::ffi::OsString;
 use std::fs::File;
-use std::io::{self, BufWriter, IsTerminal, Write};
+use std::io::{self, BufWriter, ErrorKind, IsTerminal, Write};
 use std::num::NonZero;
+use std::os::fd::AsFd;
 use std::path::Path;
 use std::process::ExitCode;
 use std::thread;
-use sum::{Sum, TooLarge};
+use sum::{Lack, Sum, TooLarge};
 
-/// Everything was read.
+/// Everything was read and printed.
 const ALL_READ: u8 = 0;
-/// Something was refused or not readable, or may be missing from the sum.
+/// Something was refused or cut, may be missing from the sum, or was not printed.
 const NOT_ALL: u8 = 1;
 /// The words given make no command.
 const BAD_USAGE: u8 = 2;
+/// A file or a folder could not be read, whatever else holds.
+const UNREADABLE: u8 = 3;
 
 fn main() -> ExitCode {
     let words: Vec<OsString> = std::env::args_os().skip(1).collect();
-    let progress = Progress::new(io::stderr().is_terminal());
-    let mut out = BufWriter::new(io::stdout().lock());
-    let status = run(&words, &mut out, &mut io::stderr(), progress);
-    // what reads the output may have gone away: nobody is left to tell
-    let flushed = out.flush();
-    match (status, flushed) {
-        (Ok(status), Ok(())) => ExitCode::from(status),
-        (Err(error), _) | (_, Err(error)) if error.kind() == io::ErrorKind::BrokenPipe => ExitCode::from(NOT_ALL),
-        (Err(error), _) | (_, Err(error)) => {
-            eprintln!("streamvault: {error}");
-            ExitCode::from(NOT_ALL)
+    let status = run_printing(&words).unwrap_or_else(|error| {
+        // what reads the output may have gone away: nobody is left to tell
+        if error.kind() != ErrorKind::BrokenPipe {
+            tell(&mut io::stderr(), &format!("standard output: {error}"));
         }
-    }
+        NOT_ALL
+    });
+    ExitCode::from(status)
 }
 
-/// Does what the words say and gives the exit status. An error is one of writing.
-fn run(words: &[OsString], out: &mut dyn Write, err: &mut dyn Write, progress: Progress) -> io::Result<u8> {
+/// Runs the program on standard output and standard error.
+fn run_printing(words: &[OsString]) -> io::Result<u8> {
+    let standard = io::stdout();
+    let terminal = standard.is_terminal();
+    // as a file, since Stdout takes what cannot be written to for written
+    let mut out = BufWriter::new(File::from(standard.as_fd().try_clone_to_owned()?));
+    let mut outputs = Outputs { out: &mut out, terminal, err: &mut io::stderr() };
+    let status = run(words, &mut outputs, Progress::new(io::stderr().is_terminal()))?;
+    out.flush()?;
+    Ok(status)
+}
+
+/// Where the program prints.
+struct Outputs<'a> {
+    out: &'a mut dyn Write,
+    /// Whether that is a terminal.
+    terminal: bool,
+    err: &'a mut dyn Write,
+}
+
+/// Says something on standard error. Where that takes nothing the status still tells.
+fn tell(err: &mut dyn Write, message: &str) {
+    let _ = writeln!(err, "streamvault: {message}");
+}
+
+/// Does what the words say and gives the exit status. An error is one of writing to standard output.
+fn run(words: &[OsString], to: &mut Outputs<'_>, progress: Progress) -> io::Result<u8> {
     match args::parse(words) {
-        Ok(Command::Help) => write!(out, "{}", args::HELP).map(|()| ALL_READ),
-        Ok(Command::Version) => writeln!(out, "streamvault {}", env!("CARGO_PKG_VERSION")).map(|()| ALL_READ),
+        Ok(Command::Help) => write!(to.out, "{}", args::HELP).map(|()| ALL_READ),
+        Ok(Command::Version) => writeln!(to.out, "streamvault {}", env!("CARGO_PKG_VERSION")).map(|()| ALL_READ),
         Ok(Command::Sum { format, jobs, paths }) => {
             let sum = Sum::over(Files::below(paths), jobs.unwrap_or_else(cores), progress);
-            show_sum(format, sum, out, err)
+            show_sum(format, sum, to)
         }
-        Ok(Command::List { file }) => run_list(&file, out, err),
+        Ok(Command::List { file }) => run_list(&file, to),
         Err(message) => {
-            writeln!(err, "streamvault: {message}\n\n{}", args::USAGE)?;
+            tell(to.err, &format!("{message}\n\n{}", args::USAGE));
             Ok(BAD_USAGE)
         }
     }
@@ -69,39 +92,61 @@ fn cores() -> usize {
 }
 
 /// Prints a sum.
-fn show_sum(format: Format, sum: Result<Sum, TooLarge>, out: &mut dyn Write, err: &mut dyn Write) -> io::Result<u8> {
+fn show_sum(format: Format, sum: Result<Sum, TooLarge>, to: &mut Outputs<'_>) -> io::Result<u8> {
     let sum = match sum {
         Ok(sum) => sum,
         Err(too_large) => {
-            writeln!(err, "streamvault: {too_large}")?;
+            tell(to.err, &too_large.to_string());
             return Ok(NOT_ALL);
         }
     };
     match format {
-        Format::Table => report::table(&sum, out)?,
-        Format::Json => report::json(&sum, out)?,
+        Format::Table => report::table(&sum, to.out)?,
+        Format::Json => report::json(&sum, to.out)?,
         Format::Csv => {
-            report::csv(&sum, out)?;
-            report::problems(&sum, err)?;
+            report::csv(&sum, to.out)?;
+            // where standard error takes nothing the status still tells
+            let _ = report::problems(&sum, to.err);
         }
     }
-    Ok(if sum.all_read() { ALL_READ } else { NOT_ALL })
+    Ok(status(&sum))
 }
 
-/// The listing of one file, or of standard input.
-fn run_list(file: &Path, out: &mut dyn Write, err: &mut dyn Write) -> io::Result<u8> {
-    let mut tag = Vec::new();
-    let read = if file == Path::new("-") {
-        parts::read_front(io::stdin().lock(), 0, &mut tag)
+/// The exit status of a sum. What could not be read wins: it has to be made readable, and all to be summed again.
+fn status(sum: &Sum) -> u8 {
+    if sum.any_unreadable() {
+        UNREADABLE
+    } else if sum.all_read() {
+        ALL_READ
     } else {
-        File::open(file).and_then(|input| parts::read_front(input, 0, &mut tag))
-    };
-    if let Err(error) = read {
-        writeln!(err, "streamvault: {}: {error}", show::path(file))?;
-        return Ok(NOT_ALL);
+        NOT_ALL
     }
-    let ended = list::list(&tag, out)?;
-    Ok(if ended { ALL_READ } else { NOT_ALL })
+}
+
+/// The listing of one file, or of standard input. What it has no lines for is told.
+fn run_list(file: &Path, to: &mut Outputs<'_>) -> io::Result<u8> {
+    let mut tag = Vec::new();
+    if let Err(error) = read_tag(file, &mut tag) {
+        tell(to.err, &format!("{}: {error}", show::path(file)));
+        return Ok(UNREADABLE);
+    }
+    let ended = list::list(&tag, to.terminal, to.out)?;
+    to.out.flush()?;
+    let lacks = sum::lacks_of(&tag);
+    for lack in lacks.iter().filter(|lack| !matches!(lack, Lack::Refused { .. })) {
+        tell(to.err, &format!("{}: {}", show::path(file), report::what(lack)));
+    }
+    Ok(if ended && lacks.is_empty() { ALL_READ } else { NOT_ALL })
+}
+
+/// Reads the tag of a file, or of standard input.
+fn read_tag(file: &Path, tag: &mut Vec<u8>) -> io::Result<()> {
+    let read = if file == Path::new("-") {
+        parts::read_front(io::stdin().lock(), 0, tag)
+    } else {
+        parts::read_front(File::open(file)?, 0, tag)
+    };
+    read.map(|_| ())
 }
 
 #[cfg(test)]
@@ -112,7 +157,8 @@ mod tests {
     fn said(words: &[&str]) -> (u8, String, String) {
         let words: Vec<OsString> = words.iter().map(OsString::from).collect();
         let (mut out, mut err) = (Vec::new(), Vec::new());
-        let status = run(&words, &mut out, &mut err, Progress::new(false)).unwrap();
+        let mut outputs = Outputs { out: &mut out, terminal: false, err: &mut err };
+        let status = run(&words, &mut outputs, Progress::new(false)).unwrap();
         (status, String::from_utf8(out).unwrap(), String::from_utf8(err).unwrap())
     }
 
@@ -121,7 +167,7 @@ mod tests {
         let (status, out, err) = said(&["--help"]);
         assert_eq!((status, err.as_str()), (ALL_READ, ""));
         let parts = ["streamvault sum", "streamvault list", "--csv", "--json", "--jobs N", "inside chapters", "hex:"];
-        for part in parts.into_iter().chain(["0 ", "1 ", "2 "]) {
+        for part in parts.into_iter().chain(["\n    0  ", "\n    1  ", "\n    2  ", "\n    3  "]) {
             assert!(out.contains(part), "{part}");
         }
     }
@@ -136,13 +182,58 @@ mod tests {
     }
 
     #[test]
-    fn what_is_not_there_is_status_1() {
+    fn what_is_not_there_is_status_3() {
         let missing = "no such folder/at all";
         let (status, out, _) = said(&["sum", missing]);
-        assert_eq!(status, NOT_ALL);
+        assert_eq!(status, UNREADABLE);
         assert!(out.contains(missing));
         let (status, out, err) = said(&["list", missing]);
-        assert_eq!((status, out.as_str()), (NOT_ALL, ""));
+        assert_eq!((status, out.as_str()), (UNREADABLE, ""));
         assert!(err.contains(missing));
+    }
+
+    #[test]
+    fn the_status_of_a_sum() {
+        let mut sum = Sum::default();
+        assert_eq!(status(&sum), ALL_READ);
+        sum.list("a", Lack::Compressed);
+        assert_eq!(status(&sum), NOT_ALL);
+        sum.list("b", Lack::Unreadable(io::Error::other("gone")));
+        sum.list("c", Lack::Compressed);
+        assert_eq!(status(&sum), UNREADABLE);
+    }
+
+    /// Takes nothing.
+    struct Full;
+
+    impl Write for Full {
+        fn write(&mut self, _: &[u8]) -> io::Result<usize> {
+            Err(ErrorKind::StorageFull.into())
+        }
+
+        fn flush(&mut self) -> io::Result<()> {
+            Ok(())
+        }
+    }
+
+    #[test]
+    fn what_cannot_be_told_leaves_the_status() {
+        for (words, want) in
+            [(&["sum", "--csv", "no such"][..], UNREADABLE), (&["list", "no such"], UNREADABLE), (&["sum"], BAD_USAGE)]
+        {
+            let words: Vec<OsString> = words.iter().map(OsString::from).collect();
+            let mut outputs = Outputs { out: &mut Vec::new(), terminal: false, err: &mut Full };
+            assert_eq!(run(&words, &mut outputs, Progress::new(false)).unwrap(), want);
+        }
+    }
+
+    #[test]
+    fn what_cannot_be_printed_is_an_error() {
+        for words in [&["sum", "no such"][..], &["sum", "--csv", "no such"], &["sum", "--json", "no such"], &["--help"]]
+        {
+            let words: Vec<OsString> = words.iter().map(OsString::from).collect();
+            let mut outputs = Outputs { out: &mut Full, terminal: false, err: &mut Vec::new() };
+            assert!(run(&words, &mut outputs, Progress::new(false)).is_err());
+        }
     }
 }

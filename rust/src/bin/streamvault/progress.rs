@@ -1,5 +1,6 @@
 //! How far a sum has come, told on standard error where that is a terminal.
 
+use std::io::{self, Write};
 use std::time::{Duration, Instant};
 
 /// How often it is told.
@@ -23,7 +24,7 @@ impl Progress {
     pub fn file(&mut self) {
         self.files += 1;
         if self.shown && self.last.elapsed() >= EVERY {
-            eprint!("\r{} files", self.files);
+            let _ = write!(io::stderr(), "\r{} files", self.files);
             self.last = Instant::now();
             self.told = true;
         }
@@ -34,7 +35,7 @@ impl Progress {
 impl Drop for Progress {
     fn drop(&mut self) {
         if self.told {
-            eprint!("\r\x1b[K");
+            let _ = write!(io::stderr(), "\r\x1b[K");
         }
     }
 }

@@ -45,31 +45,41 @@ pub fn problems(sum: &Sum, out: &mut dyn Write) -> io::Result<()> {
     Ok(())
 }
 
+/// What is wrong, and what the sum has nevertheless.
 fn told(lack: &Lack) -> String {
+    let what = what(lack);
     match lack {
-        Lack::Refused { refusal, counted } => format!("{refusal} ({})", before(*counted)),
-        Lack::Cut { promised, there, short, counted } => {
-            let short = if *short { ", a frame is short" } else { "" };
-            format!("cut: {there} bytes of a tag of {promised} are there{short} ({})", before(*counted))
+        Lack::Refused { counted, .. } | Lack::Cut { counted, .. } => {
+            format!("{what} (popularimeters counted before it: {counted})")
         }
         Lack::Compressed => "a compressed popularimeter, not counted".to_string(),
+        _ => what,
+    }
+}
+
+/// What is wrong.
+pub fn what(lack: &Lack) -> String {
+    match lack {
+        Lack::Refused { refusal, .. } => refusal.to_string(),
+        Lack::Cut { promised, there, short, .. } => {
+            let short = if *short { ", a frame is short" } else { "" };
+            format!("cut: {there} bytes of a tag of {promised} are there{short}")
+        }
+        Lack::Compressed => "a compressed popularimeter, not read".to_string(),
         Lack::Left(Left::CutHeader(at)) => format!("a frame header at byte {at}, cut by the end of the tag, not read"),
         Lack::Left(Left::Id(id, at)) => format!("the id {id} at byte {at}, behind the frames, not read"),
         Lack::Further(Further::Second(at)) => format!("a second tag at byte {at}, not read"),
         Lack::Further(Further::AtEnd(at)) => format!("a tag at the end, its footer at byte {at}, not read"),
+        Lack::Elsewhere => "a link to a folder elsewhere, not followed".to_string(),
         Lack::Unreadable(error) => format!("not readable: {error}"),
     }
-}
-
-fn before(counted: u64) -> String {
-    format!("popularimeters counted before it: {counted}")
 }
 
 /// A line for each user.
 pub fn csv(sum: &Sum, out: &mut dyn Write) -> io::Result<()> {
     writeln!(out, "user,popularimeters,counter")?;
     for (user, total) in &sum.users {
-        let user = show::csv(&show::user(user));
+        let user = show::csv_user(user);
         writeln!(out, "{user},{},{}", total.popularimeters, total.counter)?;
     }
     Ok(())
@@ -93,7 +103,7 @@ pub fn json(sum: &Sum, out: &mut dyn Write) -> io::Result<()> {
     writeln!(out, "  \"further_names\": {},", sum.again)?;
     writeln!(out, "  \"links_not_followed\": {},", sum.links)?;
     let named = |name| list(sum.problems.iter().filter_map(move |problem| item(problem, name)));
-    for name in ["refused", "cut", "compressed", "behind_frames", "further_tags"] {
+    for name in ["refused", "cut", "compressed", "behind_frames", "further_tags", "links_elsewhere"] {
         writeln!(out, "  \"{name}\": {},", named(name))?;
     }
     writeln!(out, "  \"unreadable\": {}", named("unreadable"))?;
@@ -112,7 +122,7 @@ fn list(items: impl Iterator<Item = String>) -> String {
 /// A problem as an object, if it belongs in the list of this name.
 fn item(problem: &Problem, name: &str) -> Option<String> {
     let (list, fields) = listed(&problem.lack);
-    let path = show::json(&problem.path.to_string_lossy());
+    let path = show::json(&show::exact_path(&problem.path));
     (list == name).then(|| format!("{{\"file\": {path}{fields}}}"))
 }
 
@@ -134,6 +144,7 @@ fn listed(lack: &Lack) -> (&'static str, String) {
         Lack::Left(Left::Id(id, at)) => ("behind_frames", format!(", \"found\": \"id {id}\", \"at\": {at}")),
         Lack::Further(Further::Second(at)) => ("further_tags", format!(", \"found\": \"second tag\", \"at\": {at}")),
         Lack::Further(Further::AtEnd(at)) => ("further_tags", format!(", \"found\": \"footer at the end\", \"at\": {at}")),
+        Lack::Elsewhere => ("links_elsewhere", String::new()),
         Lack::Unreadable(error) => ("unreadable", format!(", \"why\": {}", show::json(&error.to_string()))),
     }
 }
@@ -158,6 +169,7 @@ mod tests {
         sum.list("s.mp3", Lack::Left(Left::Id("POPM", 67)));
         sum.list("t.mp3", Lack::Further(Further::Second(70)));
         sum.list("t.mp3", Lack::Further(Further::AtEnd(700)));
+        sum.list("folder", Lack::Elsewhere);
         sum.list("u.mp3", Lack::Unreadable(io::Error::other("gone")));
         sum
     }
@@ -177,6 +189,7 @@ s.mp3: a frame header at byte 66, cut by the end of the tag, not read
 s.mp3: the id POPM at byte 67, behind the frames, not read
 t.mp3: a second tag at byte 70, not read
 t.mp3: a tag at the end, its footer at byte 700, not read
+folder: a link to a folder elsewhere, not followed
 u.mp3: not readable: gone
 "#;
 
@@ -228,6 +241,9 @@ in all 12345683 from 3 popularimeters
   "further_tags": [
     {"file": "t.mp3", "found": "second tag", "at": 70},
     {"file": "t.mp3", "found": "footer at the end", "at": 700}
+  ],
+  "links_elsewhere": [
+    {"file": "folder"}
   ],
   "unreadable": [
     {"file": "u.mp3", "why": "gone"}

@@ -16,7 +16,7 @@ use std::iter::Enumerate;
 use std::path::{Path, PathBuf};
 use std::sync::Mutex;
 use std::thread;
-use streamvault::{Ending, Meter, Refusal};
+use streamvault::{Meter, Refusal, Work};
 
 /// What one user's popularimeters sum to.
 #[derive(Clone, Copy, Debug, Default, PartialEq, Eq)]
@@ -80,6 +80,8 @@ pub enum Lack {
     Left(Left),
     /// It has a further tag.
     Further(Further),
+    /// It is a link to a folder that is not summed.
+    Elsewhere,
     /// It cannot be read.
     Unreadable(io::Error),
 }
@@ -137,6 +139,11 @@ impl Sum {
         self.problems.is_empty()
     }
 
+    /// Whether a file or a folder could not be read.
+    pub fn any_unreadable(&self) -> bool {
+        self.problems.iter().any(|problem| matches!(problem.lack, Lack::Unreadable(_)))
+    }
+
     /// Takes what another thread summed.
     fn join(&mut self, other: Sum) -> Result<(), TooLarge> {
         for (user, total) in &other.users {
@@ -179,15 +186,26 @@ impl Sum {
             self.add(found.user, Total::of(found.counter))?;
             counted += 1;
         }
-        let mut lacks = lacks(tag, &meter.ending(), counted);
-        lacks.extend(left(tag, &meter).map(Lack::Left));
-        Ok(lacks)
+        Ok(lacks(tag, &meter, counted))
     }
 }
 
-/// What the ending of a tag says to be missing.
-fn lacks(tag: &[u8], ending: &Ending, counted: u64) -> Vec<Lack> {
-    let mut lacks = Vec::new();
+/// What may be missing of a tag that is not summed.
+pub fn lacks_of(tag: &[u8]) -> Vec<Lack> {
+    let mut meter = match Meter::open(tag, Vec::new()) {
+        Ok(meter) => meter,
+        Err(refusal) => return vec![Lack::Refused { refusal, counted: 0 }],
+    };
+    let mut counted = 0;
+    while let Some(Ok(_)) = meter.next_popularimeter() {
+        counted += 1;
+    }
+    lacks(tag, &meter, counted)
+}
+
+/// What may be missing of a tag, by the meter that went through it.
+fn lacks<W: Work>(tag: &[u8], meter: &Meter<'_, W>, counted: u64) -> Vec<Lack> {
+    let (mut lacks, ending) = (Vec::new(), meter.ending());
     if let Some(refusal) = ending.refusal {
         lacks.push(Lack::Refused { refusal, counted });
     }
@@ -198,6 +216,7 @@ fn lacks(tag: &[u8], ending: &Ending, counted: u64) -> Vec<Lack> {
     if ending.compressed {
         lacks.push(Lack::Compressed);
     }
+    lacks.extend(left(tag, meter).map(Lack::Left));
     lacks
 }
 
@@ -233,6 +252,10 @@ impl Worker {
                 Met::File(path) => self.file(order, path)?,
                 Met::Again => self.sum.again += 1,
                 Met::Link => self.sum.links += 1,
+                Met::Elsewhere(path) => {
+                    self.sum.links += 1;
+                    self.lacking(order, path, vec![Lack::Elsewhere]);
+                }
                 Met::Unreadable(path, error) => self.lacking(order, path, vec![Lack::Unreadable(error)]),
             }
         }
@@ -295,7 +318,7 @@ mod tests {
 
     /// A tag with these popularimeters.
     fn tag(version: Version, users: &[(&[u8], u64)]) -> Vec<u8> {
-        let mut writer = Writer::new(version, Mode::Standard);
+        let mut writer = Writer::new(version).mode(Mode::Standard);
         for &(user, counter) in users {
             let content = Content::Popularimeter { user, rating: 0, counter };
             let id = if version == Version::Id3v22 { b"POP".into() } else { streamvault::Id::from(b"POPM") };
@@ -405,7 +428,7 @@ mod tests {
         let run = &run[..run.len() - 4];
         let chapter =
             Content::Chapter { element: &b"c"[..], start_time: 0, end_time: 0, start_offset: 0, end_offset: 0, run };
-        let mut writer = Writer::new(Version::Id3v23, Mode::Off);
+        let mut writer = Writer::new(Version::Id3v23);
         writer.add(b"CHAP", &chapter).unwrap();
         let (sum, lacks) = sum_of(&[&writer.finish(0).unwrap()]);
         assert_eq!((sum.tags, sum.all), (1, Total::default()));
