@@ -50,7 +50,7 @@ const NO_MODE: u64 = u64::MAX;
 impl Writer {
     /// Begins a writer with mode [`Off`](Mode::Off), for a file that is not altered.
     pub fn new(version: Version) -> Writer {
-        let words = begun(|words| calls::begin(version.edition().into(), SV_MODE_OFF, 0, words));
+        let words = begun(|words| calls::begin_plain(version.edition().into(), words));
         Writer { words, buffer: Vec::new(), added: false }
     }
 

@@ -91,7 +91,7 @@ fn what_is_written_is_read_back_in_every_edition_and_mode() {
 #[test]
 fn a_plain_writer_is_one_with_the_mode_off() {
     for version in VERSIONS {
-        let mut plain = Writer::plain(version);
+        let mut plain = Writer::new(version);
         for record in &records(version) {
             plain.add_record(record).unwrap();
         }
