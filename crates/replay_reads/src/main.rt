@@ -1,4 +1,4 @@
-// Lists tags to which the answers of the crate id3 were recorded: rust/compare tells how.
+// Lists tags to which the answers of the crate id3 were recorded: compare tells how.
 fn main() {
     show::cases::run();
 }

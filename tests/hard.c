@@ -3,7 +3,7 @@
  * so that a read or a write outside it is seen.
  *
  *     rt staticlib capi
- *     cc -std=c99 -g -Iinclude examples/hard.c target/staticlib/libcapi.a -o hard
+ *     cc -std=c99 -g -Iinclude tests/hard.c target/staticlib/libcapi.a -o hard
  *     valgrind --error-exitcode=1 ./hard 100000
  *
  * The numbers are the same in each run. Exit status: 0 every answer was one that the function may give, 1 another was met,

@@ -1,10 +1,10 @@
 #!/usr/bin/env bash
 # Lays the oracle out in a folder where cargo can build it: the crate's source unchanged, the stubs, the harness.
 #
-#   rust/oracle/setup.sh [OUT [SOURCE]]
+#   oracle/setup.sh [OUT [SOURCE]]
 #
 # OUT     the folder to lay it out in; a new temporary one if not given
-# SOURCE  the folder whose src/ is the crate's source; if not given, ../../../shared/docs/src seen from this script
+# SOURCE  the folder whose src/ is the crate's source; if not given, ../../shared/docs/src seen from this script
 #         (that is ../shared/docs/src seen from the repository)
 #
 # Debian's packages of the three crates that it needs are installed if they are not there. The last line printed is the folder.
@@ -12,7 +12,7 @@ set -euo pipefail
 
 here=$(cd "$(dirname "$0")" && pwd)
 out=${1:-}
-source=${2:-$here/../../../shared/docs/src}
+source=${2:-$here/../../shared/docs/src}
 registry=/usr/share/cargo/registry
 
 if [ ! -f "$source/src/stream/tag.rs" ]; then

@@ -1,20 +1,20 @@
 #!/usr/bin/env bash
 # Holds the new library against the crate id3 1.17.2 and against other programs: lays everything out, builds it and runs all.
 #
-#   rust/compare/run.sh                     all: the comparison, then peers.sh, speed.sh and sum.sh
-#   rust/compare/run.sh compare [OPTIONS]   the comparison: 10,000,000 generated tags, every short input and cut, 1,000,000 lists; OPTIONS as in README.md
-#   rust/compare/run.sh read HEX            both answers to one tag
-#   rust/compare/run.sh write LIST          the verdict on one list
-#   rust/compare/run.sh record              chooses questions and writes them with the crate's answers to crates/replay_reads
+#   compare/run.sh                     all: the comparison, then peers.sh, speed.sh and sum.sh
+#   compare/run.sh compare [OPTIONS]   the comparison: 10,000,000 generated tags, every short input and cut, 1,000,000 lists; OPTIONS as in README.md
+#   compare/run.sh read HEX            both answers to one tag
+#   compare/run.sh write LIST          the verdict on one list
+#   compare/run.sh record              chooses questions and writes them with the crate's answers to crates/replay_reads
 #
 #   OUT                  the folder to lay it out in; target/compare if not given
-#   SOURCE               the folder whose src/ is the crate's source; as rust/oracle/setup.sh finds it if not given
+#   SOURCE               the folder whose src/ is the crate's source; as oracle/setup.sh finds it if not given
 #   PACKAGE              the folder of the library's Rust package; rust/ if not given
 #   STREAMVAULT_LIB_DIR  the folder with libcapi.a; if not given, the archive is found or built as rust/build.rs says
 set -euo pipefail
 
 here=$(cd "$(dirname "$0")" && pwd)
-repository=$(cd "$here/../.." && pwd)
+repository=$(cd "$here/.." && pwd)
 out=${OUT:-$repository/target/compare}
 . "$here/env.sh"
 
@@ -43,14 +43,13 @@ fi
 if [ "$1" = compare ]; then
     shift
 fi
-find_rust
-find_emulator
-if [ ${#emulator[@]} = 0 ]; then
+set_up_x86
+if [ ${#runner[@]} = 0 ]; then
     cargo build -j1 --release --quiet --target "$target"
     exec "target/$target/release/compare" "$@"
 fi
 # the crate and the comparison run as they are, and only the library in the emulator
 cargo build -j1 --release --quiet --target "$target" --bin answer
 env -u RUSTC cargo build -j1 --release --quiet --no-default-features --bin compare
-export COMPARE_ANSWERS="${emulator[*]} target/$target/release/answer"
+export COMPARE_ANSWERS="${runner[*]} target/$target/release/answer"
 exec target/release/compare "$@"

@@ -1,8 +1,8 @@
 #!/usr/bin/env bash
 # Holds the listing against other readers and writers of ID3v2 tags, those of Debian's packages python3-mutagen, eyed3, ffmpeg, libid3tag0 and libtagc0:
-# both `streamvault list` and, where `rt` is on the path, the program `listing`. What is not installed and not to be had is left out with a message.
+# both `streamvault list` and, where `rt` is on the path, the program `listing`. What is not installed and not available is left out with a message.
 #
-#   rust/compare/peers.sh
+#   compare/peers.sh
 #
 #   OUT                  the folder to build in; target/peers if not given
 #   PACKAGE              the folder of the library's Rust package; rust/ if not given
@@ -10,17 +10,16 @@
 set -euo pipefail
 
 here=$(cd "$(dirname "$0")" && pwd)
-repository=$(cd "$here/../.." && pwd)
+repository=$(cd "$here/.." && pwd)
 out=${OUT:-$repository/target/peers}
 . "$here/env.sh"
 
-need python3-mutagen eyed3 ffmpeg libid3tag0 libtagc0
-find_rust
-find_emulator
+want python3-mutagen eyed3 ffmpeg libid3tag0 libtagc0
+set_up_x86
 cargo build -j1 --release --quiet --target "$target" --target-dir "$out" --manifest-path "${PACKAGE:-$repository/rust}/Cargo.toml" --bin streamvault
 program=()
-if command -v rt >/dev/null && [ ${#emulator[@]} = 0 ]; then
+if command -v rt >/dev/null && [ ${#runner[@]} = 0 ]; then
     (cd "$repository" && rt check listing) >"$out/listing.log" 2>&1 || { tail "$out/listing.log"; exit 1; }
     program=(--program "$repository/target/bin/listing")
 fi
-exec "${PYTHON:-/usr/bin/python3}" "$here/peers.py" "${program[@]}" "${emulator[@]}" "$out/$target/release/streamvault" list
+exec "${PYTHON:-/usr/bin/python3}" "$here/peers.py" "${program[@]}" "${runner[@]}" "$out/$target/release/streamvault" list

@@ -3,13 +3,13 @@
 # few included; and for adding a 2.4 frame with a raw body of 1 MiB. On any machine with qemu-x86_64 and a C compiler for x86-64; the count is the same in each run. It is no time: what a load or a branch
 # costs is not in it.
 #
-#   rust/compare/count.sh
+#   compare/count.sh
 #
 #   STREAMVAULT_LIB_DIR  the folder with libcapi.a; target/staticlib if not given
 set -euo pipefail
 
 here=$(cd "$(dirname "$0")" && pwd)
-repository=$(cd "$here/../.." && pwd)
+repository=$(cd "$here/.." && pwd)
 library=${STREAMVAULT_LIB_DIR:-$repository/target/staticlib}/libcapi.a
 out=$(mktemp -d)
 trap 'rm -rf "$out"' EXIT
