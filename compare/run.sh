@@ -5,7 +5,7 @@
 #   compare/run.sh compare [OPTIONS]   the comparison: 10,000,000 generated tags, every short input and cut, 1,000,000 lists; OPTIONS as in README.md
 #   compare/run.sh read HEX            both answers to one tag
 #   compare/run.sh write LIST          the verdict on one list
-#   compare/run.sh record              chooses questions and writes them with the crate's answers to crates/replay_reads
+#   compare/run.sh record              chooses questions and writes them with the crate's answers to crates/test_replay
 #
 #   OUT                  the folder to lay it out in; target/compare if not given
 #   SOURCE               the folder whose src/ is the crate's source; as oracle/setup.sh finds it if not given
@@ -37,8 +37,8 @@ lay_out
 cd "$out/compare"
 if [ "$1" = record ]; then
     cargo build -j1 --release --quiet --no-default-features --bin record
-    mkdir -p "$repository/crates/replay_reads"
-    exec target/release/record "$repository/crates/replay_reads/stdin" "$repository/crates/replay_reads/stdout"
+    mkdir -p "$repository/crates/test_replay"
+    exec target/release/record "$repository/crates/test_replay/stdin" "$repository/crates/test_replay/stdout"
 fi
 if [ "$1" = compare ]; then
     shift

@@ -1,4 +1,4 @@
-"""Hand-made frames for the program `frames`: writes crates/frames/stdin (the cases) and crates/frames/stdout (the answers).
+"""Hand-made frames for the program `frames`: writes crates/test_frames/stdin (the cases) and crates/test_frames/stdout (the answers).
 
 Each case is a line of a table below: a name, the edition, the bytes, and the answer stated by hand: a refusal, nothing, or the
 kind with its numbers, names, bytes and marks. A case that does not say `left` states that the room stays untouched. The model is

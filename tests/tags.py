@@ -1,4 +1,4 @@
-"""Whole tags for the program `tags`: writes crates/tags/stdin (the cases) and crates/tags/stdout (the listings).
+"""Whole tags for the program `tags`: writes crates/test_tags/stdin (the cases) and crates/test_tags/stdout (the listings).
 
 Each case is an entry of the table below: a name, the bytes, and the lines of the listing, all of them stated by hand. The model is asked
 too and must agree.

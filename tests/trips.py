@@ -1,4 +1,4 @@
-"""Records there and back for the program `trips`: writes crates/trips/stdin (the cases) and crates/trips/stdout (the answers).
+"""Records there and back for the program `trips`: writes crates/test_trips/stdin (the cases) and crates/test_trips/stdout (the answers).
 
 Each case is one record, written to a tag of its own and read from it. What comes of it is stated by hand in the table below: it comes back
 the same, it is refused with a number, or it is lost, which takes a work buffer that is too short. The model is asked too and must agree;

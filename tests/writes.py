@@ -1,4 +1,4 @@
-"""Cases of writing for the program `writes`: writes crates/writes/stdin (the cases) and crates/writes/stdout (the answers).
+"""Cases of writing for the program `writes`: writes crates/test_writes/stdin (the cases) and crates/test_writes/stdout (the answers).
 
 Each case is an entry of the table below: how a writer is begun, the records that are added, each with its answer stated by hand (the
 frame's bytes or a refusal), and the answer to finishing (the tag's bytes or a refusal). The model is asked too and must agree.

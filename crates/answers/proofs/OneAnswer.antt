@@ -11,7 +11,7 @@ use Rattle.reader.proofs as reader
 use Rattle.meter.proofs as meter
 use Rattle.checks.proofs as checks
 use Rattle.writer.proofs as writer
-use Rattle.listed.proofs as listed
+use Rattle.printout.proofs as listed
 use Rattle.back.proofs as back
 use Rattle.capi.proofs as capi
 use Rattle.answers.specs.OneAnswer.{OneAnswer}

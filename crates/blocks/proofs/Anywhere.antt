@@ -6,7 +6,7 @@ use mathlib.Core.Bool.{Bool, true, false}
 use mathlib.Core.List.{List, [], _++_}
 use lib.ListN.{length, drop}
 use lib.Seq.{slice}
-use Rattle.lists.proofs.Slices.{slice-drop}
+use Rattle.laws.proofs.Slices.{slice-drop}
 use Rattle.format.specs.Header.{isWhole}
 use Rattle.format.specs.Frame.{headOf}
 use Rattle.format.specs.Answers.{headNumber}

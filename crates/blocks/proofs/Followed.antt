@@ -8,7 +8,7 @@ use lib.ListN.{length, take, length-append, length-take}
 use lib.Seq.{slice, take-append-le}
 use lib.Dec.{ltb, leb, eqb}
 use borrow.Author.Tests.{eqb-true, le-leb, ltb-false}
-use Rattle.lists.proofs.Slices.{slice-front}
+use Rattle.laws.proofs.Slices.{slice-front}
 use Rattle.format.specs.Bytes.{pick, first, named, putFront}
 use Rattle.format.specs.Unsynch.{resynchronised}
 use Rattle.format.specs.Numbers.{number, fromSynchsafe}

@@ -9,12 +9,12 @@ use lib.Dec.{eqb}
 use borrow.Author.Tests.{le-ltb, lt-ltb, le-leb, lt-leb, ltb-false}
 use denote.Enum.Declared.{tagOf}
 use types.Run.{OneOf, miss}
-use Rattle.lists.proofs.Bools.{or-false, and-false}
+use Rattle.laws.proofs.Bools.{or-false, and-false}
 use Rattle.format.proofs.Fields.{the-type}
 use Rattle.format.specs.Record.{recOf}
 use Rattle.format.specs.declared.Fields.{Fields}
 use Rattle.format.specs.declared.Heading.{Heading}
-use Rattle.frame.specs.declared.table.Put.{Put}
+use Rattle.frame.specs.declared.table.Unpacked.{Unpacked}
 use Rattle.reader.specs.Reader.{headerOf, openOf, stepOf}
 use Rattle.reader.specs.declared.Headed.{Headed}
 use Rattle.reader.specs.declared.Opened.{Opened}
@@ -155,7 +155,7 @@ module _ (padding : ℕ) (buffer output writer count : List ℕ) where
 
 -- no other kind than a table has references
 pub no-references : (fields : Fields) (rest deviations : List ℕ) → OneOf (0 ∷ 1 ∷ 3 ∷ 4 ∷ 5 ∷ []) (tagOf the-type fields)
-    → referencesOf fields rest deviations ≡ (Put.Numbers 0, deviations)
+    → referencesOf fields rest deviations ≡ (Unpacked.Numbers 0, deviations)
 no-references (Fields.Text e) rest deviations k = refl
 no-references (Fields.Popularimeter r c) rest deviations k = refl
 no-references (Fields.Table f b m v w) rest deviations k = absurd (miss (0 ∷ 1 ∷ 3 ∷ 4 ∷ 5 ∷ []) 2 tt k)
@@ -173,7 +173,7 @@ module _ (words rest deviations count : List ℕ) where
     unfolding svReferences
     references-bad f = rw (e, f)
 
-    pub references-then : {h : Heading} {answer o : Put} {left : List ℕ} → headingOf words ≡ GivenHeading.Good h
+    pub references-then : {h : Heading} {answer o : Unpacked} {left : List ℕ} → headingOf words ≡ GivenHeading.Good h
         → (answer, left) ≡ referencesOf (h .fields) rest deviations → answer ≡ o
         → svReferences words rest deviations count ≡ afterUnpack (o, left) count
     unfolding svReferences

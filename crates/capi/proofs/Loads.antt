@@ -5,7 +5,7 @@ use native.Mathlib.Omega.{arith}
 use mathlib.Core.Bool.{Bool, true, false, _&&_}
 use lib.Dec.{leb, eqb}
 use borrow.Author.Tests.{eqb-true, leb-true, ne-eqb}
-use Rattle.lists.proofs.Bools.{and-true}
+use Rattle.laws.proofs.Bools.{and-true}
 use Rattle.format.specs.Bytes.{pick}
 use Rattle.format.specs.Numbered.{isVersion}
 use Rattle.capi.specs.declared.records.GivenFields.{GivenFields}

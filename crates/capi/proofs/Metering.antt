@@ -8,7 +8,7 @@ use lib.ListN.{length, set, drop}
 use lib.Seq.{sets, drop-cons}
 use lib.Dec.{leb, ltb, eqb}
 use borrow.Author.Tests.{le-ltb, lt-ltb, leb-true, eqb-true, eqb-false, ne-eqb, lt-leb}
-use Rattle.lists.proofs.Bools.{and-true, false-not-true}
+use Rattle.laws.proofs.Bools.{and-true, false-not-true}
 use Rattle.format.proofs.Checks.{of-picked}
 use Rattle.format.specs.Bytes.{pick}
 use Rattle.format.specs.Unsynch.{resynchronised}

@@ -10,7 +10,7 @@ use mathlib.Core.List.{List, []}
 use lib.ListN.{length}
 use lib.Dec.{ltb, leb, eqb}
 use borrow.Author.Tests.{le-ltb, ltb-true, le-leb, lt-leb, leb-true, leb-false, ne-eqb}
-use Rattle.lists.proofs.Bools.{and-true, and-false}
+use Rattle.laws.proofs.Bools.{and-true, and-false}
 use Rattle.format.proofs.Checks.{none-refused, none-else, none-of, first-stops}
 use Rattle.format.specs.Bytes.{pick, first}
 use Rattle.format.specs.Text.{textEnd}
@@ -22,7 +22,7 @@ use Rattle.format.specs.declared.Version.the-variants.{Id3v22, Id3v23, Id3v24}
 use Rattle.format.specs.declared.Fields.{Fields}
 use Rattle.format.specs.declared.Heading.{Heading}
 use Rattle.frame.specs.References.{unpackOf}
-use Rattle.frame.specs.declared.table.Put.{Put}
+use Rattle.frame.specs.declared.table.Unpacked.{Unpacked}
 use Rattle.writer.specs.Writer.{addOf}
 use Rattle.writer.specs.declared.Writer.{Writer}
 use Rattle.writer.specs.declared.Added.{Added}
@@ -306,7 +306,7 @@ module _ (words rest deviations count : List ℕ) (a : 19 ≤ length words) (c :
   unfolding svReferences
   references-by true e =
       rw (le-ltb _ _ a, le-ltb _ _ c, heading-load words, e)
-      (ap (λ (z : Put × List ℕ). afterUnpack z count) (sym (references-capped (plainHeading words .fields) rest deviations)))
+      (ap (λ (z : Unpacked × List ℕ). afterUnpack z count) (sym (references-capped (plainHeading words .fields) rest deviations)))
   references-by false e = rw (le-ltb _ _ a, le-ltb _ _ c, heading-load words, e)
 
   pub references-rows : svReferences words rest deviations count

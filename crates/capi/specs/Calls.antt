@@ -10,7 +10,7 @@ use Rattle.format.specs.Record.{recOf}
 use Rattle.format.specs.declared.Fields.{Fields}
 use Rattle.format.specs.declared.Heading.{Heading}
 use Rattle.frame.specs.References.{unpackOf}
-use Rattle.frame.specs.declared.table.Put.{Put}
+use Rattle.frame.specs.declared.table.Unpacked.{Unpacked}
 use Rattle.reader.specs.Reader.{headerOf, openOf, stepOf}
 use Rattle.reader.specs.declared.Headed.{Headed}
 use Rattle.reader.specs.declared.Opened.{Opened}
@@ -123,18 +123,18 @@ svFinish padding buffer output writer count =
 
 -- ---- sv_references: deviations, count
 
-abbrev pub afterUnpack : Put × List ℕ → List ℕ → Left2
-afterUnpack (Put.Numbers n, deviations) count = (0, deviations, counted n count)
-afterUnpack (Put.Refused k, deviations) count = (k, deviations, counted 0 count)
+abbrev pub afterUnpack : Unpacked × List ℕ → List ℕ → Left2
+afterUnpack (Unpacked.Numbers n, deviations) count = (0, deviations, counted n count)
+afterUnpack (Unpacked.Refused k, deviations) count = (k, deviations, counted 0 count)
 
 -- the deviations of a table; a record of another kind has none
-abbrev pub referencesOf : Fields → List ℕ → List ℕ → Put × List ℕ
-referencesOf (Fields.Text e) rest deviations = (Put.Numbers 0, deviations)
-referencesOf (Fields.Popularimeter r c) rest deviations = (Put.Numbers 0, deviations)
+abbrev pub referencesOf : Fields → List ℕ → List ℕ → Unpacked × List ℕ
+referencesOf (Fields.Text e) rest deviations = (Unpacked.Numbers 0, deviations)
+referencesOf (Fields.Popularimeter r c) rest deviations = (Unpacked.Numbers 0, deviations)
 referencesOf (Fields.Table f b m v w) rest deviations = unpackOf v w rest deviations
-referencesOf (Fields.Chapter a b c d) rest deviations = (Put.Numbers 0, deviations)
-referencesOf (Fields.Contents t o) rest deviations = (Put.Numbers 0, deviations)
-referencesOf Fields.Raw rest deviations = (Put.Numbers 0, deviations)
+referencesOf (Fields.Chapter a b c d) rest deviations = (Unpacked.Numbers 0, deviations)
+referencesOf (Fields.Contents t o) rest deviations = (Unpacked.Numbers 0, deviations)
+referencesOf Fields.Raw rest deviations = (Unpacked.Numbers 0, deviations)
 
 abbrev pub referencesWith : GivenHeading → List ℕ → List ℕ → List ℕ → Left2
 referencesWith GivenHeading.Bad rest deviations count = (21, deviations, counted 0 count)

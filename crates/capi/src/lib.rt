@@ -26,7 +26,7 @@ use format::Fields;
 use format::refusals::NO_ROOM;
 use format::refusals::UNKNOWN_VERSION;
 use format::refusals::WRONG_ID;
-use frame::table::Put;
+use frame::table::Unpacked;
 use frame::table::unpack;
 use meter::MeterOpened;
 use reader::Headed;
@@ -289,7 +289,7 @@ pub extern "C" fn sv_finish(
 }
 
 // Puts the deviations of a table to the front of a buffer that has the room; other fields have none.
-fn references(out: &mut [u32], fields: Fields, rest: &[u8]) -> Put
+fn references(out: &mut [u32], fields: Fields, rest: &[u8]) -> Unpacked
     ensures { λ r. ⌜ (r, now (out .exit)) ≡ referencesOf fields (now (rest .entry)) (now (out .entry)) ⌝ }
 {
     match fields {
@@ -298,7 +298,7 @@ fn references(out: &mut [u32], fields: Fields, rest: &[u8]) -> Put
             bits_for_millis,
             ..
         } => unpack(out, bits_for_bytes, bits_for_millis, rest, 0, rest.len()),
-        _ => Put::Numbers(0),
+        _ => Unpacked::Numbers(0),
     }
 }
 
@@ -323,10 +323,10 @@ pub extern "C" fn sv_references(
     let fields = h.fields;
     let put = references(deviations, fields, rest);
     match put {
-        Put::Numbers(n) => {
+        Unpacked::Numbers(n) => {
             count[0] = n as u64;
             0
         }
-        Put::Refused(k) => k as u32,
+        Unpacked::Refused(k) => k as u32,
     }
 }

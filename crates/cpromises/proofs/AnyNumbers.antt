@@ -9,7 +9,7 @@ use lib.ListN.{length, take, drop, length-take, length-drop}
 use lib.Seq.{slice, take-append-seam}
 use lib.Dec.{ltb, eqb}
 use borrow.Author.Tests.{eqb-true}
-use Rattle.lists.proofs.Slices.{slice-drop}
+use Rattle.laws.proofs.Slices.{slice-drop}
 use Rattle.format.specs.Bytes.{pick, putFront}
 use Rattle.format.specs.Unsynch.{resynchronised}
 use Rattle.format.specs.Header.{editionOf, versionOf, isWhole, headerRefusal, regionStart, regionEnd, regionOf}

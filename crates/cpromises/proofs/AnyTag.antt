@@ -8,7 +8,7 @@ use lib.ListN.{length, take, drop, getD, length-take, length-drop}
 use lib.Seq.{slice, take-append-seam}
 use lib.Dec.{ltb, eqb}
 use borrow.Author.Tests.{eqb-true}
-use Rattle.lists.proofs.Slices.{slice-drop}
+use Rattle.laws.proofs.Slices.{slice-drop}
 use Rattle.format.specs.Bytes.{onlyIf, pick, zeroAt, putFront}
 use Rattle.format.specs.Numbers.{onto, number}
 use Rattle.format.specs.Unsynch.{resync, resynchronised}

@@ -8,7 +8,7 @@ use lib.ListN.{length}
 use lib.Seq.{getD-set-same}
 use lib.Dec.{leb, eqb}
 use borrow.Author.Tests.{le-ltb}
-use Rattle.lists.proofs.Bools.{false-not-true}
+use Rattle.laws.proofs.Bools.{false-not-true}
 use Rattle.format.specs.Record.{recOf}
 use Rattle.format.proofs.Checks.{of-picked}
 use Rattle.writer.specs.Writer.{beginOf, Adding, addOf, Finishing, finishOf}

@@ -7,7 +7,7 @@ use mathlib.Core.List.{List, [], _∷_, _++_}
 use lib.ListN.{length}
 use lib.Dec.{ltb, leb, eqb}
 use borrow.Author.Tests.{eqb-true, leb-true, leb-false, ltb-true, not-false}
-use Rattle.lists.proofs.Bools.{and-true, or-false, false-not-true}
+use Rattle.laws.proofs.Bools.{and-true, or-false, false-not-true}
 use Rattle.format.specs.Bytes.{first, zeroAt, zerosIn}
 use Rattle.format.specs.Ids.{isId, kindOf, kindNumber}
 use Rattle.format.specs.Text.{textEnd}

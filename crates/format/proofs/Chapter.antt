@@ -5,7 +5,7 @@ use native.Mathlib.Omega.{arith}
 use mathlib.Core.List.{List, [], _∷_, _++_}
 use lib.ListN.{length, take, drop, getD}
 use borrow.Author.Tests.{le-leb}
-use Rattle.lists.proofs.Slices.{blocks, block-at, drop-blocks, length-blocks}
+use Rattle.laws.proofs.Slices.{blocks, block-at, drop-blocks, length-blocks}
 use Rattle.format.specs.Bytes.{zeroAt}
 use Rattle.format.specs.Numbers.{number, bytesOf}
 use Rattle.format.specs.Chapter.{timeIn, chapterRun}

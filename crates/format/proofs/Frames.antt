@@ -7,7 +7,7 @@ use mathlib.Core.List.{List, [], _∷_, _++_}
 use lib.ListN.{length, take, drop, length-append, length-drop}
 use lib.Seq.{drop-drop, take-append-seam}
 use borrow.Author.Tests.{le-ltb}
-use Rattle.lists.proofs.Bools.{false-not-true}
+use Rattle.laws.proofs.Bools.{false-not-true}
 use Rattle.format.specs.Bytes.{pick, putFront}
 use Rattle.format.specs.Unsynch.{resynchronised, unsynchronised, isOn}
 use Rattle.format.specs.Ids.{kindOf}

@@ -7,7 +7,7 @@ use mathlib.Core.List.{List, [], _∷_}
 use lib.ListN.{length, take}
 use lib.Dec.{ltb, eqb}
 use borrow.Author.Tests.{eqb-true, ltb-false}
-use Rattle.lists.proofs.Bools.{or-false}
+use Rattle.laws.proofs.Bools.{or-false}
 use Rattle.format.specs.Bytes.{pick, first}
 use Rattle.format.specs.Numbers.{number}
 use Rattle.format.specs.Ids.{idLen}

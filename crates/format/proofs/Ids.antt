@@ -7,7 +7,7 @@ use mathlib.Core.List.{List, [], _∷_}
 use lib.ListN.{length, getD}
 use lib.Dec.{leb, eqb, ltb}
 use borrow.Author.Tests.{ltb-true, leb-true, lt-ltb, ne-eqb}
-use Rattle.lists.proofs.Bools.{and-true}
+use Rattle.laws.proofs.Bools.{and-true}
 use Rattle.format.specs.Numbers.{digits, number, bytesOf}
 use Rattle.format.specs.Ids.{utf8From, isUtf8, idLen, isIdByte, allIdBytes, isId}
 use Rattle.format.specs.declared.Version.{Version}

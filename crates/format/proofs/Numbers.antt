@@ -7,7 +7,7 @@ use mathlib.Core.List.{List, [], _∷_}
 use lib.Arith.{mod-mul, digits-div, digits-mod}
 use lib.Bits.{bitOr, or-shifted}
 use lib.ListN.{length, getD}
-use Rattle.lists.proofs.Parts.{Each}
+use Rattle.laws.proofs.Parts.{Each}
 use Rattle.format.specs.Numbers.{digits, onto, number, bytesOf, synchsafe, fromSynchsafe}
 
 -- ---- digits

@@ -5,7 +5,7 @@ use native.Mathlib.Omega.{arith}
 use mathlib.Core.List.{List, [], _∷_, _++_}
 use lib.ListN.{length, take, drop, length-drop}
 use lib.Seq.{drop-drop, take-take, take-all}
-use Rattle.lists.proofs.Slices.{take-drop-take}
+use Rattle.laws.proofs.Slices.{take-drop-take}
 use Rattle.format.specs.Bytes.{span, part, zeroAt}
 use Rattle.format.specs.Record.{bodyRefusal, runOf, partsOf, contentOf, deviationsOf, Content, text, popularimeter, table, chapter, contents, raw}
 use Rattle.format.specs.Encode.{kindIn, bodyBytes}

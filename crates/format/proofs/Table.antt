@@ -9,8 +9,8 @@ use lib.ListN.{length, take, drop, length-append, length-drop}
 use lib.Seq.{take-at, drop-at, take-add, take-append-add, length-take-le, take-length}
 use lib.Dec.{ltb, leb, eqb}
 use borrow.Author.Tests.{ltb-true, le-ltb, leb-true, eqb-true, eqb-false}
-use Rattle.lists.proofs.Bools.{and-true, false-not-true}
-use Rattle.lists.proofs.Parts.{each-append, each-take, each-drop, each-replicate}
+use Rattle.laws.proofs.Bools.{and-true, false-not-true}
+use Rattle.laws.proofs.Parts.{each-append, each-take, each-drop, each-replicate}
 use Rattle.format.specs.Bytes.{first, span, part, zeros}
 use Rattle.format.specs.Numbers.{digits, onto}
 use Rattle.format.specs.Table.{spread, gathered, filled, pack, unpack, fit, isWidth, widthChecks}

@@ -7,7 +7,7 @@ use mathlib.Core.List.{List, [], _∷_, _++_, append-nil}
 use lib.ListN.{length}
 use lib.Dec.{eqb, leb}
 use borrow.Author.Tests.{eqb-true, leb-false, ne-eqb}
-use Rattle.lists.proofs.Bools.{false-not-true, or-false}
+use Rattle.laws.proofs.Bools.{false-not-true, or-false}
 use Rattle.format.specs.Bytes.{onlyIf, zeros}
 use Rattle.format.specs.Unsynch.{resync, resynchronised, guards, unsync, unsynchronised, isOn, endsFF, NoSync}
 use Rattle.format.specs.declared.Mode.{Mode}

@@ -9,7 +9,7 @@ use lib.ListN.{length, take, drop, getD, length-append}
 use lib.Seq.{take-append-seam, drop-append-add, getD-append-add}
 use lib.Dec.{eqb, eqb·suc-zero}
 use borrow.Author.Tests.{ne-eqb}
-use Rattle.lists.proofs.Cuts.{drop-next}
+use Rattle.laws.proofs.Cuts.{drop-next}
 use Rattle.format.specs.Bytes.{pick, zeroAt, zerosIn}
 use Rattle.format.specs.Chapter.{namesLen}
 use Rattle.format.specs.Encode.{lastOr}

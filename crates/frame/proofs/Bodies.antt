@@ -9,8 +9,8 @@ use lib.ListN.{length, take, drop, getD}
 use lib.Seq.{slice, take-all, take-length}
 use lib.Dec.{eqb, leb}
 use borrow.Author.Tests.{eq-eqb, ne-eqb, le-leb, lt-leb, lt-ltb, le-ltb}
-use Rattle.lists.proofs.Cuts.{length-cut, take-drop}
-use Rattle.lists.proofs.Slices.{slice-drop, slice-cut}
+use Rattle.laws.proofs.Cuts.{length-cut, take-drop}
+use Rattle.laws.proofs.Slices.{slice-drop, slice-cut}
 use Rattle.format.specs.Bytes.{first, span, zeroAt, zerosIn}
 use Rattle.format.specs.Numbers.{number}
 use Rattle.format.specs.Text.{textEnd}

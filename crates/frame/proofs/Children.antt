@@ -7,7 +7,7 @@ use mathlib.Core.List.{List, [], _∷_}
 use lib.ListN.{length, drop, getD}
 use lib.Dec.{eqb, leb}
 use borrow.Author.Tests.{ne-eqb, le-leb, lt-leb}
-use Rattle.lists.proofs.Cuts.{drop-next}
+use Rattle.laws.proofs.Cuts.{drop-next}
 use Rattle.format.specs.Bytes.{pick, zerosIn}
 use Rattle.format.specs.Chapter.{namesLen}
 use Rattle.frame.specs.declared.chapter.Names.{Names}

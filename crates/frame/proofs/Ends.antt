@@ -7,8 +7,8 @@ use mathlib.Core.List.{List, [], _∷_}
 use lib.ListN.{length, drop, getD}
 use lib.Dec.{eqb, eqb·suc-zero}
 use borrow.Author.Tests.{eq-eqb, ne-eqb}
-use Rattle.lists.proofs.Bools.{and-false}
-use Rattle.lists.proofs.Cuts.{drop-next, drop-pair}
+use Rattle.laws.proofs.Bools.{and-false}
+use Rattle.laws.proofs.Cuts.{drop-next, drop-pair}
 use Rattle.format.specs.Bytes.{zeroAt}
 use Rattle.format.specs.Text.{zeroPairAt, trimmed, trimmedPairs, closing, closingPairs}
 

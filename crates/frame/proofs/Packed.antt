@@ -8,9 +8,9 @@ use lib.Bits.{bitAnd, and-mask, mask-lt}
 use lib.Pow.{pow-pos, pow-mono, shl-exact}
 use lib.ListN.{length, take, drop, length-take, length-drop, length-append, take-append-drop}
 use lib.Seq.{slice, take-all, drop-drop, take-append-add, drop-append-add, take-nil, drop-nil}
-use Rattle.lists.proofs.Parts.{each-take, each-drop}
-use Rattle.lists.proofs.Cuts.{take-drop, length-cut}
-use Rattle.lists.proofs.Slices.{take-drop-take}
+use Rattle.laws.proofs.Parts.{each-take, each-drop}
+use Rattle.laws.proofs.Cuts.{take-drop, length-cut}
+use Rattle.laws.proofs.Slices.{take-drop-take}
 use Rattle.format.specs.Numbers.{digits, onto, number}
 use Rattle.format.specs.Table.{spread, gathered}
 use Rattle.format.proofs.Numbers.{Digits, length-digits, onto-digits, onto-above}

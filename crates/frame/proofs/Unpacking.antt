@@ -13,7 +13,7 @@ use Rattle.format.specs.Bytes.{putFront}
 use Rattle.format.specs.Numbers.{onto}
 use Rattle.format.specs.Table.{isWidth, countOf, spread, gathered, unpack}
 use Rattle.format.proofs.Table.{length-gathered}
-use Rattle.frame.specs.declared.table.Put.{Put}
+use Rattle.frame.specs.declared.table.Unpacked.{Unpacked}
 use Rattle.frame.specs.References.{referencesIn, unpackOf}
 use Rattle.frame.proofs.Widths.{Widths}
 use Rattle.frame.proofs.Packed.{gathered-next, gathered-none}
@@ -91,7 +91,7 @@ module _ {o₀ : List ℕ} {v w : ℕ} {b : List ℕ} {n : ℕ} {o : List ℕ} {
 
 -- ---- the answer
 
-pub unpack-refused : (v w : ℕ) (b out : List ℕ) → (isWidth v && isWidth w) ≡ false → _≡_ {A = Put × List ℕ} (Put.Refused 30, out) (unpackOf v w b out)
+pub unpack-refused : (v w : ℕ) (b out : List ℕ) → (isWidth v && isWidth w) ≡ false → _≡_ {A = Unpacked × List ℕ} (Unpacked.Refused 30, out) (unpackOf v w b out)
 unfolding unpackOf
 unpack-refused v w b out h = rw h
 
@@ -113,7 +113,7 @@ module _ (v w : ℕ) (b body : List ℕ) (same : b ≡ body) (out : List ℕ) wh
         le-div-iff-mul-le pos .0 le
 
     module _ (fits : length out < 2 ^ 64) where
-      pub unpack-full : length out / 2 < n → _≡_ {A = Put × List ℕ} (Put.Refused 20, out) (unpackOf v w body out)
+      pub unpack-full : length out / 2 < n → _≡_ {A = Unpacked × List ℕ} (Unpacked.Refused 20, out) (unpackOf v w body out)
       unfolding unpackOf
       unpack-full h =
           let more : length out < length (unpack v w b) = omega (arith, counted-as, length-unpack) in
@@ -128,7 +128,7 @@ module _ (v w : ℕ) (b body : List ℕ) (same : b ≡ body) (out : List ℕ) wh
         all-numbers = ap (λ (j : ℕ). gathered (j * 2) v w (spread 8 8 b)) exact
 
         pub unpack-done : (r : ℕ) (o : List ℕ) → r ≡ n * 2 → o ≡ sets out 0 (gathered (n * 2) v w (spread 8 8 b))
-            → _≡_ {A = Put × List ℕ} (Put.Numbers r, o) (unpackOf v w body out)
+            → _≡_ {A = Unpacked × List ℕ} (Unpacked.Numbers r, o) (unpackOf v w body out)
         unfolding unpackOf
         unpack-done r o er eo =
             let u : List ℕ = unpack v w b in

@@ -5,7 +5,7 @@ use native.Mathlib.Omega.{arith}
 use mathlib.Core.Bool.{Bool, true, false, _&&_}
 use lib.Dec.{leb}
 use borrow.Author.Tests.{leb-true, le-leb, eq-eqb, ne-eqb}
-use Rattle.lists.proofs.Bools.{and-true}
+use Rattle.laws.proofs.Bools.{and-true}
 use Rattle.format.specs.Bytes.{pick, first}
 use Rattle.format.specs.Table.{isWidth, widthChecks}
 

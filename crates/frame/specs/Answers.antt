@@ -3,7 +3,7 @@ use Prim.Native.Nat.{ℕ}
 use mathlib.Core.List.{List, [], _∷_}
 use Rattle.format.specs.declared.Parts.{Parts}
 use Rattle.frame.specs.declared.body.Parsed.{Parsed}
-use Rattle.frame.specs.declared.table.Put.{Put}
+use Rattle.frame.specs.declared.table.Unpacked.{Unpacked}
 
 -- ---- a body: the number, and none or one set of parts
 
@@ -17,10 +17,10 @@ parsedParts (Parsed.Parts p) = p ∷ []
 
 -- ---- all deviations: the number, and the count, which a refused call has as 0
 
-abbrev pub putNumber : Put → ℕ
-putNumber (Put.Numbers n) = 0
-putNumber (Put.Refused k) = k
+abbrev pub putNumber : Unpacked → ℕ
+putNumber (Unpacked.Numbers n) = 0
+putNumber (Unpacked.Refused k) = k
 
-abbrev pub putCount : Put → ℕ
-putCount (Put.Numbers n) = n
-putCount (Put.Refused k) = 0
+abbrev pub putCount : Unpacked → ℕ
+putCount (Unpacked.Numbers n) = n
+putCount (Unpacked.Refused k) = 0

@@ -25,7 +25,7 @@ ghost use Rattle.frame.specs.Bodies.{parsedOf};
 ghost use Rattle.frame.specs.References.{referencesIn, unpackOf};
 
 // How many numbers were put to a buffer, or the number of the refusal.
-pub enum Put {
+pub enum Unpacked {
     Numbers(usize),
     Refused(u8),
 }
@@ -162,16 +162,16 @@ fn put_pairs(out: &mut [u32], v: u8, w: u8, b: &[u8], n: usize) -> usize
 }
 
 // All deviations that the packed bytes of a part hold, two by two, to the front of a buffer that has the room.
-pub fn unpack(out: &mut [u32], v: u8, w: u8, s: &[u8], from: usize, to: usize) -> Put
+pub fn unpack(out: &mut [u32], v: u8, w: u8, s: &[u8], from: usize, to: usize) -> Unpacked
     ensures { λ r. ⌜ (r, now (out .exit)) ≡ unpackOf v w (slice from to (now (s .entry))) (now (out .entry)) ⌝ }
 {
     if sum_of(v, w) == 0 {
-        return Put::Refused(WRONG_WIDTH);
+        return Unpacked::Refused(WRONG_WIDTH);
     }
     let b = part(s, from, to);
     let n = count_in(v, w, b.len());
     if n > out.len() / 2 {
-        return Put::Refused(NO_ROOM);
+        return Unpacked::Refused(NO_ROOM);
     }
-    Put::Numbers(put_pairs(out, v, w, b, n))
+    Unpacked::Numbers(put_pairs(out, v, w, b, n))
 }

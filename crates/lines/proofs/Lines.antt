@@ -7,7 +7,7 @@ use native.Mathlib.Omega.{arith}
 use lib.ListN.{length}
 use lib.Dec.{leb}
 use borrow.Author.Tests.{leb-true, lt-leb}
-use Rattle.lists.proofs.Chains.{sets-out}
+use Rattle.laws.proofs.Chains.{sets-out}
 use Rattle.lines.specs.declared.Placed.{Placed}
 use Rattle.lines.specs.Placed.{placedOf, Room, Wrote}
 

@@ -8,9 +8,9 @@ use mathlib.Core.List.{List, [], _∷_, _++_}
 use lib.ListN.{length, take, drop, getD, length-take, length-drop, take-append-drop}
 use lib.Pow.{pow-add, field, shl-shr}
 use lib.Seq.{slice, take-all, getD-take, length-slice}
-use Rattle.lists.proofs.Parts.{each-take, each-drop}
-use Rattle.lists.proofs.Cuts.{drop-next, length-cut, take-drop}
-use Rattle.lists.proofs.Slices.{slice-drop, take-drop-take}
+use Rattle.laws.proofs.Parts.{each-take, each-drop}
+use Rattle.laws.proofs.Cuts.{drop-next, length-cut, take-drop}
+use Rattle.laws.proofs.Slices.{slice-drop, take-drop-take}
 use Rattle.format.specs.Numbers.{onto, number}
 use Rattle.format.proofs.Numbers.{Digits, onto-digits, digits-onto}
 

@@ -7,7 +7,7 @@ use native.Mathlib.Omega.{arith}
 use mathlib.Core.List.{List, [], _∷_}
 use lib.ListN.{length, take, getD}
 use lib.Seq.{slice, slice-cons, slice-empty, length-slice}
-use Rattle.lists.proofs.Parts.{each-drop, each-take}
+use Rattle.laws.proofs.Parts.{each-drop, each-take}
 use Rattle.format.specs.Numbers.{onto, number, bytesOf, fromSynchsafe}
 use Rattle.format.proofs.Numbers.{Digits, digits-onto}
 use Rattle.loads.specs.Loads.{Little}

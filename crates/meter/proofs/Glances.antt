@@ -10,9 +10,9 @@ use lib.Seq.{slice, getD-drop, getD-take}
 use lib.Bits.{bitAnd, and-high, and-block, or-zero-l}
 use lib.Dec.{ltb, eqb·suc-zero}
 use borrow.Author.Tests.{le-ltb, lt-ltb, lt-leb, ne-eqb}
-use Rattle.lists.proofs.Parts.{each-drop, each-take}
-use Rattle.lists.proofs.Cuts.{length-cut, take-drop}
-use Rattle.lists.proofs.Slices.{slice-drop, take-drop-take}
+use Rattle.laws.proofs.Parts.{each-drop, each-take}
+use Rattle.laws.proofs.Cuts.{length-cut, take-drop}
+use Rattle.laws.proofs.Slices.{slice-drop, take-drop-take}
 use Rattle.format.specs.Bytes.{first, pick}
 use Rattle.format.specs.Numbers.{digits, number}
 use Rattle.format.specs.Unsynch.{resync, resynchronised}

@@ -7,8 +7,8 @@ use mathlib.Core.List.{List, []}
 use lib.ListN.{length, take, drop}
 use lib.Seq.{slice}
 use lib.Dec.{ltb, eqb}
-use Rattle.lists.proofs.Cuts.{length-cut}
-use Rattle.lists.proofs.Slices.{slice-cut}
+use Rattle.laws.proofs.Cuts.{length-cut}
+use Rattle.laws.proofs.Slices.{slice-cut}
 use Rattle.format.specs.Bytes.{pick, putFront}
 use Rattle.format.specs.Unsynch.{resynchronised}
 use Rattle.format.specs.Ids.{kindOf, kindNumber}

@@ -3,7 +3,7 @@ use mathlib.Core.Path.{_≡_, refl}
 use Prim.Native.Nat.{ℕ, zero, suc, _<_}
 use native.Mathlib.Omega.{arith}
 use mathlib.Core.List.{List, [], _∷_}
-use Rattle.lists.proofs.Cuts.{length-cut}
+use Rattle.laws.proofs.Cuts.{length-cut}
 use Rattle.format.specs.declared.Record.{Record}
 use Rattle.walk.specs.Sources.{sourceOf}
 use Rattle.reader.specs.Reader.{stepOf}

@@ -9,7 +9,7 @@ use lib.ListN.{length, take, drop, length-append, length-take}
 use lib.Seq.{sets, sets-eq, length-sets, take-at, take-append-seam}
 use lib.Dec.{leb, ltb, eqb}
 use borrow.Author.Tests.{eqb-true, ltb-false, leb-false, not-false}
-use Rattle.lists.proofs.Bools.{or-false, false-not-true}
+use Rattle.laws.proofs.Bools.{or-false, false-not-true}
 use Rattle.format.specs.Header.{versionOf}
 use Rattle.format.specs.Numbered.{modeOf}
 use Rattle.format.specs.Record.{Rec, Fits}

@@ -8,7 +8,7 @@ use lib.ListN.{length, length-take}
 use lib.Seq.{slice}
 use lib.Dec.{ltb, eqb}
 use borrow.Author.Tests.{eqb-true, not-false}
-use Rattle.lists.proofs.Cuts.{length-cut}
+use Rattle.laws.proofs.Cuts.{length-cut}
 use Rattle.format.specs.Bytes.{pick, putFront}
 use Rattle.format.specs.Unsynch.{resynchronised}
 use Rattle.format.specs.Header.{versionOf, editionOf, headerRefusal, isWhole, sizeOf, regionStart, regionEnd, regionOf}

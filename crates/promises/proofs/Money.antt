@@ -7,7 +7,7 @@ use mathlib.Core.List.{List, [], _∷_, _++_}
 use lib.ListN.{length}
 use lib.Dec.{ltb, eqb}
 use borrow.Author.Tests.{le-ltb, eqb-true, eq-eqb}
-use Rattle.lists.proofs.Bools.{false-not-true, and-true}
+use Rattle.laws.proofs.Bools.{false-not-true, and-true}
 use Rattle.format.specs.Bytes.{pick, putFront}
 use Rattle.format.specs.Unsynch.{resynchronised}
 use Rattle.format.specs.Header.{editionOf, sizeOf, versionOf, isWhole, headerRefusal, regionStart, regionEnd, regionOf}

@@ -6,7 +6,7 @@ use mathlib.Core.Bool.{Bool, true, false}
 use mathlib.Core.List.{List, [], _∷_, _++_, append-assoc}
 use lib.ListN.{length}
 use lib.Dec.{ltb}
-use Rattle.lists.proofs.Bools.{and-true}
+use Rattle.laws.proofs.Bools.{and-true}
 use Rattle.format.specs.Bytes.{zeros, ascii}
 use Rattle.format.specs.Numbers.{digits, bytesOf, synchsafe}
 use Rattle.format.specs.Unsynch.{unsynchronised, NoSync, endsFF}

@@ -9,8 +9,8 @@ use lib.ListN.{length, drop}
 use lib.Seq.{slice, take-append-seam}
 use lib.Dec.{ltb}
 use borrow.Author.Tests.{ltb-false, le-ltb}
-use Rattle.lists.proofs.Bools.{false-not-true}
-use Rattle.lists.proofs.Slices.{front-length}
+use Rattle.laws.proofs.Bools.{false-not-true}
+use Rattle.laws.proofs.Slices.{front-length}
 use Rattle.format.specs.Bytes.{pick, zeros, putFront}
 use Rattle.format.specs.Unsynch.{resync, resynchronised, endsFF}
 use Rattle.format.specs.Encode.{wholeOf, regionBytes, tagOf}

@@ -5,7 +5,7 @@ use native.Mathlib.Omega.{arith}
 use mathlib.Core.Bool.{Bool, true, false}
 use mathlib.Core.List.{List, [], _∷_}
 use lib.ListN.{length, take, replicate}
-use Rattle.lists.proofs.Bools.{false-not-true}
+use Rattle.laws.proofs.Bools.{false-not-true}
 use Rattle.format.specs.Bytes.{first, zeroAt, zerosIn}
 use Rattle.format.specs.Numbers.{digits, onto}
 use Rattle.format.specs.Unsynch.{resync, unsync}

@@ -9,8 +9,8 @@ use lib.ListN.{length, take, drop, length-append, length-take, length-drop}
 use lib.Seq.{slice, take-append-seam}
 use lib.Dec.{ltb}
 use borrow.Author.Tests.{ltb-false}
-use Rattle.lists.proofs.Bools.{false-not-true}
-use Rattle.lists.proofs.Slices.{slice-drop, in-slice, front-length}
+use Rattle.laws.proofs.Bools.{false-not-true}
+use Rattle.laws.proofs.Slices.{slice-drop, in-slice, front-length}
 use Rattle.format.specs.Bytes.{zeros, putFront}
 use Rattle.format.specs.Unsynch.{guards}
 use Rattle.format.specs.Frame.{headLen, headOf}

@@ -8,7 +8,7 @@ use lib.ListN.{length, take, getD, length-take}
 use lib.Seq.{slice}
 use lib.Dec.{ltb, eqb}
 use borrow.Author.Tests.{leb-true, ltb-false, lt-ltb, le-ltb, ne-eqb}
-use Rattle.lists.proofs.Bools.{and-true}
+use Rattle.laws.proofs.Bools.{and-true}
 use Rattle.format.specs.Bytes.{first}
 use Rattle.format.specs.Numbers.{fromSynchsafe}
 use Rattle.format.specs.Header.{editionOf, flagsOf, sizeOf, cutOf, isExtended, extOf, headerChecks, headerRefusal}

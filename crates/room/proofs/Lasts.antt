@@ -12,7 +12,7 @@ use Rattle.reader.specs.declared.Reader.{Reader}
 use Rattle.reader.specs.declared.Opened.{Opened}
 use Rattle.reader.specs.declared.Step.{Step}
 use Rattle.reader.proofs.Opens.{open-refused}
-use Rattle.listed.specs.Lines.{Line, line, headerLine, recordIn, onStep, frameLines, onOpen, openedLines, onHeader, linesOf, textOf}
+use Rattle.printout.specs.Lines.{Line, line, headerLine, recordIn, onStep, frameLines, onOpen, openedLines, onHeader, linesOf, textOf}
 use Rattle.reader.proofs.Numbered.{Stopped, OfStep, step-number, OfOpened, open-stopped}
 use Rattle.promises.specs.Reading.{Reading, ended, refused, unfinished, andRecord, readFrom, readFor, readAll}
 use Rattle.promises.specs.Reading as reading

@@ -8,7 +8,7 @@ use lib.ListN.{length, take, drop, length-take}
 use lib.Seq.{slice}
 use lib.Dec.{ltb, eqb}
 use borrow.Author.Tests.{eqb-true, ltb-true}
-use Rattle.lists.proofs.Cuts.{length-cut}
+use Rattle.laws.proofs.Cuts.{length-cut}
 use Rattle.format.specs.Bytes.{pick, zeroAt}
 use Rattle.format.specs.Unsynch.{resynchronised}
 use Rattle.format.specs.Frame.{headOf}

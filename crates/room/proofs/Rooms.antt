@@ -4,7 +4,7 @@ use Prim.Native.Nat.{ℕ, zero, suc, _+_, _*_, _≤_, _<_}
 use native.Mathlib.Omega.{arith}
 use mathlib.Core.List.{List, [], _∷_}
 use lib.ListN.{length, drop, length-append, length-take}
-use Rattle.lists.proofs.Stores.{sets-in}
+use Rattle.laws.proofs.Stores.{sets-in}
 use Rattle.format.specs.Bytes.{part}
 use Rattle.format.specs.Numbered.{versionNumber}
 use Rattle.format.specs.Record.{bufferOf}
@@ -21,9 +21,9 @@ use Rattle.reader.specs.declared.Opened.{Opened}
 use Rattle.reader.specs.declared.Step.{Step}
 use Rattle.reader.proofs.Refusals.{accepted}
 use Rattle.reader.proofs.Opens.{found}
-use Rattle.listed.specs.Lines.{Line, line, headerLine, recordIn, onStep, frameLines, onOpen, openedLines, onHeader, linesOf, textOf, inputRoom, textRoom}
-use Rattle.listed.specs.Turns.{Outcome, putLines}
-use Rattle.listed.proofs.Texts.{holds, all-put}
+use Rattle.printout.specs.Lines.{Line, line, headerLine, recordIn, onStep, frameLines, onOpen, openedLines, onHeader, linesOf, textOf, inputRoom, textRoom}
+use Rattle.printout.specs.Turns.{Outcome, putLines}
+use Rattle.printout.proofs.Texts.{holds, all-put}
 use Rattle.promises.proofs.Bounds.{ahead, Opens, open-within}
 use Rattle.room.specs.Listings.{Room, WholeText}
 use Rattle.room.proofs.Passing.{step-passed}

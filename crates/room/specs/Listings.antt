@@ -7,8 +7,8 @@ use Rattle.format.specs.Bytes.{putFront}
 use Rattle.format.specs.Listing.{endLine, refusedLine}
 use Rattle.format.specs.Record.{Rec}
 use Rattle.lines.specs.declared.Placed.{Placed}
-use Rattle.listed.specs.Lines.{Line, linesOf, textOf, inputRoom, textRoom}
-use Rattle.listed.specs.Turns.{putLines}
+use Rattle.printout.specs.Lines.{Line, linesOf, textOf, inputRoom, textRoom}
+use Rattle.printout.specs.Turns.{putLines}
 use Rattle.promises.specs.Reading.{Reading, ended, refused, readAll}
 
 -- ---- the last line

@@ -6,11 +6,11 @@ use libc::STDIN_FILENO;
 use libc::STDOUT_FILENO;
 use lines::Placed;
 use lines::refused_line;
-use listed::list;
+use printout::list;
 ghost use mathlib.Core.Path.{_≡_};
 ghost use lib.ListN.{length, replicate};
-ghost use Rattle.listed.specs.Lines.{linesOf, textRoom};
-ghost use Rattle.listed.specs.Turns.{putLines};
+ghost use Rattle.printout.specs.Lines.{linesOf, textRoom};
+ghost use Rattle.printout.specs.Turns.{putLines};
 
 // Writes the line of a refusal.
 fn show_refused(number: u8) {

@@ -9,8 +9,8 @@ use lib.Seq.{slice, sets}
 use lib.Dec.{leb, ltb}
 use borrow.Author.Tests.{leb-true, leb-false, ltb-true, ltb-false, lt-ltb, le-ltb}
 use Rattle.format.specs.Bytes.{pick}
-use Rattle.lists.proofs.Slices.{take-cut, drop-cut}
-use Rattle.lists.proofs.Stores.{sets-in}
+use Rattle.laws.proofs.Slices.{take-cut, drop-cut}
+use Rattle.laws.proofs.Stores.{sets-in}
 use Rattle.unsynch.specs.declared.Put.{Put}
 use Rattle.unsynch.specs.Puts.{Out, putOf, intoOf}
 use Rattle.unsynch.specs.Edits.{stored}

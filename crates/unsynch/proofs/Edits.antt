@@ -8,9 +8,9 @@ use lib.ListN.{length, take, getD}
 use lib.Seq.{slice, length-slice, sets, length-sets}
 use lib.Dec.{eqb, leb, ltb}
 use borrow.Author.Tests.{eqb-true, not-false, le-ltb}
-use Rattle.lists.proofs.Bools.{or-false as both-false, false-not-true, and-true, and-false}
-use Rattle.lists.proofs.Slices.{slice-none, slice-next, slice-front}
-use Rattle.lists.proofs.Stores.{slice-copy}
+use Rattle.laws.proofs.Bools.{or-false as both-false, false-not-true, and-true, and-false}
+use Rattle.laws.proofs.Slices.{slice-none, slice-next, slice-front}
+use Rattle.laws.proofs.Stores.{slice-copy}
 use Rattle.format.specs.Bytes.{pick, onlyIf}
 use Rattle.format.specs.Unsynch.{isOn, resync, guards, unsync}
 use Rattle.format.specs.declared.Mode.{Mode}

@@ -6,8 +6,8 @@ use mathlib.Core.Bool.{Bool, true, false, cond}
 use mathlib.Core.List.{List, _∷_}
 use lib.ListN.{length, getD, take, set, length-set, length-append}
 use lib.Seq.{slice, length-slice, sets, set-set}
-use Rattle.lists.proofs.Bools.{false-not-true}
-use Rattle.lists.proofs.Stores.{take-sets, Storing, begin, lies, same-list, same-buffer, same-place, put, puts, over}
+use Rattle.laws.proofs.Bools.{false-not-true}
+use Rattle.laws.proofs.Stores.{take-sets, Storing, begin, lies, same-list, same-buffer, same-place, put, puts, over}
 use Rattle.format.specs.Bytes.{pick}
 use Rattle.unsynch.specs.declared.loops.How.{How}
 use Rattle.unsynch.specs.Edits.{edited, editedAfter, hitsAfter, stored}

@@ -9,7 +9,7 @@ use lib.Seq.{slice, take-take, take-at, drop-at, length-take-le, take-all}
 use lib.Dec.{ltb}
 use borrow.Rule.Slice.PartMut.{midOf, putMid}
 use borrow.Author.Tests.{ltb-false, eq-eqb, ne-eqb, le-ltb}
-use Rattle.lists.proofs.Slices.{take-cut, drop-cut, slice-before, front-length}
+use Rattle.laws.proofs.Slices.{take-cut, drop-cut, slice-before, front-length}
 use Rattle.format.specs.Bytes.{pick, putFront}
 use Rattle.format.specs.Unsynch.{resynchronised}
 use Rattle.format.specs.Walk.{Out, andThen, behind, insideOf, resyncedOf, bodyOf, walked}

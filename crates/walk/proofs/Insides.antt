@@ -9,7 +9,7 @@ use lib.ListN.{length, drop, getD, drop-of-length-le}
 use lib.Seq.{slice}
 use lib.Dec.{eqb}
 use borrow.Author.Tests.{eqb-true, ne-eqb}
-use Rattle.lists.proofs.Slices.{slice-drop, slice-next}
+use Rattle.laws.proofs.Slices.{slice-drop, slice-next}
 use Rattle.format.specs.Bytes.{pick, first}
 use Rattle.format.specs.Record.{bodyRefusal, runOf, partsOf}
 use Rattle.format.specs.Walk.{Out, insideOf}

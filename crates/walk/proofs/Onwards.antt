@@ -8,8 +8,8 @@ use lib.ListN.{length, take, drop}
 use lib.Seq.{slice, length-slice}
 use lib.Dec.{ltb}
 use borrow.Author.Tests.{ltb-false}
-use Rattle.lists.proofs.Slices.{slice-drop, slice-cut, take-drop-take}
-use Rattle.lists.proofs.Cuts.{take-drop}
+use Rattle.laws.proofs.Slices.{slice-drop, slice-cut, take-drop-take}
+use Rattle.laws.proofs.Cuts.{take-drop}
 use Rattle.format.specs.Frame.{headOf, frameChecks}
 use Rattle.format.specs.Walk.{Out, andThen, bodyOf, shownKind, isResynced, unfit, leftOver, walked}
 use Rattle.format.specs.declared.Version.{Version}
@@ -18,7 +18,7 @@ use Rattle.format.specs.declared.Head.{Head}
 use Rattle.format.proofs.Checks.{not-first, not-second, none-of, none-refused}
 use Rattle.format.proofs.Heads.{stands, lies}
 use Rattle.format.proofs.Walks.{walk-nothing, walk-refused, walk-found}
-use Rattle.walk.specs.declared.steps.Step.{Step}
+use Rattle.walk.specs.declared.steps.Way.{Way}
 use Rattle.walk.specs.Steps.{stepOn, stepAt}
 
 -- ---- a frame that begins at a place of a list
@@ -68,27 +68,27 @@ here v at end s id c f sh start len e =
 -- ---- what a step answers
 
 module _ (strict : Bool) (v : Version) (depth at : ℕ) (b : List ℕ) where
-  pub step-nothing : Head.Nothing ≡ headOf v depth b → (k : ℕ) → k ≡ leftOver strict b → Step.Stop k ≡ stepAt strict v depth at b
+  pub step-nothing : Head.Nothing ≡ headOf v depth b → (k : ℕ) → k ≡ leftOver strict b → Way.Stop k ≡ stepAt strict v depth at b
   unfolding stepAt stepOn
   step-nothing e k f = rw (← e, f)
 
-  pub step-refused : (k : ℕ) → Head.Refused k ≡ headOf v depth b → Step.Stop k ≡ stepAt strict v depth at b
+  pub step-refused : (k : ℕ) → Head.Refused k ≡ headOf v depth b → Way.Stop k ≡ stepAt strict v depth at b
   unfolding stepAt stepOn
   step-refused k e = rw (← e)
 
   module _ (id : ℕ) (c f sh : Bool) (start len : ℕ) (e : Head.Found id c f sh start len ≡ headOf v depth b) where
-    pub step-unfit : unfit strict sh f ≡ true → Step.Stop 29 ≡ stepAt strict v depth at b
+    pub step-unfit : unfit strict sh f ≡ true → Way.Stop 29 ≡ stepAt strict v depth at b
     unfolding stepAt stepOn
     step-unfit h = rw (← e, h)
 
     pub step-body : unfit strict sh f ≡ false → (kind : Kind) (t : Bool) → kind ≡ shownKind v id c → t ≡ isResynced c f
-        → Step.Body kind t (at + start) (at + start + len) ≡ stepAt strict v depth at b
+        → Way.Body kind t (at + start) (at + start + len) ≡ stepAt strict v depth at b
     unfolding stepAt stepOn
     step-body h kind t ek et = rw (← e, h, ek, et)
 
 -- ---- what an answer says
 
-stop-not : (k start stop : ℕ) (kind : Kind) (t : Bool) → Step.Stop k ≡ Step.Body kind t start stop → ⊥
+stop-not : (k start stop : ℕ) (kind : Kind) (t : Bool) → Way.Stop k ≡ Way.Body kind t start stop → ⊥
 stop-not k start stop kind t e = let z : _≡_ {A = ℕ} 0 1 = cc in omega arith
 
 -- the walk goes into a body and then on behind it
@@ -101,7 +101,7 @@ pub record Onward (strict : Bool) (v : Version) (depth at end : ℕ) (s : List �
       ≡ andThen (bodyOf resynced (walked strict v (depth + 1)) kind (slice start stop s) room) (walked strict v depth (slice stop end s))
 
 module _ (strict : Bool) (v : Version) (depth at end : ℕ) (s : List ℕ) where
-  stop-head : (k : ℕ) (x : Head) → headOf v depth (slice at end s) ≡ x → Step.Stop k ≡ stepOn strict v at (slice at end s) x
+  stop-head : (k : ℕ) (x : Head) → headOf v depth (slice at end s) ≡ x → Way.Stop k ≡ stepOn strict v at (slice at end s) x
       → (room : List ℕ) → walked strict v depth (slice at end s) room ≡ (k, room)
   unfolding stepOn
   stop-head k Head.Nothing e h room =
@@ -111,28 +111,28 @@ module _ (strict : Bool) (v : Version) (depth at end : ℕ) (s : List ℕ) where
       let z : j ≡ k = cc in
       walk-refused strict v depth (slice at end s) room e ∙ ap {B = Out} (λ (i : ℕ). (i, room)) z
   stop-head k (Head.Found id c f sh start len) e h room =
-      let on : Step = Step.Body (shownKind v id c) (isResynced c f) (at + start) (at + start + len) in
-      let p : (unfit strict sh f ≡ true) × (Step.Stop 29 ≡ Step.Stop k) =
-      not-second (unfit strict sh f) (Step.Stop 29) on (Step.Stop k) (sym h) (λ z. stop-not k _ _ _ _ (sym z)) in
-      let g : Step.Stop 29 ≡ Step.Stop k = p .1 in
+      let on : Way = Way.Body (shownKind v id c) (isResynced c f) (at + start) (at + start + len) in
+      let p : (unfit strict sh f ≡ true) × (Way.Stop 29 ≡ Way.Stop k) =
+      not-second (unfit strict sh f) (Way.Stop 29) on (Way.Stop k) (sym h) (λ z. stop-not k _ _ _ _ (sym z)) in
+      let g : Way.Stop 29 ≡ Way.Stop k = p .1 in
       let z : 29 ≡ k = cc in
       walk-found strict v depth (slice at end s) room e ∙ rw (p .0, z)
 
   -- the walk ends
-  pub stopped : (k : ℕ) → Step.Stop k ≡ stepAt strict v depth at (slice at end s) → (room : List ℕ) → walked strict v depth (slice at end s) room ≡ (k, room)
+  pub stopped : (k : ℕ) → Way.Stop k ≡ stepAt strict v depth at (slice at end s) → (room : List ℕ) → walked strict v depth (slice at end s) room ≡ (k, room)
   unfolding stepAt
   stopped k h room = stop-head k (headOf v depth (slice at end s)) refl h room
 
   module _ (le : end ≤ length s) (kind : Kind) (resynced : Bool) (start stop : ℕ) where
-    on-head : (x : Head) → headOf v depth (slice at end s) ≡ x → Step.Body kind resynced start stop ≡ stepOn strict v at (slice at end s) x
+    on-head : (x : Head) → headOf v depth (slice at end s) ≡ x → Way.Body kind resynced start stop ≡ stepOn strict v at (slice at end s) x
         → Onward strict v depth at end s kind resynced start stop
     unfolding stepOn
     on-head Head.Nothing e h = absurd (stop-not _ _ _ _ _ (sym h))
     on-head (Head.Refused k) e h = absurd (stop-not _ _ _ _ _ (sym h))
     on-head (Head.Found id c f sh first len) e h =
-        let met : Step = Step.Body kind resynced start stop in
-        let on : Step = Step.Body (shownKind v id c) (isResynced c f) (at + first) (at + first + len) in
-        let p : (unfit strict sh f ≡ false) × (on ≡ met) = not-first (unfit strict sh f) (Step.Stop 29) on met (sym h) (λ z. stop-not _ _ _ _ _ z) in
+        let met : Way = Way.Body kind resynced start stop in
+        let on : Way = Way.Body (shownKind v id c) (isResynced c f) (at + first) (at + first + len) in
+        let p : (unfit strict sh f ≡ false) × (on ≡ met) = not-first (unfit strict sh f) (Way.Stop 29) on met (sym h) (λ z. stop-not _ _ _ _ _ z) in
         let g : on ≡ met = p .1 in
         let ek : shownKind v id c ≡ kind = cc in
         let er : isResynced c f ≡ resynced = cc in
@@ -147,6 +147,6 @@ module _ (strict : Bool) (v : Version) (depth at end : ℕ) (s : List ℕ) where
           same = λ room. walk-found strict v depth (slice at end s) room e ∙ rw (p .0, l .body, l .rest, ek, er, eo, es);
         }
 
-    pub onward : Step.Body kind resynced start stop ≡ stepAt strict v depth at (slice at end s) → Onward strict v depth at end s kind resynced start stop
+    pub onward : Way.Body kind resynced start stop ≡ stepAt strict v depth at (slice at end s) → Onward strict v depth at end s kind resynced start stop
     unfolding stepAt
     onward h = on-head (headOf v depth (slice at end s)) refl h

@@ -22,7 +22,7 @@ use Rattle.format.specs.declared.Shown.{Shown}
 use Rattle.format.proofs.Strict.{inside-run}
 use Rattle.frame.specs.declared.body.Parsed.{Parsed}
 use Rattle.frame.specs.Bodies.{parsedOf}
-use Rattle.walk.specs.declared.record.Opened.{Opened}
+use Rattle.walk.specs.declared.record.Entered.{Entered}
 use Rattle.walk.specs.Insides.{runStart, placeOf}
 use Rattle.walk.specs.Openings.{openedAt, openedOf}
 use Rattle.walk.proofs.Insides.{run-at, parts-place}
@@ -69,34 +69,34 @@ inside-parts v kind from to s ends p e at ea go room =
 -- ---- the answer
 
 module _ (v : Version) (kind : Kind) (at : ℕ) (b : List ℕ) (o : Out) where
-  pub opened-refused : (k : ℕ) (room : List ℕ) → o ≡ (k, room) → (k ≡ 0 → ⊥) → _≡_ {A = Opened × List ℕ} (Opened.Refused k, room) (openedAt v kind at b o)
+  pub opened-refused : (k : ℕ) (room : List ℕ) → o ≡ (k, room) → (k ≡ 0 → ⊥) → _≡_ {A = Entered × List ℕ} (Entered.Refused k, room) (openedAt v kind at b o)
   opened-refused k room e some = rw (e, ne-eqb k 0 some)
 
   pub opened-body : (r : ℕ) (room : List ℕ) (len : ℕ) (p : Parts) → o ≡ (r, room) → r ≡ 0 → len ≡ length b → p ≡ partsOf v kind at b
-      → _≡_ {A = Opened × List ℕ} (Opened.Body (span at len) p, room) (openedAt v kind at b o)
+      → _≡_ {A = Entered × List ℕ} (Entered.Body (span at len) p, room) (openedAt v kind at b o)
   opened-body r room len p e z l ep = rw (e, z, l, ep)
 
   -- what it says
-  pub says-refused : (k : ℕ) (room : List ℕ) → _≡_ {A = Opened × List ℕ} (Opened.Refused k, room) (openedAt v kind at b o)
+  pub says-refused : (k : ℕ) (room : List ℕ) → _≡_ {A = Entered × List ℕ} (Entered.Refused k, room) (openedAt v kind at b o)
       → (o .0 ≡ k) × (k ≡ 0 → ⊥) × (o .1 ≡ room)
-  says-refused k room e = by-number (eqb (o .0) 0) refl (ap (λ (q : Opened × List ℕ). q .0) e)
+  says-refused k room e = by-number (eqb (o .0) 0) refl (ap (λ (q : Entered × List ℕ). q .0) e)
     where
       last : o .1 ≡ room
-      last = sym (ap (λ (q : Opened × List ℕ). q .1) e)
+      last = sym (ap (λ (q : Entered × List ℕ). q .1) e)
 
-      by-number : (t : Bool) → eqb (o .0) 0 ≡ t → Opened.Refused k ≡ pick t (Opened.Body (span at (length b)) (partsOf v kind at b)) (Opened.Refused (o .0))
+      by-number : (t : Bool) → eqb (o .0) 0 ≡ t → Entered.Refused k ≡ pick t (Entered.Body (span at (length b)) (partsOf v kind at b)) (Entered.Refused (o .0))
           → (o .0 ≡ k) × (k ≡ 0 → ⊥) × (o .1 ≡ room)
       by-number true f h = absurd (let z : _≡_ {A = ℕ} 0 1 = cc in omega arith)
       by-number false f h = let z : o .0 ≡ k = cc in (z, λ n. eqb-false _ _ f (z ∙ n), last)
 
-  pub says-body : (s : Span) (p : Parts) (room : List ℕ) → _≡_ {A = Opened × List ℕ} (Opened.Body s p, room) (openedAt v kind at b o)
+  pub says-body : (s : Span) (p : Parts) (room : List ℕ) → _≡_ {A = Entered × List ℕ} (Entered.Body s p, room) (openedAt v kind at b o)
       → (o .0 ≡ 0) × (s ≡ span at (length b)) × (p ≡ partsOf v kind at b) × (o .1 ≡ room)
-  says-body s p room e = by-number (eqb (o .0) 0) refl (ap (λ (q : Opened × List ℕ). q .0) e)
+  says-body s p room e = by-number (eqb (o .0) 0) refl (ap (λ (q : Entered × List ℕ). q .0) e)
     where
       last : o .1 ≡ room
-      last = sym (ap (λ (q : Opened × List ℕ). q .1) e)
+      last = sym (ap (λ (q : Entered × List ℕ). q .1) e)
 
-      by-number : (t : Bool) → eqb (o .0) 0 ≡ t → Opened.Body s p ≡ pick t (Opened.Body (span at (length b)) (partsOf v kind at b)) (Opened.Refused (o .0))
+      by-number : (t : Bool) → eqb (o .0) 0 ≡ t → Entered.Body s p ≡ pick t (Entered.Body (span at (length b)) (partsOf v kind at b)) (Entered.Refused (o .0))
           → (o .0 ≡ 0) × (s ≡ span at (length b)) × (p ≡ partsOf v kind at b) × (o .1 ≡ room)
       by-number true f h = (eqb-true _ _ f, cc, cc, last)
       by-number false f h = absurd (let z : _≡_ {A = ℕ} 0 1 = cc in omega arith)
@@ -134,13 +134,13 @@ module _ (v : Version) (inWork : Bool) (begin at : ℕ) (s room : List ℕ) wher
     unfolding frameOf onShown
     frame-is = rw (← e, eb, ek, et)
 
-    pub body-refused : (k : ℕ) → _≡_ {A = Opened × List ℕ} (Opened.Refused k, room′) (openedOf v kind t (at + start) b room)
+    pub body-refused : (k : ℕ) → _≡_ {A = Entered × List ℕ} (Entered.Refused k, room′) (openedOf v kind t (at + start) b room)
         → _≡_ {A = Shown × List ℕ} (Shown.Refused k, room′) (frameOf v inWork begin at s room)
     body-refused k h =
         let z = says-refused v kind place (shownBody t b) out k room′ h in
         as-refused out shownRecord (at + (start + len)) room′ (z .2) k (z .0) (z .1) ∙ frame-is
 
-    pub body-shown : (q : Span) (p : Parts) → _≡_ {A = Opened × List ℕ} (Opened.Body q p, room′) (openedOf v kind t (at + start) b room)
+    pub body-shown : (q : Span) (p : Parts) → _≡_ {A = Entered × List ℕ} (Entered.Body q p, room′) (openedOf v kind t (at + start) b room)
         → (r : Record) (behind : ℕ) (w : Bool) → behind ≡ at - begin → w ≡ (t || inWork) → r ≡ recordOf id sh c behind w (q .start) (q .len) p
         → _≡_ {A = Shown × List ℕ} (Shown.Frame r (at + start + len), room′) (frameOf v inWork begin at s room)
     body-shown q p h r behind w ep ew er =

@@ -7,7 +7,7 @@ use mathlib.Core.Bool.{Bool, true, false, _||_}
 use mathlib.Core.List.{List, [], _∷_}
 use lib.ListN.{length, take, drop, take-append-drop}
 use lib.Seq.{slice}
-use Rattle.lists.proofs.Slices.{slice-none}
+use Rattle.laws.proofs.Slices.{slice-none}
 use Rattle.format.specs.Bytes.{pick, span}
 use Rattle.format.specs.Unsynch.{resynchronised}
 use Rattle.format.specs.Frame.{headOf}
@@ -24,7 +24,7 @@ use Rattle.frame.specs.Bodies.{parsedOf}
 use Rattle.unsynch.specs.declared.Put.{Put}
 use Rattle.unsynch.specs.Puts.{intoOf}
 use Rattle.walk.specs.declared.record.Lies.{Lies}
-use Rattle.walk.specs.declared.record.Opened.{Opened}
+use Rattle.walk.specs.declared.record.Entered.{Entered}
 use Rattle.walk.specs.Areas.{inArea}
 use Rattle.walk.specs.Insides.{placeOf}
 use Rattle.walk.specs.Sources.{sourceOf, roomOf, kept, frameIn}
@@ -83,7 +83,7 @@ module _ (w t : Bool) (v : Version) (kind : Kind) (from to : ℕ) (tag work s : 
   as-shown = rw es
 
   pub shows-refused : (k : ℕ) → Parsed.Refused k ≡ parsedOf v kind from (slice from to s)
-      → _≡_ {A = Opened × List ℕ} (Opened.Refused k, work) (shownAt w t v kind from to tag work)
+      → _≡_ {A = Entered × List ℕ} (Entered.Refused k, work) (shownAt w t v kind from to tag work)
   shows-refused k e =
       let b = slice from to s in
       opened-refused v kind from b (lent w t to work (insideOf go kind b)) k work (lent-still w t to work (insideOf go kind b) k (inside-refused v kind from b k e go)) (parsed-refused v kind from b k e .1)
@@ -98,10 +98,10 @@ module _ (w t : Bool) (v : Version) (kind : Kind) (from to : ℕ) (tag work s : 
         ∙ ap (λ (x : List ℕ). lent w t to work (go (slice at to x))) es
         ∙ sym o
 
-    pub shows-run : (r ≡ 0 → ⊥) → _≡_ {A = Opened × List ℕ} (Opened.Refused r, left) (shownAt w t v kind from to tag work)
+    pub shows-run : (r ≡ 0 → ⊥) → _≡_ {A = Entered × List ℕ} (Entered.Refused r, left) (shownAt w t v kind from to tag work)
     shows-run some = opened-refused v kind from (slice from to s) (lent w t to work (insideOf go kind (slice from to s))) r left shown-out some ∙ as-shown
 
-    pub shows-parts : r ≡ 0 → (len : ℕ) → len ≡ length (slice from to s) → _≡_ {A = Opened × List ℕ} (Opened.Body (span from len) p, left) (shownAt w t v kind from to tag work)
+    pub shows-parts : r ≡ 0 → (len : ℕ) → len ≡ length (slice from to s) → _≡_ {A = Entered × List ℕ} (Entered.Body (span from len) p, left) (shownAt w t v kind from to tag work)
     shows-parts z len l =
         opened-body v kind from (slice from to s) (lent w t to work (insideOf go kind (slice from to s))) r left len p shown-out z l (parsed-parts v kind from (slice from to s) p e .1)
         ∙ as-shown
@@ -145,7 +145,7 @@ none-fits (x ∷ u) p n f = absurd (omega (arith, f .fits))
 
 module _ (v : Version) (kind : Kind) (from to : ℕ) (tag work : List ℕ) where
   pub ready-refused : (w t : Bool) (k : ℕ) (left : List ℕ) → _≡_ {A = Lies × List ℕ} (Lies.Refused k, left) (readyOf w t from to tag work)
-      → _≡_ {A = Opened × List ℕ} (Opened.Refused k, left) (enteredOf w t v kind from to tag work)
+      → _≡_ {A = Entered × List ℕ} (Entered.Refused k, left) (enteredOf w t v kind from to tag work)
   unfolding readyOf
   ready-refused w false k left e = absurd (let f : Lies.Refused k ≡ Lies.At from to = ap (λ (o : Lies × List ℕ). o .0) e in let z : _≡_ {A = ℕ} 0 1 = cc in omega arith)
   ready-refused w true k left e =
@@ -153,7 +153,7 @@ module _ (v : Version) (kind : Kind) (from to : ℕ) (tag work : List ℕ) where
       let room = roomOf w work in
       let f : intoOf u room .0 ≡ Put.Refused k = lies-refused (intoOf u room .0) k (ap (λ (o : Lies × List ℕ). o .0) e) in
       let l : left ≡ pick w work (intoOf u room .1) = ap (λ (o : Lies × List ℕ). o .1) e in
-      ap {B = Opened × List ℕ} (λ (x : List ℕ). (Opened.Refused k, x)) l
+      ap {B = Entered × List ℕ} (λ (x : List ℕ). (Entered.Refused k, x)) l
       ∙ ap (kept w work) (opened-refused v kind 0 u (resyncedOf (walked false v 2) kind u room) k (intoOf u room .1) (put-refused u room (walked false v 2) kind k f) (λ n. omega (arith, put-full u room k f)))
 
   -- as it is stored
@@ -235,23 +235,23 @@ module _ (v : Version) (w : Bool) (begin at end : ℕ) (tag work s : List ℕ) (
     abbrev stored : List ℕ
     stored = slice (at + start) (at + start + len) (sourceOf w work tag)
 
-    abbrev opened : Opened × List ℕ
+    abbrev opened : Entered × List ℕ
     opened = openedOf v kind t (at + start) stored (roomOf w work)
 
     lies-in : take len (drop start (slice at end s)) ≡ stored
     lies-in = found .body ∙ ap (slice (at + start) (at + start + len)) es
 
-    pub frame-refused : (k : ℕ) → _≡_ {A = Opened × List ℕ} (Opened.Refused k, left) (enteredOf w t v kind (at + start) (at + start + len) tag work)
+    pub frame-refused : (k : ℕ) → _≡_ {A = Entered × List ℕ} (Entered.Refused k, left) (enteredOf w t v kind (at + start) (at + start + len) tag work)
         → _≡_ {A = Shown × List ℕ} (Shown.Refused k, left) (frameIn v w begin at end tag work)
     frame-refused k h =
-        frame-in (Shown.Refused k) (opened .1) left (ap (λ (o : Opened × List ℕ). o .1) h)
+        frame-in (Shown.Refused k) (opened .1) left (ap (λ (o : Entered × List ℕ). o .1) h)
         (body-refused v w begin at (slice at end s) (roomOf w work) id c f sh start len (found .head) kind t ek et stored (opened .1) lies-in k
-        (ap {B = Opened × List ℕ} (λ (o : Opened × List ℕ). (o .0, opened .1)) h))
+        (ap {B = Entered × List ℕ} (λ (o : Entered × List ℕ). (o .0, opened .1)) h))
 
-    pub frame-shown : (q : Span) (p : Parts) → _≡_ {A = Opened × List ℕ} (Opened.Body q p, left) (enteredOf w t v kind (at + start) (at + start + len) tag work)
+    pub frame-shown : (q : Span) (p : Parts) → _≡_ {A = Entered × List ℕ} (Entered.Body q p, left) (enteredOf w t v kind (at + start) (at + start + len) tag work)
         → (r : Record) (place : ℕ) (in-room : Bool) → place ≡ at - begin → in-room ≡ (t || w) → r ≡ recordOf id sh c place in-room (q .start) (q .len) p
         → _≡_ {A = Shown × List ℕ} (Shown.Frame r (at + start + len), left) (frameIn v w begin at end tag work)
     frame-shown q p h r place in-room ep ew er =
-        frame-in (Shown.Frame r (at + start + len)) (opened .1) left (ap (λ (o : Opened × List ℕ). o .1) h)
+        frame-in (Shown.Frame r (at + start + len)) (opened .1) left (ap (λ (o : Entered × List ℕ). o .1) h)
         (body-shown v w begin at (slice at end s) (roomOf w work) id c f sh start len (found .head) kind t ek et stored (opened .1) lies-in q p
-        (ap {B = Opened × List ℕ} (λ (o : Opened × List ℕ). (o .0, opened .1)) h) r place in-room ep ew er)
+        (ap {B = Entered × List ℕ} (λ (o : Entered × List ℕ). (o .0, opened .1)) h) r place in-room ep ew er)

@@ -14,15 +14,15 @@ use Rattle.format.specs.declared.Kind.{Kind}
 use Rattle.unsynch.specs.declared.Put.{Put}
 use Rattle.unsynch.specs.Puts.{intoOf}
 use Rattle.walk.specs.declared.record.Lies.{Lies}
-use Rattle.walk.specs.declared.record.Opened.{Opened}
+use Rattle.walk.specs.declared.record.Entered.{Entered}
 use Rattle.walk.specs.Sources.{sourceOf, roomOf, kept}
 
 -- o is what the body and its run give; the body lies as it is shown at a place of its buffer
-abbrev pub openedAt : Version → Kind → ℕ → List ℕ → Out → Opened × List ℕ
-openedAt v kind at b o = (pick (eqb (o .0) 0) (Opened.Body (span at (length b)) (partsOf v kind at b)) (Opened.Refused (o .0)), o .1)
+abbrev pub openedAt : Version → Kind → ℕ → List ℕ → Out → Entered × List ℕ
+openedAt v kind at b o = (pick (eqb (o .0) 0) (Entered.Body (span at (length b)) (partsOf v kind at b)) (Entered.Refused (o .0)), o .1)
 
 -- of a stored body at a place, which is shown at the front of the room where it is resynchronised
-abbrev pub openedOf : Version → Kind → Bool → ℕ → List ℕ → List ℕ → Opened × List ℕ
+abbrev pub openedOf : Version → Kind → Bool → ℕ → List ℕ → List ℕ → Entered × List ℕ
 openedOf v kind resynced at b room =
     openedAt v kind (pick resynced 0 at) (shownBody resynced b) (bodyOf resynced (walked false v 2) kind b room)
 
@@ -53,12 +53,12 @@ ranOf inWork resynced v run to tag work =
     lent inWork resynced to work (walked false v 2 (slice run to (sourceOf (inWork || resynced) work tag)))
 
 -- a body as it is shown
-abbrev pub shownAt : Bool → Bool → Version → Kind → ℕ → ℕ → List ℕ → List ℕ → Opened × List ℕ
+abbrev pub shownAt : Bool → Bool → Version → Kind → ℕ → ℕ → List ℕ → List ℕ → Entered × List ℕ
 shownAt inWork resynced v kind from to tag work =
     let b = slice from to (sourceOf (inWork || resynced) work tag) in
     openedAt v kind from b (lent inWork resynced to work (insideOf (walked false v 2) kind b))
 
 -- a body as it is stored
-abbrev pub enteredOf : Bool → Bool → Version → Kind → ℕ → ℕ → List ℕ → List ℕ → Opened × List ℕ
+abbrev pub enteredOf : Bool → Bool → Version → Kind → ℕ → ℕ → List ℕ → List ℕ → Entered × List ℕ
 enteredOf inWork resynced v kind from to tag work =
     kept inWork work (openedOf v kind resynced from (slice from to (sourceOf inWork work tag)) (roomOf inWork work))

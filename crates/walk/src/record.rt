@@ -28,7 +28,7 @@ ghost use Rattle.walk.specs.Sources.{sourceOf, frameIn};
 ghost use Rattle.walk.specs.Openings.{frontOf, readyOf, ranOf, shownAt, enteredOf};
 
 // What a body is refused with, its run included, or where it lies as it is shown, and its parts.
-enum Opened {
+enum Entered {
     Refused(u8),
     Body(Span, Parts),
 }
@@ -139,7 +139,7 @@ fn shown_body(
     to: usize,
     version: Version,
     kind: Kind,
-) -> Opened
+) -> Entered
     requires { ⌜ (from ≤ to) × (to ≤ length (sourceOf («in_work» || resynced) (now work) (now tag))) ⌝ }
     ensures { λ r. ⌜ (r, now (work .exit)) ≡ shownAt «in_work» resynced version kind from to (now (tag .entry)) (now (work .entry)) ⌝ }
 {
@@ -150,15 +150,15 @@ fn shown_body(
         from,
         to,
     ) {
-        Parsed::Refused(k) => Opened::Refused(k),
+        Parsed::Refused(k) => Entered::Refused(k),
         Parsed::Parts(parts) => {
             let run = place(kind, parts, to);
             let r = run_inside(work, tag, in_work, resynced, run, to, version);
             if r != 0 {
-                return Opened::Refused(r);
+                return Entered::Refused(r);
             }
             let len = to - from;
-            Opened::Body(Span { start: from, len }, parts)
+            Entered::Body(Span { start: from, len }, parts)
         }
     }
 }
@@ -173,12 +173,12 @@ fn enter(
     version: Version,
     kind: Kind,
     resynced: bool,
-) -> Opened
+) -> Entered
     requires { ⌜ (from ≤ to) × (to ≤ length (sourceOf «in_work» (now work) (now tag))) ⌝ }
     ensures { λ r. ⌜ (r, now (work .exit)) ≡ enteredOf «in_work» resynced version kind from to (now (tag .entry)) (now (work .entry)) ⌝ }
 {
     match ready(work, tag, in_work, from, to, resynced) {
-        Lies::Refused(k) => Opened::Refused(k),
+        Lies::Refused(k) => Entered::Refused(k),
         Lies::At(start, stop) => {
             shown_body(work, tag, in_work, resynced, start, stop, version, kind)
         }
@@ -214,8 +214,8 @@ pub fn frame_at(
             let first = at + start;
             let next = first + len;
             match enter(work, tag, in_work, first, next, version, kind, resynced) {
-                Opened::Refused(k) => Shown::Refused(k),
-                Opened::Body(body, parts) => {
+                Entered::Refused(k) => Shown::Refused(k),
+                Entered::Body(body, parts) => {
                     let in_room = either(resynced, in_work);
                     let record = record_of(
                         id,

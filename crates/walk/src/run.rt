@@ -1,7 +1,7 @@
 // The walk through frames and the subframes of chapters.
 use crate::inside::Inside;
 use crate::inside::look;
-use crate::steps::Step;
+use crate::steps::Way;
 use crate::steps::step_at;
 use format::Kind;
 use format::Version;
@@ -78,8 +78,8 @@ pub(crate) fn walk_in(
     let mut at = from;
     loop {
         match step_at(&area[..], at, end, version, strict, depth) {
-            Step::Stop(k) => return k,
-            Step::Body {
+            Way::Stop(k) => return k,
+            Way::Body {
                 kind,
                 resynced,
                 start,
@@ -148,8 +148,8 @@ pub fn walk(
     let mut at = from;
     loop {
         match step_at(s, at, end, version, strict, depth) {
-            Step::Stop(k) => return k,
-            Step::Body {
+            Way::Stop(k) => return k,
+            Way::Body {
                 kind,
                 resynced,
                 start,

@@ -17,7 +17,7 @@ ghost use lib.Seq.{slice};
 ghost use Rattle.walk.specs.Steps.{stepAt};
 
 // Where a walk goes on: nowhere, with a refusal or 0 for none, or into a body from start to stop.
-pub(crate) enum Step {
+pub(crate) enum Way {
     Stop(u8),
     Body {
         kind: Kind,
@@ -47,13 +47,13 @@ pub(crate) fn step_at(
     version: Version,
     strict: bool,
     depth: u8,
-) -> Step
+) -> Way
     requires { ⌜ end ≤ length (now s) ⌝ }
     ensures { λ r. ⌜ r ≡ stepAt strict version depth at (slice at end (now (s .entry))) ⌝ }
 {
     match decode(version, s, at, end, depth) {
-        Head::Nothing => Step::Stop(left_over(strict, at, end)),
-        Head::Refused(k) => Step::Stop(k),
+        Head::Nothing => Way::Stop(left_over(strict, at, end)),
+        Head::Refused(k) => Way::Stop(k),
         Head::Found {
             id,
             compressed,
@@ -63,10 +63,10 @@ pub(crate) fn step_at(
             len,
         } => {
             if is_unfit(strict, short, flagged) {
-                return Step::Stop(WRONG_RUN);
+                return Way::Stop(WRONG_RUN);
             }
             let first = at + start;
-            Step::Body {
+            Way::Body {
                 kind: shown_kind(version, id, compressed),
                 resynced: is_resynced(compressed, flagged),
                 start: first,

@@ -8,7 +8,7 @@ use lib.ListN.{length, set, take, drop, length-append, length-take, length-repli
 use lib.Seq.{slice, sets, length-sets, length-take-le, set-comm, take-set-lt, drop-set-lt}
 use lib.Dec.{ltb, leb}
 use borrow.Author.Tests.{le-leb, lt-leb, leb-true, leb-false, lt-ltb, le-ltb, ltb-true, ltb-false}
-use Rattle.lists.proofs.Stores.{Storing, begin, same-list, same-place, put, next-lies, all-done, sets-append}
+use Rattle.laws.proofs.Stores.{Storing, begin, same-list, same-place, put, next-lies, all-done, sets-append}
 use Rattle.format.specs.Bytes.{pick, zeros, ascii}
 use Rattle.format.specs.Numbers.{digits, bytesOf, synchsafe}
 use Rattle.format.specs.Unsynch.{unsync, unsynchronised}

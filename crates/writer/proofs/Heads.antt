@@ -6,7 +6,7 @@ use mathlib.Core.Bool.{false}
 use mathlib.Core.List.{List, [], _∷_, _++_}
 use lib.ListN.{length}
 use lib.Seq.{sets, length-sets}
-use Rattle.lists.proofs.Stores.{sets-append}
+use Rattle.laws.proofs.Stores.{sets-append}
 use Rattle.format.specs.Bytes.{pick}
 use Rattle.format.specs.Numbers.{digits, bytesOf, synchsafe}
 use Rattle.format.specs.Unsynch.{isOn, guards, unsync}

@@ -10,8 +10,8 @@ use lib.Dec.{eqb, leb, ltb}
 use borrow.Author.Tests.{eqb-true, leb-true, ne-eqb}
 use denote.Enum.Declared.{tagOf}
 use types.Run.{OneOf, miss}
-use Rattle.lists.proofs.Bools.{and-true}
-use Rattle.lists.proofs.Cuts.{drop-next}
+use Rattle.laws.proofs.Bools.{and-true}
+use Rattle.laws.proofs.Cuts.{drop-next}
 use Rattle.format.specs.Bytes.{first, zerosIn}
 use Rattle.format.specs.Popularimeter.{counterBytes}
 use Rattle.format.specs.Table.{fit, isWidth, widthChecks}

@@ -1,5 +1,5 @@
 -- Worked cases of the writer, then laws.
-pub mod Cases
+pub mod WorkedWritings
 pub mod Lengths
 pub mod Adds
 pub mod Ranges

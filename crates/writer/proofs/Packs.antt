@@ -12,9 +12,9 @@ use lib.Dec.{ltb}
 use lib.Bits.{bitOr, or-shifted, or-zero-r}
 use lib.Pow.{pow-pos, pow-add, shl-shr, high, mod-pow-add}
 use borrow.Author.Tests.{ltb-true}
-use Rattle.lists.proofs.Bools.{and-true}
-use Rattle.lists.proofs.Cuts.{drop-next}
-use Rattle.lists.proofs.Pieces.{drop-none}
+use Rattle.laws.proofs.Bools.{and-true}
+use Rattle.laws.proofs.Cuts.{drop-next}
+use Rattle.laws.proofs.Pieces.{drop-none}
 use Rattle.format.specs.Bytes.{zeros}
 use Rattle.format.specs.Numbers.{digits, onto}
 use Rattle.format.specs.Table.{spread, gathered, filled, pack, fit}

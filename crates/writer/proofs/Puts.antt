@@ -9,7 +9,7 @@ use lib.ListN.{length, getD, length-append}
 use lib.Seq.{slice, sets, length-sets, take-length}
 use lib.Dec.{eqb}
 use borrow.Author.Tests.{le-ltb}
-use Rattle.lists.proofs.Stores.{sets-append}
+use Rattle.laws.proofs.Stores.{sets-append}
 use Rattle.format.specs.Bytes.{pick, onlyIf}
 use Rattle.format.specs.Unsynch.{guards, unsync, endsFF}
 use Rattle.format.specs.declared.Mode.{Mode}

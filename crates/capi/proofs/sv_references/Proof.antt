@@ -6,7 +6,7 @@ use lib.ListN.{length, length-set}
 use lib.Seq.{set-set}
 use Rattle.capi.proofs.Left.{references-short, references-bad, references-then, enough2}
 use Rattle.capi.specs.Calls.{svReferences, afterUnpack}
-use Rattle.frame.specs.declared.table.Put.{Put}
+use Rattle.frame.specs.declared.table.Unpacked.{Unpacked}
 use borrow.Author.Needs.{needs}
 use Rattle.capi.proofs.sv_references.Statement.{statement}
 use Rattle.capi.proofs.sv_references.Tie as tie
@@ -27,7 +27,7 @@ at-loaded c = let at-good = c .before .before .before .before in at-good .before
 abbrev at-words : tie.After-slice-known3 → tie.Else1
 at-words c = at-loaded c .before
 
-answer-picks : (c : tie.After-slice-known3) {o : Put} → c .before .before .references .result ≡ o
+answer-picks : (c : tie.After-slice-known3) {o : Unpacked} → c .before .before .references .result ≡ o
     → let a = given (at-words c) .args in svReferences (a .«record» .now) (a .rest .now) (a .deviations .now) (a .count .now) ≡ afterUnpack (o, c .before .before .references .last .0) (a .count .now)
 answer-picks c h =
     let at-put = c .before .before in

@@ -3,7 +3,7 @@ use Prim.Native.Nat.{_-_}
 use native.Mathlib.Omega.{arith}
 use borrow.Author.Needs.{needs}
 use borrow.Author.Tests.{leb-true}
-use Rattle.lists.proofs.Bools.{false-not-true}
+use Rattle.laws.proofs.Bools.{false-not-true}
 use Rattle.loads.proofs.is_near.Statement.{statement}
 use Rattle.loads.proofs.is_near.Tie as tie
 

@@ -2,7 +2,7 @@
 use mathlib.Core.Path.{refl, sym}
 use Prim.Native.Nat.{ℕ}
 use lib.ListN.{length-replicate}
-use Rattle.listed.specs.Lines.{textRoom}
+use Rattle.printout.specs.Lines.{textRoom}
 use Rattle.show.proofs.room_for_text.Statement.{statement}
 use Rattle.show.proofs.room_for_text.Tie as tie
 

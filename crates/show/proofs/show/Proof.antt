@@ -2,8 +2,8 @@
 use mathlib.Core.Path.{ap}
 use native.Mathlib.Omega.{arith}
 use lib.ListN.{length-take}
-use Rattle.listed.specs.Turns.{Outcome}
-use Rattle.listed.proofs.Texts.{lines-within}
+use Rattle.printout.specs.Turns.{Outcome}
+use Rattle.printout.proofs.Texts.{lines-within}
 use borrow.Author.Needs.{needs}
 use Rattle.show.proofs.show.Statement.{statement}
 use Rattle.show.proofs.show.Tie as tie

@@ -2,7 +2,7 @@
 use native.Mathlib.Omega.{arith}
 use lib.ListN.{length-take}
 use Rattle.format.specs.Listing.{refusedLine}
-use Rattle.listed.proofs.Texts.{line-within}
+use Rattle.printout.proofs.Texts.{line-within}
 use borrow.Author.Needs.{needs}
 use Rattle.show.proofs.show_refused.Statement.{statement}
 use Rattle.show.proofs.show_refused.Tie as tie

@@ -3,7 +3,7 @@ use mathlib.Core.Path.{_≡_, ap}
 use Prim.Native.Nat.{ℕ, _-_, _≤_}
 use mathlib.Core.List.{List}
 use lib.Seq.{slice}
-use Rattle.lists.proofs.Slices.{slice-cut, slice-cut-none}
+use Rattle.laws.proofs.Slices.{slice-cut, slice-cut-none}
 use Rattle.unsynch.specs.declared.Put.{Put}
 use Rattle.unsynch.specs.Puts.{Out, putOf}
 use Rattle.unsynch.specs.Edits.{edited}

@@ -5,7 +5,7 @@ use mathlib.Core.Bool.{false}
 use mathlib.Core.List.{List}
 use lib.ListN.{take}
 use lib.Seq.{slice}
-use Rattle.lists.proofs.Slices.{slice-before, slice-before-none}
+use Rattle.laws.proofs.Slices.{slice-before, slice-before-none}
 use Rattle.format.specs.Unsynch.{resync, resynchronised}
 use Rattle.unsynch.specs.declared.Put.{Put}
 use Rattle.unsynch.specs.declared.loops.How.{How}

@@ -5,7 +5,7 @@ use mathlib.Core.Bool.{false}
 use mathlib.Core.List.{List}
 use lib.ListN.{length}
 use lib.Seq.{slice}
-use Rattle.lists.proofs.Bools.{false-not-true}
+use Rattle.laws.proofs.Bools.{false-not-true}
 use Rattle.format.specs.Unsynch.{resynchronised}
 use Rattle.unsynch.specs.declared.loops.How.{How}
 use Rattle.unsynch.specs.Puts.{putOf}

@@ -4,7 +4,7 @@ use Prim.Native.Nat.{ℕ}
 use mathlib.Core.List.{List}
 use lib.ListN.{length}
 use lib.Seq.{slice}
-use Rattle.lists.proofs.Slices.{slice-cut, slice-cut-none}
+use Rattle.laws.proofs.Slices.{slice-cut, slice-cut-none}
 use Rattle.format.specs.Unsynch.{guards, unsync}
 use Rattle.unsynch.specs.declared.loops.How.{How}
 use Rattle.unsynch.specs.Edits.{edited}

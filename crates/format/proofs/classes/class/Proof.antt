@@ -2,7 +2,7 @@
 use borrow.Author.Needs.{needs}
 use mathlib.Core.List.{List, [], _∷_}
 use Prim.Native.Nat.{ℕ}
-use Rattle.lists.proofs.Tables.{table-rule}
+use Rattle.laws.proofs.Tables.{table-rule}
 use Rattle.format.specs.Ids.{classOf}
 use Rattle.format.proofs.classes.class.Statement.{statement}
 use Rattle.format.proofs.classes.class.Tie as tie

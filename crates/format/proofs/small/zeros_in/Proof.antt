@@ -5,7 +5,7 @@ use Prim.Native.Nat.{_+_, _-_, _≤_}
 use native.Mathlib.Omega.{arith}
 use borrow.Author.Needs.{needs}
 use lib.ListN.{length, drop}
-use Rattle.lists.proofs.Pieces.{drop-none}
+use Rattle.laws.proofs.Pieces.{drop-none}
 use Rattle.format.specs.Bytes.{zerosIn}
 use Rattle.format.proofs.Zeros.{zero-counts, other-counts-not}
 use Rattle.format.proofs.small.zeros_in.Statement.{statement}

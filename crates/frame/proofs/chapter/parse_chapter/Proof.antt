@@ -1,7 +1,7 @@
 -- `frame::chapter::parse_chapter` meets its contract. Assumes nothing.
 use native.Mathlib.Omega.{arith}
 use borrow.Author.Needs.{needs}
-use Rattle.lists.proofs.Cuts.{cut-lies}
+use Rattle.laws.proofs.Cuts.{cut-lies}
 use Rattle.format.specs.declared.Kind.{Kind}
 use Rattle.frame.proofs.Ends.{zero-le}
 use Rattle.frame.proofs.Bodies.{refused, accepted, chapter-cut, chapter-whole, chapter-parts}

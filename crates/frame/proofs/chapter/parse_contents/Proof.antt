@@ -7,7 +7,7 @@ use lib.Dec.{leb}
 use native.Mathlib.Omega.{arith}
 use borrow.Author.Needs.{needs}
 use lib.ListN.{length, getD}
-use Rattle.lists.proofs.Cuts.{cut-lies}
+use Rattle.laws.proofs.Cuts.{cut-lies}
 use Rattle.format.specs.Bytes.{zerosIn}
 use Rattle.format.specs.Chapter.{namesLen}
 use Rattle.format.specs.declared.Kind.{Kind}

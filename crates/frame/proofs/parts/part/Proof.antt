@@ -1,6 +1,6 @@
 -- `frame::parts::part` meets its contract. Assumes nothing.
 use borrow.Author.Needs.{needs}
-use Rattle.lists.proofs.Cuts.{part-cut}
+use Rattle.laws.proofs.Cuts.{part-cut}
 use Rattle.frame.proofs.parts.part.Statement.{statement}
 use Rattle.frame.proofs.parts.part.Tie as tie
 

@@ -5,7 +5,7 @@ use native.Mathlib.Omega.{arith}
 use mathlib.Core.List.{List}
 use borrow.Author.Needs.{needs}
 use lib.ListN.{take}
-use Rattle.lists.proofs.Cuts.{cut-lies}
+use Rattle.laws.proofs.Cuts.{cut-lies}
 use Rattle.format.specs.Numbers.{number}
 use Rattle.format.specs.declared.Kind.{Kind}
 use Rattle.frame.proofs.Ends.{zero-le}

@@ -2,7 +2,7 @@
 use mathlib.Core.Path.{sym, _∙_}
 use native.Mathlib.Omega.{arith}
 use borrow.Author.Needs.{needs}
-use Rattle.lists.proofs.Cuts.{cut-lies}
+use Rattle.laws.proofs.Cuts.{cut-lies}
 use Rattle.format.specs.declared.Kind.{Kind}
 use Rattle.frame.proofs.Bodies.{refused, refused-as, accepted, table-cut, table-checked, table-parts}
 use Rattle.frame.proofs.table.parse.Statement.{statement}

@@ -1,7 +1,7 @@
 -- `frame::text::parse` meets its contract. Assumes nothing.
 use native.Mathlib.Omega.{arith}
 use borrow.Author.Needs.{needs}
-use Rattle.lists.proofs.Cuts.{cut-lies}
+use Rattle.laws.proofs.Cuts.{cut-lies}
 use Rattle.format.specs.declared.Kind.{Kind}
 use Rattle.frame.proofs.Bodies.{refused, accepted, text-empty, text-unknown, text-known, text-parts}
 use Rattle.frame.proofs.text.parse.Statement.{statement}

@@ -2,7 +2,7 @@
 use mathlib.Core.Path.{_≡_, ap, _∙_}
 use mathlib.Core.Bool.{Bool}
 use borrow.Author.Needs.{needs}
-use Rattle.lists.proofs.Bools.{false-not-true}
+use Rattle.laws.proofs.Bools.{false-not-true}
 use Rattle.format.specs.Bytes.{pick}
 use Rattle.format.specs.Frame.{lengthBytes}
 use Rattle.format.specs.declared.Version.the-variants.{Id3v24}

@@ -4,7 +4,7 @@ use mathlib.Core.Bool.{_||_, or-false}
 use mathlib.Core.List.{List}
 use Prim.Native.Nat.{ℕ, _+_, _-_, _≤_}
 use lib.Seq.{slice}
-use Rattle.lists.proofs.Slices.{slice-none}
+use Rattle.laws.proofs.Slices.{slice-none}
 use Rattle.unsynch.specs.Edits.{anyFF}
 use Rattle.unsynch.proofs.Edits.{any-turn}
 use native.Mathlib.Omega.{arith}

@@ -4,7 +4,7 @@ use mathlib.Core.List.{List}
 use Prim.Native.Nat.{ℕ, _+_}
 use lib.ListN.{length, replicate}
 use lib.Seq.{slice, length-slice, sets}
-use Rattle.lists.proofs.Stores.{slice-copy}
+use Rattle.laws.proofs.Stores.{slice-copy}
 use borrow.Author.Needs.{needs}
 use native.Mathlib.Omega.{arith}
 use Rattle.unsynch.proofs.blocks.copy_behind.Statement.{statement}

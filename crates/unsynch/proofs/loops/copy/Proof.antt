@@ -2,7 +2,7 @@
 use mathlib.Core.Path.{_≡_, refl}
 use Prim.Native.Nat.{_+_, _-_, _≤_, _<_}
 use lib.Seq.{slice}
-use Rattle.lists.proofs.Stores.{Storing, copy-begin, copy-turn, copy-end}
+use Rattle.laws.proofs.Stores.{Storing, copy-begin, copy-turn, copy-end}
 use native.Mathlib.Omega.{arith}
 use Rattle.unsynch.proofs.loops.copy.Statement.{statement}
 use Rattle.unsynch.proofs.loops.copy.Tie as tie

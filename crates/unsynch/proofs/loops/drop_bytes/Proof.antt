@@ -4,7 +4,7 @@ use Prim.Native.Nat.{ℕ, _+_, _-_, _≤_, _<_}
 use mathlib.Core.Bool.{Bool, cond, not, _&&_}
 use lib.ListN.{length, set, getD}
 use lib.Dec.{eqb}
-use Rattle.lists.proofs.Stores.{Storing, begin, lies, rest}
+use Rattle.laws.proofs.Stores.{Storing, begin, lies, rest}
 use Rattle.unsynch.specs.Edits.{resyncBy, editedAfter}
 use Rattle.unsynch.proofs.Edits.{stays, next-stays}
 use Rattle.unsynch.proofs.Turns.{drop-turn}

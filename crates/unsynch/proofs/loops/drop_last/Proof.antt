@@ -4,7 +4,7 @@ use Prim.Native.Nat.{_+_}
 use mathlib.Core.Bool.{true, false}
 use mathlib.Core.List.{_∷_}
 use lib.ListN.{getD}
-use Rattle.lists.proofs.Stores.{Storing, begin, lies, same-list, put, done}
+use Rattle.laws.proofs.Stores.{Storing, begin, lies, same-list, put, done}
 use Rattle.unsynch.specs.Edits.{resyncBy, editedAfter}
 use Rattle.unsynch.proofs.Edits.{edited-end, stays}
 use borrow.Author.Needs.{needs}

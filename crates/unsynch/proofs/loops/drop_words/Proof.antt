@@ -2,7 +2,7 @@
 use mathlib.Core.Path.{_≡_, sym, _∙_}
 use mathlib.Core.Bool.{false}
 use Prim.Native.Nat.{_+_, _-_, _≤_, _<_}
-use Rattle.lists.proofs.Stores.{Storing, begin, lies, rest}
+use Rattle.laws.proofs.Stores.{Storing, begin, lies, rest}
 use Rattle.unsynch.specs.Edits.{resyncBy, editedAfter, hitsAfter}
 use Rattle.unsynch.proofs.Edits.{no-ff}
 use Rattle.unsynch.proofs.Turns.{piece, block}

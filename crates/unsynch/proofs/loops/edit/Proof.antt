@@ -3,7 +3,7 @@ use mathlib.Core.Path.{ap, _∙_}
 use Prim.Native.Nat.{ℕ, _+_, _≤_, _<_}
 use lib.ListN.{length, set, getD, length-set}
 use lib.Seq.{slice}
-use Rattle.lists.proofs.Stores.{Storing, begin, lies, rest}
+use Rattle.laws.proofs.Stores.{Storing, begin, lies, rest}
 use Rattle.unsynch.specs.Edits.{edited, editedAfter}
 use Rattle.unsynch.proofs.Edits.{edited-first}
 use Rattle.unsynch.proofs.Turns.{insert-turn}

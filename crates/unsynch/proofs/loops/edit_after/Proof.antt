@@ -1,7 +1,7 @@
 -- `unsynch::loops::edit_after` meets its contract. Assumes nothing.
 use mathlib.Core.Path.{sym, _∙_}
 use Prim.Native.Nat.{_+_, _-_, _≤_, _<_}
-use Rattle.lists.proofs.Stores.{Storing, begin, lies, rest}
+use Rattle.laws.proofs.Stores.{Storing, begin, lies, rest}
 use Rattle.unsynch.specs.Edits.{editedAfter}
 use Rattle.unsynch.proofs.Turns.{piece, block}
 use borrow.Author.Needs.{needs}

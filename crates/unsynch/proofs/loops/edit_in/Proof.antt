@@ -2,7 +2,7 @@
 use mathlib.Core.Path.{ap, _∙_}
 use mathlib.Core.List.{List}
 use Prim.Native.Nat.{ℕ, _+_}
-use Rattle.lists.proofs.Stores.{lies, rest}
+use Rattle.laws.proofs.Stores.{lies, rest}
 use lib.ListN.{set, getD, length-set}
 use lib.Seq.{take-set-le}
 use Rattle.unsynch.specs.Edits.{stored}

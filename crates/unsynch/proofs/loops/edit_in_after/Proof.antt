@@ -2,7 +2,7 @@
 use mathlib.Core.Path.{_≡_, refl, ap}
 use Prim.Native.Nat.{ℕ, _+_, _-_, _≤_, _<_}
 use lib.ListN.{length, take}
-use Rattle.lists.proofs.Stores.{Storing, begin, done}
+use Rattle.laws.proofs.Stores.{Storing, begin, done}
 use Rattle.unsynch.specs.Edits.{editedAfter}
 use Rattle.unsynch.proofs.Edits.{edited-end}
 use Rattle.unsynch.proofs.Turns.{piece-in}

@@ -3,7 +3,7 @@ use mathlib.Core.Path.{_≡_, sym}
 use Prim.Native.Nat.{_+_, _-_, _≤_, _<_}
 use Rattle.unsynch.specs.Edits.{hitsAfter}
 use Rattle.unsynch.proofs.Edits.{few-after, hits-parted, none-after}
-use Rattle.lists.proofs.Bools.{or-false}
+use Rattle.laws.proofs.Bools.{or-false}
 use borrow.Author.Tests.{not-true}
 use native.Mathlib.Omega.{arith}
 use Rattle.unsynch.proofs.loops.hits_after.Statement.{statement}

@@ -4,7 +4,7 @@ use Prim.Native.Nat.{ℕ, _+_, _-_, _≤_, _<_}
 use mathlib.Core.Bool.{Bool, _&&_}
 use lib.ListN.{length, set, getD, length-set}
 use lib.Dec.{eqb}
-use Rattle.lists.proofs.Stores.{Storing, begin, done}
+use Rattle.laws.proofs.Stores.{Storing, begin, done}
 use Rattle.unsynch.specs.declared.loops.How.{How}
 use Rattle.unsynch.specs.Edits.{editedAfter, stored}
 use Rattle.unsynch.proofs.Edits.{edited-end, comes, guardBy, guards-by, above}

@@ -4,7 +4,7 @@ use Prim.Native.Nat.{ℕ}
 use native.Mathlib.Omega.{arith}
 use mathlib.Core.List.{List}
 use lib.ListN.{length}
-use Rattle.walk.specs.declared.record.Opened.{Opened}
+use Rattle.walk.specs.declared.record.Entered.{Entered}
 use Rattle.walk.proofs.Onwards.{Here, here}
 use Rattle.walk.proofs.Sources.{no-frame, head-refused, frame-refused, frame-shown}
 use borrow.Author.Needs.{needs}
@@ -112,7 +112,7 @@ returns-3 c =
     frame-refused (a .version) (a .in-work) (a .begin) (a .at) (a .end) (a .tag .now) (a .work .now) (at-source .source .result .now) (at-source .source .ensures)
     (found at-found) (at-kind .shown-kind .result) (at-resynced .is-resynced .result) (at-kind .shown-kind .ensures) (at-resynced .is-resynced .ensures)
     (at-enter .enter .last .0) (refused .0 .0)
-    (ap {B = Opened × List ℕ} (λ (x : Opened). (x, at-enter .enter .last .0)) (sym (refused .1)) ∙ at-enter .enter .ensures)
+    (ap {B = Entered × List ℕ} (λ (x : Entered). (x, at-enter .enter .last .0)) (sym (refused .1)) ∙ at-enter .enter .ensures)
 
 same-length-4 : tie.Need-same-length-4
 same-length-4 c = search needs
@@ -130,7 +130,7 @@ returns-4 c =
     frame-shown (a .version) (a .in-work) (a .begin) (a .at) (a .end) (a .tag .now) (a .work .now) (at-source .source .result .now) (at-source .source .ensures)
     (found at-found) (at-kind .shown-kind .result) (at-resynced .is-resynced .result) (at-kind .shown-kind .ensures) (at-resynced .is-resynced .ensures)
     (at-enter .enter .last .0) (body .0 .0) (body .0 .1 .0)
-    (ap {B = Opened × List ℕ} (λ (x : Opened). (x, at-enter .enter .last .0)) (sym (body .1)) ∙ at-enter .enter .ensures)
+    (ap {B = Entered × List ℕ} (λ (x : Entered). (x, at-enter .enter .last .0)) (sym (body .1)) ∙ at-enter .enter .ensures)
     (c .record-of .result) (c .before .beyond .result) (c .before .before .either .result) (c .before .beyond .ensures) (c .before .before .either .ensures) (c .record-of .ensures)
 
 pub frame-at-spec : {M : Type 1} → statement M

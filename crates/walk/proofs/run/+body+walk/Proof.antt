@@ -7,7 +7,7 @@ use native.Mathlib.Omega.{arith}
 use borrow.Author.Needs.{needs}
 use lib.ListN.{length}
 use lib.Seq.{slice}
-use Rattle.lists.proofs.Slices.{slice-cut}
+use Rattle.laws.proofs.Slices.{slice-cut}
 use Rattle.format.specs.Unsynch.{resynchronised}
 use Rattle.format.specs.Walk.{Out, bodyOf, walked}
 use Rattle.unsynch.specs.declared.Put.{Put}

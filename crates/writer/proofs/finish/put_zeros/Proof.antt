@@ -1,7 +1,7 @@
 -- `writer::finish::put_zeros` meets its contract. Assumes nothing.
 use Prim.Native.Nat.{_+_, _-_, _≤_}
 use native.Mathlib.Omega.{arith}
-use Rattle.lists.proofs.Stores.{Storing}
+use Rattle.laws.proofs.Stores.{Storing}
 use Rattle.format.specs.Bytes.{zeros}
 use Rattle.writer.proofs.Finishes.{zeros-begin, zero-turn, zeros-done}
 use borrow.Author.Needs.{needs}

@@ -3,7 +3,7 @@ use Prim.Native.Nat.{_-_, _*_, _/_, _%_, _^_, _≤_}
 use native.Mathlib.Omega.{arith}
 use mathlib.Core.List.{_∷_}
 use borrow.Author.Needs.{needs}
-use Rattle.lists.proofs.Stores.{Storing, begin, next-lies, put, same-list, all-done}
+use Rattle.laws.proofs.Stores.{Storing, begin, next-lies, put, same-list, all-done}
 use Rattle.format.specs.Numbers.{bytesOf}
 use Rattle.format.proofs.Numbers.{length-digits}
 use Rattle.writer.proofs.Digits.{bytes-first, bytes-none}

@@ -4,7 +4,7 @@ use Prim.Native.Nat.{_+_, _-_}
 use native.Mathlib.Omega.{arith}
 use borrow.Author.Needs.{needs}
 use lib.ListN.{length}
-use Rattle.lists.proofs.Pieces.{drop-none}
+use Rattle.laws.proofs.Pieces.{drop-none}
 use Rattle.format.specs.Table.{pack}
 use Rattle.writer.specs.Packs.{left, Ready}
 use Rattle.writer.proofs.Puts.{Writing, begin, same-list, lies, put, done}

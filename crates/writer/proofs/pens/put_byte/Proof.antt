@@ -3,7 +3,7 @@ use mathlib.Core.Path.{refl, sym, _∙_}
 use mathlib.Core.Bool.{true, false}
 use mathlib.Core.List.{List, [], _∷_}
 use Prim.Native.Nat.{ℕ}
-use Rattle.lists.proofs.Stores.{Storing, begin, same-list, next-lies, put, done}
+use Rattle.laws.proofs.Stores.{Storing, begin, same-list, next-lies, put, done}
 use Rattle.format.specs.Unsynch.{guards, unsync, endsFF}
 use Rattle.writer.proofs.Puts.{byte-bytes, pen-put}
 use borrow.Author.Needs.{needs}

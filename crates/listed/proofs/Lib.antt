@@ -1,4 +1,0 @@
--- Worked cases of the listing, then laws that the proofs of the functions and of programs cite.
-pub mod Cases
-pub mod Puts
-pub mod Texts
