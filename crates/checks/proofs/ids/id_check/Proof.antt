@@ -15,7 +15,8 @@ use Rattle.checks.proofs.ids.id_check.Tie as tie
 
 -- behind the kinds' refusal
 kinds : (c : tie.After-kinds-refusal) (name names rest deviations : List ℕ) →
-    let a = c .before .before .before .before .before .before .args in
+    let at-fields = c .before .before .before in
+    let a = at-fields .before .before .before .args in
     let r = recOf (a .heading) name names rest deviations in
     first (idCheck (a .version) r ∷ rawCheck (a .version) r ∷ []) ≡ first (c .kinds-refusal .result ∷ pick (a .heading .short) 25 0 ∷ pick (a .heading .compressed) 25 0 ∷ [])
 kinds c name names rest deviations =
@@ -54,7 +55,8 @@ returns-2 c name names rest deviations = sym (kinds (c .before) name names rest 
 
 returns-3 : tie.Need-returns-3
 returns-3 c name names rest deviations =
-    let at-start = c .before .before .before .before .before .before .before .before in
+    let at-kind-of = c .before .before .before .before in
+    let at-start = at-kind-of .before .before .before .before in
     let a = at-start .args in
     let marked = kinds (c .before .before) name names rest deviations ∙ passed _ _ (c .before .if2 .left) in
     sym (marked ∙ marks {compressed = a .heading .compressed} (c .if3 .taken) refl)

@@ -19,12 +19,14 @@ zeros-in-requires c κs = search needs
 
 returns-2 : tie.Need-returns-2
 returns-2 c =
-    let at-start = c .before .before .before .before .before in
+    let at-if1 = c .before .before in
+    let at-start = at-if1 .before .before .before in
     sym (too-many (at-start .args .children .now) (omega arith))
 
 returns-3 : tie.Need-returns-3
 returns-3 c =
-    let at-start = c .before .before .before .before .before in
+    let at-if1 = c .before .before in
+    let at-start = at-if1 .before .before .before in
     sym (all-closed (at-start .args .children .now) (omega arith) (omega arith))
 
 pub children-check-spec : {M : Type 1} → statement M

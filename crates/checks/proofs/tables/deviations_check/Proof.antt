@@ -18,7 +18,7 @@ even c = eq-eqb _ _ (c .if1 .left)
 fitting : (c : tie.Else2) → let a = c .before .before .before .before .args in (eqb (length (a .deviations .now) % 2) 0 && fit (a .v) (a .w) (a .deviations .now)) ≡ true
 fitting c = rw (even (c .before .before)) (sym (c .before .all-fit .ensures) ∙ not-false _ (c .if2 .left))
 
-short : (c : tie.Else3) → ltb (c .before .before .before .before .before .before .args .bytes) (2 ^ 24) ≡ true
+short : (c : tie.Else3) → let at-fitting = c .before .before in let a = at-fitting .before .before .before .before .args in ltb (a .bytes) (2 ^ 24) ≡ true
 short c = sym (c .before .fits2 .ensures) ∙ not-false _ (c .if3 .left)
 
 returns : tie.Need-returns
@@ -49,9 +49,9 @@ fits-requires-2 c κs = search needs
 returns-4 : tie.Need-returns-4
 unfolding first
 returns-4 c =
-    let at-before = c .before .before .before in
+    let at-fits2 = c .before .before .before in
     let over = sym (c .before .fits3 .ensures) ∙ not-true _ (c .if4 .taken) in
-    rw (fitting (at-before .before), short (c .before .before), over)
+    rw (fitting (at-fits2 .before), short (c .before .before), over)
 
 add-odd-check : tie.Need-add-odd-check
 add-odd-check c = search needs

@@ -75,11 +75,14 @@ returns-2 c v =
 
 -- where the names are there
 module _ (c : tie.After-known-told) where
+  abbrev at-if1 : tie.Else1
+  at-if1 = let at-names = c .before .before .before .before in at-names .before .before .before
+
   abbrev b : List ℕ
-  b = c .before .before .before .before .before .before .before .before .before .part .result .now
+  b = at-if1 .before .before .part .result .now
 
   abbrev len : ℕ
-  len = c .before .before .before .before .before .before .before .before .zero-at .result
+  len = at-if1 .before .zero-at .result
 
   abbrev names : List ℕ
   names = c .before .before .before .before .part2 .result .now
@@ -92,18 +95,22 @@ module _ (c : tie.After-known-told) where
 
   within : len + 3 + n ≤ length b
   within =
-      let z = c .before .before .before .before .before .before .before .before .zero-at .ensures in
-      let reaches = c .before .before .before .before .before .before .before .if1 .left in
+      let z = at-if1 .before .zero-at .ensures in
+      let reaches = at-if1 .if1 .left in
       contents-within b len z names (c .before .before .before .before .part2 .ensures) reaches (getD b (len + 2) 0) n (answer .1)
 
 add-run : tie.Need-add-run
 add-run c =
-    let at-part = c .before .before .before .before .before .before .before .before .before in
+    let at-part2 = c .before .before .before .before in
+    let at-if1 = at-part2 .before .before .before in
+    let at-part = at-if1 .before .before in
     omega (arith, within c, at-part .part .ok)
 
 add-first : tie.Need-add-first
 add-first c =
-    let at-part = c .before .before .before .before .before .before .before .before .before in
+    let at-part2 = c .before .before .before .before in
+    let at-if1 = at-part2 .before .before .before in
+    let at-part = at-if1 .before .before in
     let at-start = at-part .before .before in
     let a = at-start .args in
     let e = at-part .part .ensures in
@@ -112,7 +119,9 @@ add-first c =
 
 add-start : tie.Need-add-start
 add-start c =
-    let at-part = c .before .before .before .before .before .before .before .before .before in
+    let at-part2 = c .before .before .before .before in
+    let at-if1 = at-part2 .before .before .before in
+    let at-part = at-if1 .before .before in
     let at-start = at-part .before .before in
     let a = at-start .args in
     let e = at-part .part .ensures in

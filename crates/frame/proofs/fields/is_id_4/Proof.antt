@@ -23,8 +23,8 @@ is-utf8-4-requires c κs = search needs
 
 returns : tie.Need-returns
 returns c =
-    let at-before = c .before .before .before .before .before in
-    let a = at-before .before in
+    let at-read = c .before .before .before .before in
+    let a = at-read .before .before in
     c .is-utf8-4 .ensures ∙ ap isUtf8 (sym (four 0 (a .args .b .now) (a .pre)))
 
 pub is-id-4-spec : {M : Type 1} → statement M

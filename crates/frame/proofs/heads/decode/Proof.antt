@@ -1,5 +1,5 @@
 -- `frame::heads::decode` meets its contract. Assumes nothing.
-use mathlib.Core.Path.{_≡_, ap, subst, _∙_}
+use mathlib.Core.Path.{_≡_, sym, ap, subst, _∙_}
 use Prim.Native.Nat.{ℕ, _≤_}
 use native.Mathlib.Omega.{arith}
 use mathlib.Core.List.{List}
@@ -15,7 +15,8 @@ use Rattle.frame.proofs.heads.decode.Tie as tie
 
 -- the first checks are made
 checked : (c : tie.After-first-refusal)
-    → let at-part = c .before .before .before .before .before in
+    → let at-long = c .before .before .before in
+    let at-part = at-long .before .before in
     let a = at-part .before .before .args in
     Tested (a .version) (a .depth) (c .first-refusal .result) (at-part .part .result .now)
 checked c =
@@ -28,21 +29,24 @@ checked c =
 
 -- they passed, and the edition is one
 module _ (c : tie.Else3) (v : Version) where
-  abbrev front : List ℕ
-  front = c .before .before .before .before .before .before .part .result .now
+  abbrev at-part : tie.After-part
+  at-part = let at-long = c .before .before .before .before in at-long .before .before
 
-  module _ (is : c .before .before .before .before .before .before .before .before .args .version ≡ v) where
+  abbrev front : List ℕ
+  front = at-part .part .result .now
+
+  module _ (is : at-part .before .before .args .version ≡ v) where
     passed : Begun v front
     passed = subst (λ (x : Version). Begun x front) is (begun (checked (c .before)) (c .if3 .left) .1)
 
     decoded : (h : Head) → ((depth : ℕ) → depth ≤ 8 → h ≡ headOf v depth front)
-        → let at-part = c .before .before .before .before .before .before in
-        let a = at-part .before .before .args in
+        → let a = at-part .before .before .args in
         h ≡ headOf (a .version) (a .depth) (slice (a .from) (a .to) (a .s .now))
     decoded h e =
-        let at-part = c .before .before .before .before .before .before in
         let a = at-part .before .before .args in
-        rw is (e (a .depth) (begun (checked (c .before)) (c .if3 .left) .0) ∙ ap (headOf v (a .depth)) (at-part .part .ensures))
+        e (a .depth) (begun (checked (c .before)) (c .if3 .left) .0)
+        ∙ ap (headOf v (a .depth)) (at-part .part .ensures)
+        ∙ ap (λ (x : Version). headOf x (a .depth) (slice (a .from) (a .to) (a .s .now))) (sym is)
 
 part-requires : tie.Need-part-requires
 part-requires c κs = search needs
@@ -60,8 +64,8 @@ returns c =
 
 shared-slice-read-if2 : tie.Need-shared-slice-read-if2
 shared-slice-read-if2 c =
-    let at-before = c .before .before .before .before in
-    let at-start = at-before .before in
+    let at-read = c .before .before .before .before in
+    let at-start = at-read .before in
     omega (arith, c .before .before .head-len .ensures .0, head-some (at-start .args .version))
 
 returns-2 : tie.Need-returns-2
@@ -78,8 +82,8 @@ first-refusal-requires c κs = search needs
 
 returns-3 : tie.Need-returns-3
 returns-3 c =
-    let at-before = c .before .before .before .before .before in
-    let at-part = at-before .before in
+    let at-if2 = c .before .before in
+    let at-part = at-if2 .before .before .before .before in
     let a = at-part .before .before .args in
     refused-first (checked (c .before)) (c .if3 .taken) ∙ ap (headOf (a .version) (a .depth)) (at-part .part .ensures)
 

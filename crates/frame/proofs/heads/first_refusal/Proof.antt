@@ -17,24 +17,21 @@ enum-told c = search needs
 
 is-id-3-requires : tie.Need-is-id-3-requires
 is-id-3-requires c κs =
-    let at-before = c .before .before .before in
-    let a = at-before .before in omega (arith, head-some (a .args .version), a .pre)
+    let a = c .before .before .before .before in omega (arith, head-some (a .args .version), a .pre)
 
 enum-told-2 : tie.Need-enum-told-2
 enum-told-2 c = search needs
 
 id-refusal-requires : tie.Need-id-refusal-requires
 id-refusal-requires c κs =
-    let at-before = c .before .before .before in
-    let at-start = at-before .before in rw (c .enum-told2 .given .1) at (at-start .pre)
+    let at-start = c .before .before .before .before in rw (c .enum-told2 .given .1) at (at-start .pre)
 
 enum-told-3 : tie.Need-enum-told-3
 enum-told-3 c = search needs
 
 id-refusal-requires-2 : tie.Need-id-refusal-requires-2
 id-refusal-requires-2 c κs =
-    let at-before = c .before .before .before in
-    let at-start = at-before .before in rw (c .enum-told3 .given .1) at (at-start .pre)
+    let at-start = c .before .before .before .before in rw (c .enum-told3 .given .1) at (at-start .pre)
 
 returns-2 : tie.Need-returns-2
 unfolding first

@@ -58,8 +58,9 @@ cast-millis c = search needs
 
 add-start : tie.Need-add-start
 add-start c =
-    let at-before = c .before .before .before .before .before .before .before in
-    let at-part = at-before .before in
+    let at-if2 = c .before .before .before in
+    let at-if1 = at-if2 .before .before .before .before in
+    let at-part = at-if1 .before in
     let a = at-part .before .before .args in
     let b = at-part .part in
     omega (arith, cut-lies (a .from) (a .to) (a .s .now) (b .result .now) (b .ensures) (omega arith))

@@ -59,7 +59,8 @@ loop-less c = search needs
 
 loop-again : tie.Need-loop-again Inv-loop μ-loop
 loop-again c =
-    let at-loop = c .before .before .before .before .before in
+    let at-zero-pair = c .before in
+    let at-loop = at-zero-pair .before .before .before .before in
     let at-start = at-loop .before .before in
     let s = at-start .args .s .now in
     let L = at-loop .loop in

@@ -28,8 +28,7 @@ found-requires c κs = search needs
 
 returns : tie.Need-returns
 returns c depth shallow =
-    let at-before = c .before .before .before in
-    let at-start = at-before .before in
+    let at-start = c .before .before .before .before in
     let b = at-start .args .b .now in
     let id = c .before .before .read-few in
     let size = c .before .read-few2 in

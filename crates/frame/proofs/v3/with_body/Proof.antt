@@ -26,8 +26,8 @@ add-start c = search needs
 
 returns : tie.Need-returns
 returns c depth shallow =
-    let at-before = c .before .before .before .before in
-    let a = at-before .before in
+    let at-read = c .before .before .before .before in
+    let a = at-read .before in
     let n = c .before in
     no-length Id3v23 (a .args .b .now) (a .pre) depth shallow (n .length-bytes .result) (is-length n) (c .if1 .taken)
 
@@ -39,8 +39,8 @@ cast-whole c = search needs
 
 returns-2 : tie.Need-returns-2
 returns-2 c depth shallow =
-    let at-before = c .before .before .before .before .before .before in
-    let a = at-before .before in
+    let at-length-bytes = c .before .before .before in
+    let a = at-length-bytes .before .before .before .before in
     let n = c .before .before .before in
     let whole = c .before .read32 in
     too-small Id3v23 (a .args .b .now) (a .pre) depth shallow (n .length-bytes .result) (is-length n) (c .before .before .if1 .left)
@@ -51,12 +51,12 @@ sub-left c = search needs
 
 returns-3 : tie.Need-returns-3
 returns-3 c depth shallow =
-    let at-before = c .before .before .before in
-    let at-before′ = at-before .before .before .before .before in
-    let a = at-before′ .before in
-    let n = at-before .before in
+    let at-if1 = c .before .before .before in
+    let at-read = at-if1 .before .before .before .before in
+    let a = at-read .before in
+    let n = at-if1 .before in
     let whole = c .before .before .read32 in
-    not-whole Id3v23 (a .args .b .now) (a .pre) depth shallow (n .length-bytes .result) (is-length n) (at-before .if1 .left)
+    not-whole Id3v23 (a .args .b .now) (a .pre) depth shallow (n .length-bytes .result) (is-length n) (at-if1 .if1 .left)
     (whole .result) (whole .ensures) _ refl refl (c .before .if2 .left) (c .if3 .taken)
 
 read32-requires-2 : tie.Need-read32-requires-2
@@ -69,15 +69,14 @@ returns-4 : tie.Need-returns-4
 returns-4 c depth shallow =
     let at-if2 = c .before .before .before in
     let at-read32 = at-if2 .before in
-    let at-before = at-read32 .before in
-    let at-has = at-before .before .before in
-    let at-before′ = at-has .before .before in
-    let a = at-before′ .before in
-    let n = at-before .before in
+    let at-if1 = at-read32 .before in
+    let at-has = at-if1 .before .before in
+    let a = at-has .before .before .before in
+    let n = at-if1 .before in
     let whole = at-read32 .read32 in
     let id = c .before .read322 in
     let compressed = at-has .has in
-    found Id3v23 (a .args .b .now) (a .pre) depth shallow (n .length-bytes .result) (is-length n) (at-before .if1 .left)
+    found Id3v23 (a .args .b .now) (a .pre) depth shallow (n .length-bytes .result) (is-length n) (at-if1 .if1 .left)
     (whole .result) (whole .ensures) _ refl (λ w. (at-if2 .if2 .left, c .before .before .if3 .left))
     (id .result) (id .ensures) (compressed .result) false (compressed .ensures) refl (c .found .result) (c .found .ensures)
 

@@ -33,8 +33,8 @@ beyond-requires c κs = search needs
 
 returns : tie.Need-returns
 returns c depth shallow =
-    let at-before = c .before .before .before .before .before .before in
-    let a = at-before .before in
+    let at-length-bytes = c .before .before .before in
+    let a = at-length-bytes .before .before .before .before in
     let n = c .before .before .before in
     no-length Id3v24 (a .args .b .now) (a .pre) depth shallow (n .length-bytes .result) (is-length n) (c .if1 .taken)
 
@@ -58,12 +58,12 @@ returns-2 c depth shallow =
     let at-has2 = c .before .before .before in
     let at-if1 = at-has2 .before in
     let at-beyond = at-if1 .before in
-    let at-before = at-beyond .before in
-    let at-before′ = at-before .before .before .before .before in
-    let a = at-before′ .before in
-    let n = at-before .before in
+    let at-frame-size = at-beyond .before in
+    let at-read = at-frame-size .before .before .before .before in
+    let a = at-read .before in
+    let n = at-frame-size .before in
     let there = at-if1 .if1 .left in
-    let whole = at-before .frame-size in
+    let whole = at-frame-size .frame-size in
     let size = at-beyond .beyond in
     let id = c .before .read32 in
     let compressed = at-has2 .has2 in

@@ -78,7 +78,8 @@ returns c = rw (c .before .enum-told .given .1) (c .text .ensures)
 -- src/inside.rt:62:1
 returns-2 : tie.Need-returns-2
 returns-2 c =
-    let at-start = c .before .before .before .before .before in
+    let at-parse = c .before in
+    let at-start = at-parse .before .before .before .before in
     let a = at-start .args in
     let b = slice (a .from) (a .to) (a .s .now) in
     let l = length-slice (a .from) (a .to) (a .s .now) (at-start .pre .1) in
@@ -88,7 +89,8 @@ returns-2 c =
 -- src/inside.rt:62:1
 returns-3 : tie.Need-returns-3
 returns-3 c =
-    let at-start = c .before .before .before .before .before in
+    let at-parse2 = c .before in
+    let at-start = at-parse2 .before .before .before .before in
     let a = at-start .args in
     let b = slice (a .from) (a .to) (a .s .now) in
     let l = length-slice (a .from) (a .to) (a .s .now) (at-start .pre .1) in
@@ -98,7 +100,8 @@ returns-3 c =
 -- src/inside.rt:62:1
 returns-4 : tie.Need-returns-4
 returns-4 c =
-    let at-start = c .before .before .before .before .before in
+    let at-parse-chapter = c .before in
+    let at-start = at-parse-chapter .before .before .before .before in
     let a = at-start .args in
     let b = slice (a .from) (a .to) (a .s .now) in
     let l = length-slice (a .from) (a .to) (a .s .now) (at-start .pre .1) in
@@ -108,7 +111,8 @@ returns-4 c =
 -- src/inside.rt:62:1
 returns-5 : tie.Need-returns-5
 returns-5 c =
-    let at-start = c .before .before .before .before .before in
+    let at-parse-contents = c .before in
+    let at-start = at-parse-contents .before .before .before .before in
     let a = at-start .args in
     let b = slice (a .from) (a .to) (a .s .now) in
     let l = length-slice (a .from) (a .to) (a .s .now) (at-start .pre .1) in

@@ -32,7 +32,8 @@ same-length c = search needs
 
 returns : tie.Need-returns
 returns c =
-    let at-resync-into = c .before .before .before .before .before in
+    let at-k = c .before in
+    let at-resync-into = at-k .before .before .before .before in
     let at-start = at-resync-into .before .before .before .before in
     let a = at-start .args in
     let R = at-resync-into .resync-into in

@@ -19,7 +19,8 @@ enum-known-start c = search needs
 
 shown-body-requires : tie.Need-shown-body-requires
 shown-body-requires c κs =
-    let at-ready = c .before .before .before .before .before .before in
+    let at-lies = c .before .before in
+    let at-ready = at-lies .before .before .before .before in
     let at-start = at-ready .before .before .before .before in
     let a = at-start .args in
     let q = c .before .before .start .given .0 in
@@ -31,7 +32,8 @@ same-length c = search needs
 
 returns : tie.Need-returns
 returns c =
-    let at-ready = c .before .before .before .before .before in
+    let at-k = c .before in
+    let at-ready = at-k .before .before .before .before in
     let at-start = at-ready .before .before .before .before in
     let a = at-start .args in
     let e = ap {B = Lies × List ℕ} (λ (x : Lies). (x, at-ready .ready .last .0)) (sym (c .before .k .given .1)) ∙ at-ready .ready .ensures in
@@ -42,10 +44,11 @@ same-length-2 c = search needs
 
 returns-2 : tie.Need-returns-2
 returns-2 c =
-    let at-start = c .before .before .before .before .before in
+    let at-shown-body = c .before .before in
+    let at-start = at-shown-body .before .before .before in
     let at-ready = at-start .before .before .before .before in
-    let at-start′ = at-ready .before .before .before .before in
-    let a = at-start′ .args in
+    let at-start-2 = at-ready .before .before .before .before in
+    let a = at-start-2 .args in
     let q = at-start .start .given .0 in
     let e = ap {B = Lies × List ℕ} (λ (x : Lies). (x, at-ready .ready .last .0)) (sym (at-start .start .given .1)) ∙ at-ready .ready .ensures in
     c .before .before .shown-body .ensures

@@ -46,13 +46,15 @@ found c =
 add-first : tie.Need-add-first
 add-first c =
     let at-found = c .before .before .before in
-    let at-start = at-found .before .before .before .before .before .before .before in
+    let at-source = at-found .before .before .before in
+    let at-start = at-source .before .before .before .before in
     omega (arith, found at-found .within, at-start .good)
 
 add-next : tie.Need-add-next
 add-next c =
     let at-found = c .before .before .before in
-    let at-start = at-found .before .before .before .before .before .before .before in
+    let at-source = at-found .before .before .before in
+    let at-start = at-source .before .before .before .before in
     omega (arith, found at-found .within, at-start .good)
 
 enter-requires : tie.Need-enter-requires
@@ -102,7 +104,8 @@ same-length-3 c = search needs
 
 returns-3 : tie.Need-returns-3
 returns-3 c =
-    let at-enter = c .before .before .before .before .before in
+    let at-k2 = c .before in
+    let at-enter = at-k2 .before .before .before .before in
     let at-resynced = at-enter .before .before in
     let at-kind = at-resynced .before in
     let at-found = at-kind .before .before in

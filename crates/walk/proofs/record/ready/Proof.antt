@@ -18,7 +18,8 @@ same-length c = search needs
 
 returns : tie.Need-returns
 returns c =
-    let at-resync-front = c .before .before .before .before .before in
+    let at-k = c .before in
+    let at-resync-front = at-k .before .before .before .before in
     let at-if1 = at-resync-front .before .before in
     let at-start = at-if1 .before .before .before in
     let a = at-start .args in
@@ -30,7 +31,8 @@ same-length-2 c = search needs
 
 returns-2 : tie.Need-returns-2
 returns-2 c =
-    let at-resync-front = c .before .before .before .before .before in
+    let at-n = c .before in
+    let at-resync-front = at-n .before .before .before .before in
     let at-if1 = at-resync-front .before .before in
     let at-start = at-if1 .before .before .before in
     let a = at-start .args in

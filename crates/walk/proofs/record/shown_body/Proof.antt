@@ -34,18 +34,25 @@ run-inside-requires c κs = search needs
 
 -- of a body that was read: its source, how long it is, and where it ends
 within : (d : tie.After-run-inside)
-    → let a = d .before .before .before .before .before .before .before .before .before .before .before .before .args in
-    let S = d .before .before .before .before .before .before .before .source .result .now in
+    → let at-parts = d .before .before .before .before in
+    let at-source = at-parts .before .before .before in
+    let at-either = at-source .before .before in
+    let a = at-either .before .before .before .args in
+    let S = at-source .source .result .now in
     (S ≡ sourceOf (a .in-work || a .resynced) (a .work .now) (a .tag .now))
     × (length (slice (a .from) (a .to) S) ≡ a .to - a .from)
     × (a .from + length (slice (a .from) (a .to) S) ≡ a .to)
 within d =
-    let a = d .before .before .before .before .before .before .before .before .before .before .before .before .args in
-    let S = d .before .before .before .before .before .before .before .source .result .now in
+    let at-parts = d .before .before .before .before in
+    let at-source = at-parts .before .before .before in
+    let at-either = at-source .before .before in
+    let at-start = at-either .before .before .before in
+    let a = at-start .args in
+    let S = at-source .source .result .now in
     let es : S ≡ sourceOf (a .in-work || a .resynced) (a .work .now) (a .tag .now) =
-    d .before .before .before .before .before .before .before .source .ensures ∙ ap (λ (x : Bool). sourceOf x (a .work .now) (a .tag .now)) (d .before .before .before .before .before .before .before .before .before .either .ensures) in
-    let long : length (slice (a .from) (a .to) S) ≡ a .to - a .from = length-slice (a .from) (a .to) S (omega (arith, ap length es, d .before .before .before .before .before .before .before .before .before .before .before .before .pre .1)) in
-    (es, long, omega (arith, d .before .before .before .before .before .before .before .before .before .before .before .before .pre .0))
+    at-source .source .ensures ∙ ap (λ (x : Bool). sourceOf x (a .work .now) (a .tag .now)) (at-either .either .ensures) in
+    let long : length (slice (a .from) (a .to) S) ≡ a .to - a .from = length-slice (a .from) (a .to) S (omega (arith, ap length es, at-start .pre .1)) in
+    (es, long, omega (arith, at-start .pre .0))
 
 same-length : tie.Need-same-length
 same-length c = search needs
@@ -53,8 +60,9 @@ same-length c = search needs
 returns : tie.Need-returns
 returns c =
     let d = c .before .before .before in
+    let at-parts = d .before .before .before .before in
     let k = within d in
-    shows-run _ _ _ _ _ _ _ _ _ (k .0) (k .2) _ (sym (d .before .before .before .before .parts .given .1) ∙ d .before .before .before .before .before .before .parse .ensures) _ (d .before .before .place .ensures) _ _ (d .run-inside .ensures) (c .if1 .taken)
+    shows-run _ _ _ _ _ _ _ _ _ (k .0) (k .2) _ (sym (at-parts .parts .given .1) ∙ at-parts .before .before .parse .ensures) _ (d .before .before .place .ensures) _ _ (d .run-inside .ensures) (c .if1 .taken)
 
 sub-len : tie.Need-sub-len
 sub-len c = search needs
@@ -80,8 +88,9 @@ same-length-3 c = search needs
 returns-3 : tie.Need-returns-3
 returns-3 c =
     let d = c .before .before .before in
+    let at-parts = d .before .before .before .before in
     let k = within d in
-    shows-parts _ _ _ _ _ _ _ _ _ (k .0) (k .2) _ (sym (d .before .before .before .before .parts .given .1) ∙ d .before .before .before .before .before .before .parse .ensures) _ (d .before .before .place .ensures) _ _ (d .run-inside .ensures) (c .if1 .left) _ (sym (k .1))
+    shows-parts _ _ _ _ _ _ _ _ _ (k .0) (k .2) _ (sym (at-parts .parts .given .1) ∙ at-parts .before .before .parse .ensures) _ (d .before .before .place .ensures) _ _ (d .run-inside .ensures) (c .if1 .left) _ (sym (k .1))
 
 pub shown-body-spec : {M : Type 1} → statement M
 shown-body-spec =

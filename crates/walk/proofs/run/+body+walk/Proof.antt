@@ -66,12 +66,14 @@ body-enum-known-k t c = search needs
 
 body-same-length : (t : ℕ) → body-lts.Need-same-length (body-calls t) (body-at t) body.Post
 body-same-length t c =
-    let at-resync-into = c .before .before .before .before .before in
+    let at-k = c .before in
+    let at-resync-into = at-k .before .before .before .before in
     at-resync-into .resync-into .kept .0
 
 body-returns : (t : ℕ) → body-lts.Need-returns (body-calls t) (body-at t) body.Post
 body-returns t c =
-    let at-resync-into = c .before .before .before .before .before in
+    let at-k = c .before in
+    let at-resync-into = at-k .before .before .before .before in
     let at-if1 = at-resync-into .before .before in
     let at-start = at-if1 .before .before .before in
     let a = at-start .args in
@@ -91,8 +93,10 @@ body-enum-known-n t c = search needs
 
 body-shown-in-requires : (t : ℕ) → body-lts.Need-shown-in-requires (body-calls t) (body-at t) body.Post
 body-shown-in-requires t c κs =
-    let at-resync-into = c .before .before .before .before .before .before in
-    let at-start = at-resync-into .before .before .before .before .before in
+    let at-bytes = c .before .before in
+    let at-resync-into = at-bytes .before .before .before .before in
+    let at-if1 = at-resync-into .before .before in
+    let at-start = at-if1 .before .before .before in
     let a = at-start .args in
     let b = slice (a .from) (a .to) (a .s .now) in
     let room = a .room .now in
@@ -104,13 +108,16 @@ body-shown-in-requires t c κs =
 
 body-same-length-2 : (t : ℕ) → body-lts.Need-same-length-2 (body-calls t) (body-at t) body.Post
 body-same-length-2 t c =
-    let at-resync-into = c .before .before .before .before .before .before .before .before .before in
+    let at-shown-in = c .before .before in
+    let at-bytes = at-shown-in .before .before .before in
+    let at-resync-into = at-bytes .before .before .before .before in
     c .before .before .shown-in .kept .0 ∙ at-resync-into .resync-into .kept .0
 
 body-returns-2 : (t : ℕ) → body-lts.Need-returns-2 (body-calls t) (body-at t) body.Post
 body-returns-2 t c =
-    let at-n = c .before .before .before .before .before in
-    let at-resync-into = at-n .before .before .before .before in
+    let at-shown-in = c .before .before in
+    let at-bytes = at-shown-in .before .before .before in
+    let at-resync-into = at-bytes .before .before .before .before in
     let at-if1 = at-resync-into .before .before in
     let at-start = at-if1 .before .before .before in
     let a = at-start .args in
@@ -120,8 +127,8 @@ body-returns-2 t c =
     let u = resynchronised b in
     let e0 : at-resync-into .resync-into .result ≡ intoOf u room .0 = ap (λ (o : Put × List ℕ). o .0) (at-resync-into .resync-into .ensures) in
     let e1 : at-resync-into .resync-into .last .0 ≡ intoOf u room .1 = ap (λ (o : Put × List ℕ). o .1) (at-resync-into .resync-into .ensures) in
-    let n = at-n .n .given .0 .0 in
-    let f = put-bytes u room n (sym e0 ∙ at-n .n .given .1) in
+    let n = at-bytes .n .given .0 .0 in
+    let f = put-bytes u room n (sym e0 ∙ at-bytes .n .given .1) in
     c .before .before .shown-in .ensures
     ∙ ap (λ (p : List ℕ). insideIn go (a .kind) (slice 0 n p) n p) e1
     ∙ put-inside u room go (a .kind) n (intoOf u room .1) f
@@ -169,16 +176,17 @@ body-same-length-3 t c = c .before .before .walk .kept .0
 
 body-returns-4 : (t : ℕ) → body-lts.Need-returns-4 (body-calls t) (body-at t) body.Post
 body-returns-4 t c =
-    let at-at = c .before .before .before .before .before in
-    let at-look = at-at .before .before in
+    let at-walk = c .before .before in
+    let at-run = at-walk .before .before .before in
+    let at-look = at-run .before .before in
     let at-if1 = at-look .before in
     let at-start = at-if1 .before .before .before in
     let a = at-start .args in
     let b = slice (a .from) (a .to) (a .s .now) in
     let room = a .room .now in
     let go = walked (a .strict) (a .version) (a .depth + 1) in
-    let at = at-at .at .given .0 .0 in
-    let e : Inside.Run at ≡ insideAt (a .kind) (a .from) b = sym (at-at .at .given .1) ∙ at-look .look .ensures in
+    let at = at-run .at .given .0 .0 in
+    let e : Inside.Run at ≡ insideAt (a .kind) (a .from) b = sym (at-run .at .given .1) ∙ at-look .look .ensures in
     c .before .before .walk .ensures
     ∙ sym (run-walked (a .kind) (a .from) (a .to) at (a .s .now) e go room)
     ∙ as-stored (a .resynced) go (a .kind) b room (at-if1 .if1 .left)
@@ -255,7 +263,8 @@ walk-body-requires t c κs =
 walk-same-length-2 : (t : ℕ) → walk-lts.Need-same-length-2 (walk-calls t) (walk-at t) walk.Post walk-Inv-loop walk-μ-loop
 walk-same-length-2 t c =
     let at-body = c .before .before .before in
-    let at-loop = at-body .before .before .before .before .before .before in
+    let at-kind = at-body .before .before .before in
+    let at-loop = at-kind .before .before .before in
     at-body .body .kept .0 ∙ at-loop .loop .inv .3
 
 walk-returns-2 : (t : ℕ) → walk-lts.Need-returns-2 (walk-calls t) (walk-at t) walk.Post walk-Inv-loop walk-μ-loop
@@ -278,7 +287,8 @@ walk-returns-2 t c =
 
 walk-loop-less : (t : ℕ) → walk-lts.Need-loop-less (walk-calls t) (walk-at t) walk.Post walk-Inv-loop walk-μ-loop
 walk-loop-less t c =
-    let at-kind = c .before .before .before .before .before .before in
+    let at-body = c .before .before .before in
+    let at-kind = at-body .before .before .before in
     let on = walk-onward t at-kind in
     omega (arith, on .begins, on .ordered, on .within)
 

@@ -85,12 +85,14 @@ body-in-enum-known-n t c = search needs
 
 body-in-sub-shown-in : (t : ℕ) → body-in-lts.Need-sub-shown-in (body-in-calls t) (body-in-at t) body-in.Post
 body-in-sub-shown-in t c =
-    let at-resync-in = c .before .before .before .before .before in
+    let at-bytes = c .before in
+    let at-resync-in = at-bytes .before .before .before .before in
     omega (arith, at-resync-in .resync-in .kept .0)
 
 body-in-part-shown-in-start : (t : ℕ) → body-in-lts.Need-part-shown-in-start (body-in-calls t) (body-in-at t) body-in.Post
 body-in-part-shown-in-start t c =
-    let at-resync-in = c .before .before .before .before .before in
+    let at-bytes = c .before in
+    let at-resync-in = at-bytes .before .before .before .before in
     omega (arith, at-resync-in .resync-in .kept .0)
 
 body-in-part-shown-in-end : (t : ℕ) → body-in-lts.Need-part-shown-in-end (body-in-calls t) (body-in-at t) body-in.Post
@@ -98,7 +100,8 @@ body-in-part-shown-in-end t c = omega arith
 
 body-in-shown-in-requires : (t : ℕ) → body-in-lts.Need-shown-in-requires (body-in-calls t) (body-in-at t) body-in.Post
 body-in-shown-in-requires t c κs =
-    let at-resync-in = c .before .before .before .before .before .before in
+    let at-bytes = c .before .before in
+    let at-resync-in = at-bytes .before .before .before .before in
     let at-start = at-resync-in .before .before .before .before in
     let a = at-start .args in
     let b = slice (a .from) (a .to) (a .area .now) in
@@ -124,12 +127,14 @@ body-in-shown-in-requires-2 t c κs =
 
 body-in-same-length : (t : ℕ) → body-in-lts.Need-same-length (body-in-calls t) (body-in-at t) body-in.Post
 body-in-same-length t c =
-    let at-resync-in = c .before .before .before .before .before in
+    let at-k = c .before in
+    let at-resync-in = at-k .before .before .before .before in
     at-resync-in .resync-in .kept .0
 
 body-in-returns : (t : ℕ) → body-in-lts.Need-returns (body-in-calls t) (body-in-at t) body-in.Post
 body-in-returns t c =
-    let at-resync-in = c .before .before .before .before .before in
+    let at-k = c .before in
+    let at-resync-in = at-k .before .before .before .before in
     let at-if1 = at-resync-in .before .before in
     let at-start = at-if1 .before .before in
     let a = at-start .args in
@@ -146,7 +151,9 @@ body-in-returns t c =
 
 body-in-same-length-2 : (t : ℕ) → body-in-lts.Need-same-length-2 (body-in-calls t) (body-in-at t) body-in.Post
 body-in-same-length-2 t c =
-    let at-resync-in = c .before .before .before .before .before .before .before .before .before in
+    let at-shown-in = c .before .before in
+    let at-bytes = at-shown-in .before .before .before in
+    let at-resync-in = at-bytes .before .before .before .before in
     let at-start = at-resync-in .before .before .before .before in
     let a = at-start .args in
     let a₁ : List ℕ = at-resync-in .resync-in .last .0 in
@@ -154,8 +161,9 @@ body-in-same-length-2 t c =
 
 body-in-returns-2 : (t : ℕ) → body-in-lts.Need-returns-2 (body-in-calls t) (body-in-at t) body-in.Post
 body-in-returns-2 t c =
-    let at-n = c .before .before .before .before .before in
-    let at-resync-in = at-n .before .before .before .before in
+    let at-shown-in = c .before .before in
+    let at-bytes = at-shown-in .before .before .before in
+    let at-resync-in = at-bytes .before .before .before .before in
     let at-if1 = at-resync-in .before .before in
     let at-start = at-if1 .before .before in
     let a = at-start .args in
@@ -165,8 +173,8 @@ body-in-returns-2 t c =
     let go = walked (a .strict) (a .version) (a .depth + 1) in
     let a₁ = at-resync-in .resync-in .last .0 in
     let put = in-area (a .from) (a .to) (a .split) (a .area .now) (at-start .pre .1 .1) (at-resync-in .resync-in .result) a₁ (at-resync-in .resync-in .ensures) in
-    let n = at-n .n .given .0 .0 in
-    let f = put-bytes u room n (sym (put .0) ∙ at-n .n .given .1) in
+    let n = at-bytes .n .given .0 .0 in
+    let f = put-bytes u room n (sym (put .0) ∙ at-bytes .n .given .1) in
     let r = c .before .before .shown-in .result in
     let p′ = c .before .before .shown-in .last .0 in
     let back = part-back a₁ (a .area .now) (intoOf u room .1) p′ (a .split) (at-start .pre .1 .2) (put .1) in
@@ -233,15 +241,16 @@ shown-in-same-length-2 t c = c .before .before .walk-in .kept .0
 
 shown-in-returns-2 : (t : ℕ) → shown-in-lts.Need-returns-2 (shown-in-calls t) (shown-in-at t) shown-in.Post
 shown-in-returns-2 t c =
-    let at-at = c .before .before .before .before .before in
-    let at-look = at-at .before .before in
+    let at-walk-in = c .before .before in
+    let at-run = at-walk-in .before .before .before in
+    let at-look = at-run .before .before in
     let at-start = at-look .before .before .before in
     let a = at-start .args in
     let A = a .area .now in
     let go = walked (a .strict) (a .version) (a .depth + 1) in
     let room = drop (a .split) A in
-    let at = at-at .at .given .0 .0 in
-    let e : Inside.Run at ≡ insideAt (a .kind) (a .from) (slice (a .from) (a .to) A) = sym (at-at .at .given .1) ∙ at-look .look .ensures in
+    let at = at-run .at .given .0 .0 in
+    let e : Inside.Run at ≡ insideAt (a .kind) (a .from) (slice (a .from) (a .to) A) = sym (at-run .at .given .1) ∙ at-look .look .ensures in
     c .before .before .walk-in .ensures
     ∙ ap (λ (s : List ℕ). behind (take (a .split) A) (go s room)) (before-split at (a .to) (a .split) A (at-start .pre .1 .1))
     ∙ ap (behind (take (a .split) A)) (sym (run-walked (a .kind) (a .from) (a .to) at A e go room))
@@ -280,7 +289,8 @@ walk-in-enum-known-k t c = search needs
 
 walk-in-same-length : (t : ℕ) → walk-in-lts.Need-same-length (walk-in-calls t) (walk-in-at t) walk-in.Post walk-in-Inv-loop walk-in-μ-loop
 walk-in-same-length t c =
-    let at-loop = c .before .before .before .before .before in
+    let at-step-at = c .before .before .before in
+    let at-loop = at-step-at .before .before in
     at-loop .loop .inv .4
 
 walk-in-returns : (t : ℕ) → walk-in-lts.Need-returns (walk-in-calls t) (walk-in-at t) walk-in.Post walk-in-Inv-loop walk-in-μ-loop
@@ -335,7 +345,8 @@ walk-in-body-in-requires t c κs =
 walk-in-same-length-2 : (t : ℕ) → walk-in-lts.Need-same-length-2 (walk-in-calls t) (walk-in-at t) walk-in.Post walk-in-Inv-loop walk-in-μ-loop
 walk-in-same-length-2 t c =
     let at-body-in = c .before .before .before in
-    let at-loop = at-body-in .before .before .before .before .before .before .before in
+    let at-kind = at-body-in .before .before .before in
+    let at-loop = at-kind .before .before .before .before in
     at-body-in .body-in .kept .0 ∙ at-loop .loop .inv .4
 
 walk-in-returns-2 : (t : ℕ) → walk-in-lts.Need-returns-2 (walk-in-calls t) (walk-in-at t) walk-in.Post walk-in-Inv-loop walk-in-μ-loop
@@ -359,7 +370,8 @@ walk-in-returns-2 t c =
 
 walk-in-loop-less : (t : ℕ) → walk-in-lts.Need-loop-less (walk-in-calls t) (walk-in-at t) walk-in.Post walk-in-Inv-loop walk-in-μ-loop
 walk-in-loop-less t c =
-    let at-kind = c .before .before .before .before .before .before in
+    let at-body-in = c .before .before .before in
+    let at-kind = at-body-in .before .before .before in
     let on = walk-in-onward t at-kind in
     omega (arith, on .begins, on .ordered, on .within)
 

@@ -68,7 +68,8 @@ is-resynced-requires c κs = search needs
 
 add-t21 : tie.Need-add-t21
 add-t21 c =
-    let at-found = c .before .before .before .before .before in
+    let at-if1 = c .before .before in
+    let at-found = at-if1 .before .before .before in
     omega (arith, within at-found, at-found .before .before .before .before .fits)
 
 returns-2 : tie.Need-returns-2
