@@ -10,13 +10,17 @@ enum-known-fields : tie.Need-enum-known-fields
 enum-known-fields c = search needs
 
 put-packed-requires : tie.Need-put-packed-requires
-put-packed-requires c κs = rw (c .before .before .fields .given .1) at (c .before .before .before .before .before .before .pre)
+put-packed-requires c κs =
+    let at-fields = c .before .before in
+    rw (at-fields .fields .given .1) at (at-fields .before .before .before .before .pre)
 
 same-length : tie.Need-same-length
 same-length c = search needs
 
 returns : tie.Need-returns
-returns c = rw (c .before .before .before .before .before .fields .given .1) (c .before .before .put-packed .ensures)
+returns c =
+    let at-put = c .before .before in
+    rw (at-put .before .before .before .fields .given .1) (at-put .put-packed .ensures)
 
 returns-2 : tie.Need-returns-2
 unfolding unsync

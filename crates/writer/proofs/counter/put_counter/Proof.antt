@@ -20,8 +20,9 @@ same-length c = search needs
 
 returns : tie.Need-returns
 returns c =
-    let s = c .before .before .before .before .before .before in
-    let w = c .before .before .before .before .width in
+    let at-width = c .before .before .before .before in
+    let s = at-width .before .before in
+    let w = at-width .width in
     let e = counter-bytes (s .args .counter) (s .fits .counter .fits) (w .result) (w .ensures) in
     (w .ensures, c .before .before .put-digits .ensures ∙ ap (sets (s .args .buffer .now) (s .args .at)) (sym e))
 

@@ -25,8 +25,9 @@ unsync-len-requires c κs = search needs
 
 returns-3 : tie.Need-returns-3
 returns-3 c =
-    let a = c .before .before .before .before .before .args in
-    by-count (a .version) (a .mode) (a .padding) (a .used) (a .buffer .now) (c .before .before .before .if1 .left) (c .before .whole-mode .ensures) (c .unsync-len .ensures)
+    let at-mode = c .before in
+    let a = at-mode .before .before .before .before .args in
+    by-count (a .version) (a .mode) (a .padding) (a .used) (a .buffer .now) (at-mode .before .before .if1 .left) (at-mode .whole-mode .ensures) (c .unsync-len .ensures)
 
 pub is-too-long-spec : {M : Type 1} → statement M
 is-too-long-spec =

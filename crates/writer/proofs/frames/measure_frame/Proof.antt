@@ -14,7 +14,8 @@ measure-body-requires c κs = search needs
 
 returns : tie.Need-returns
 returns c =
-    let a = c .before .before .before .before .before .before .args in
+    let at-slices = c .before .before in
+    let a = at-slices .before .before .before .before .args in
     let body = bodyBytes (contentOf (a .heading .fields) (a .name .now) (a .names .now) (a .rest .now) (a .deviations .now)) in
     rw (← stored-length (a .version) (a .mode) body (c .before .body-mode .ensures)) (c .measure-body .ensures)
 

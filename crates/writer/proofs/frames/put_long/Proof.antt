@@ -29,9 +29,12 @@ same-length c = search needs
 
 returns : tie.Need-returns
 returns c =
-    let a = c .before .before .before .before .before .before .before .before .before .before .before .before .before .args in
-    bytes-put (a .buffer .now) (a .at) 4 (a .id) (bytesOf 4 (a .size) ++ bytesOf 2 (a .flags)) (c .before .before .before .before .before .before .before .before .before .before .put-digits .ensures)
-    (bytes-put _ (a .at + 4) 4 (a .size) (bytesOf 2 (a .flags)) (c .before .before .before .before .before .before .put-digits2 .ensures) (c .before .before .put-digits3 .ensures) (omega arith))
+    let flags-put = c .before .before in
+    let size-put = flags-put .before .before .before .before in
+    let id-put = size-put .before .before .before .before in
+    let a = id-put .before .before .before .args in
+    bytes-put (a .buffer .now) (a .at) 4 (a .id) (bytesOf 4 (a .size) ++ bytesOf 2 (a .flags)) (id-put .put-digits .ensures)
+    (bytes-put _ (a .at + 4) 4 (a .size) (bytesOf 2 (a .flags)) (size-put .put-digits2 .ensures) (flags-put .put-digits3 .ensures) (omega arith))
     refl
 
 pub put-long-spec : {M : Type 1} → statement M

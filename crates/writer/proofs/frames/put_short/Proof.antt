@@ -20,8 +20,10 @@ same-length c = search needs
 
 returns : tie.Need-returns
 returns c =
-    let a = c .before .before .before .before .before .before .before .before .before .args in
-    bytes-put (a .buffer .now) (a .at) 3 (a .id) (bytesOf 3 (a .size)) (c .before .before .before .before .before .before .put-digits .ensures) (c .before .before .put-digits2 .ensures) refl
+    let size-put = c .before .before in
+    let id-put = size-put .before .before .before .before in
+    let a = id-put .before .before .before .args in
+    bytes-put (a .buffer .now) (a .at) 3 (a .id) (bytesOf 3 (a .size)) (id-put .put-digits .ensures) (size-put .put-digits2 .ensures) refl
 
 pub put-short-spec : {M : Type 1} → statement M
 put-short-spec =

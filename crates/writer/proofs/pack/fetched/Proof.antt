@@ -59,8 +59,9 @@ loop-less c = search needs
 
 loop-again : tie.Need-loop-again Inv-loop μ-loop
 loop-again c =
-    let ds = c .before .before .before .before .before .before .args .ds .now in
-    let L = c .before .before .before .before .loop in
+    let at-loop = c .before .before .before .before in
+    let ds = at-loop .before .before .args .ds .now in
+    let L = at-loop .loop in
     let there = c .before .before .if1 .left in
     let few = c .before .before .before .loop-test .taken in (
       taken-ready ds (L .acc) (L .have) (L .i) (L .a) (L .b) (c .half .result) there (c .half .ensures .0) few (L .inv .0),

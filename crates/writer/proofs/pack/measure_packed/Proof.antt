@@ -42,8 +42,9 @@ pace-packed-requires-2 c κs = search needs
 
 returns-3 : tie.Need-returns-3
 returns-3 c =
-    let a = c .before .before .before .before .before .before .args in
-    inl (omega (arith, c .before .before .before .before .packed-len .ensures, ap length (off-bytes (c .enum-told .given .1) (a .pen .prev) (pack (a .v) (a .w) (a .ds .now)))))
+    let at-len = c .before .before .before .before in
+    let a = at-len .before .before .args in
+    inl (omega (arith, at-len .packed-len .ensures, ap length (off-bytes (c .enum-told .given .1) (a .pen .prev) (pack (a .v) (a .w) (a .ds .now)))))
 
 returns-4 : tie.Need-returns-4
 returns-4 c = paced-sized (c .pace-packed .ensures)

@@ -43,8 +43,9 @@ loop-less c = search needs
 
 loop-again : tie.Need-loop-again Inv-loop μ-loop
 loop-again c =
-    let a = c .before .before .before .before .before .before .args in
-    let L = c .before .before .before .before .loop in
+    let at-loop = c .before .before .before .before in
+    let a = at-loop .before .before .args in
+    let L = at-loop .loop in
     let n = c .before .before .next-byte in
     let e = n .ensures in (
       e .0,

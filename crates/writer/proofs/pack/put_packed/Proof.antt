@@ -46,17 +46,20 @@ loop-less c = search needs
 
 loop-again : tie.Need-loop-again Inv-loop μ-loop
 loop-again c =
-    let L = c .before .before .before .before .before .before .before .loop in
-    let e = c .before .before .before .before .before .next-byte .ensures in
-    (e .0, omega (arith, L .inv .1, ap length (e .1)), put (same-list (e .1) (L .inv .2)) (c .before .before .before .put-byte .ensures))
+    let at-put = c .before .before .before in
+    let at-byte = at-put .before .before in
+    let L = at-byte .before .before .loop in
+    let e = at-byte .next-byte .ensures in
+    (e .0, omega (arith, L .inv .1, ap length (e .1)), put (same-list (e .1) (L .inv .2)) (at-put .put-byte .ensures))
 
 same-length : tie.Need-same-length Inv-loop μ-loop
 same-length c = c .before .loop .inv .2 .long
 
 returns : tie.Need-returns Inv-loop μ-loop
 returns c =
-    let L = c .before .loop in
-    done (same-list (drop-none (left (L .bits) (c .before .before .before .before .before .args .ds .now)) 0 (omega (arith, L .inv .1))) (L .inv .2))
+    let at-loop = c .before in
+    let L = at-loop .loop in
+    done (same-list (drop-none (left (L .bits) (at-loop .before .before .before .before .args .ds .now)) 0 (omega (arith, L .inv .1))) (L .inv .2))
 
 pub put-packed-spec : {M : Type 1} → statement M
 put-packed-spec =

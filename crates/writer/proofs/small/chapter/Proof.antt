@@ -33,11 +33,11 @@ put-digits-requires-4 c κs = search needs
 returns : tie.Need-returns
 unfolding digits
 returns c =
-    let e = c .before .before .before .before .before .before .before .before .before .before .put-digits .ensures in
-    let f = c .before .before .before .before .before .before .before .put-digits2 .ensures in
-    let g = c .before .before .before .before .put-digits3 .ensures in
-    let h = c .before .put-digits4 .ensures in
-    rw (h, g, f, e) (record { is = refl; fits = omega arith })
+    let fourth = c .before in
+    let third = fourth .before .before .before in
+    let second = third .before .before .before in
+    let first = second .before .before .before in
+    rw (fourth .put-digits4 .ensures, third .put-digits3 .ensures, second .put-digits2 .ensures, first .put-digits .ensures) (record { is = refl; fits = omega arith })
 
 pub chapter-spec : {M : Type 1} → statement M
 chapter-spec =

@@ -33,10 +33,10 @@ array-write-bytes-2 c = search needs
 returns : tie.Need-returns
 unfolding digits
 returns c =
-    let e = c .before .before .before .before .before .before .before .put-digits .ensures in
-    let f = c .before .before .before .before .put-digits2 .ensures in
-    let g = c .before .put-digits3 .ensures in
-    rw (g, f, e) (record { is = refl; fits = omega arith })
+    let third = c .before in
+    let second = third .before .before .before in
+    let first = second .before .before .before in
+    rw (third .put-digits3 .ensures, second .put-digits2 .ensures, first .put-digits .ensures) (record { is = refl; fits = omega arith })
 
 pub table-spec : {M : Type 1} → statement M
 table-spec =
