@@ -66,7 +66,7 @@ sub-fits : tie.Need-sub-fits
 sub-fits c = search needs
 
 fits-requires : tie.Need-fits-requires
-fits-requires c κs = search needs
+fits-requires c κs = (omega arith, known-resync _ (c .before .resync-by .ensures))
 
 edit-in-requires : tie.Need-edit-in-requires
 edit-in-requires c κs =

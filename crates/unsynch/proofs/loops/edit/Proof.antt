@@ -29,7 +29,7 @@ first-put c =
     let a = at-start .args in
     let f = c .before .hit in
     insert-turn (begin _ _ _ (at-start .pre .1 .0)) (getD (a .s .now) (a .from) 0) (editedAfter (a .how) (a .s .now) (a .from) (a .to)) (f .result) (a .at + c .bit .result)
-    (edited-first (a .how) (a .s .now) (a .prev) (a .from) (a .to) (omega arith) (omega arith) (f .result) (f .ensures) (at-start .pre .1 .1 .1))
+    (edited-first (a .how) (a .s .now) (a .from) (a .to) (omega arith) (omega arith) (a .prev) (f .result) (f .ensures) (at-start .pre .1 .1 .1))
     (ap (λ (k : ℕ). a .at + k) (c .bit .ensures .0))
 
 shared-slice-read-b : tie.Need-shared-slice-read-b
