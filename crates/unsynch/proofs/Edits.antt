@@ -7,7 +7,7 @@ use mathlib.Core.List.{List, [], _∷_, _++_}
 use lib.ListN.{length, take, getD}
 use lib.Seq.{slice, length-slice, sets, length-sets}
 use lib.Dec.{eqb, leb, ltb}
-use borrow.Author.Tests.{eqb-true, not-false, le-ltb}
+use borrow.Author.Tests.{eqb-true, not-false, le-ltb, le-leb, lt-leb, leb-true, leb-false}
 use Rattle.laws.proofs.Bools.{or-false as both-false, false-not-true, and-true, and-false}
 use Rattle.laws.proofs.Slices.{slice-none, slice-next, slice-front}
 use Rattle.laws.proofs.Stores.{slice-copy}
@@ -132,13 +132,25 @@ module _ (how : How) where
     few-after from to lt le = omega (arith, hits-at-most (eqb (getD s from 0) 255) (slice (from + 1) to s), length-slice (from + 1) to s le)
 
     -- the first byte, then the bytes behind it
-    module _ (prev : Bool) (from to : ℕ) (lt : from < to) (le : to ≤ length s) where
-      -- f says that the edit concerns the first
-      module _ (f : Bool) (e : f ≡ (prev && concerns how (getD s from 0))) where
-        -- it gets a 00 before it, or stays
-        pub edited-first : (prev ≡ true → how .insert ≡ true)
-            → edited how prev (slice from to s) ≡ pick f (0 ∷ getD s from 0 ∷ editedAfter how s from to) (getD s from 0 ∷ editedAfter how s from to)
-        edited-first inserts = ap (edited how prev) (slice-next from to s lt le) ∙ cases f e
+    module _ (from to : ℕ) (lt : from < to) (le : to ≤ length s) where
+      pub plain-first : edited how false (slice from to s) ≡ getD s from 0 ∷ editedAfter how s from to
+      unfolding edited
+      plain-first = ap (edited how false) (slice-next from to s lt le)
+
+      hits-first : hits how false (slice from to s) ≡ hitsAfter how s from to
+      unfolding hits
+      hits-first = ap (hits how false) (slice-next from to s lt le) ∙ omega arith
+
+      pub length-longer : how .insert ≡ true → to - from + hitsAfter how s from to ≡ length (edited how false (slice from to s))
+      length-longer h = omega (arith, longer h false (slice from to s), hits-first, length-slice from to s le)
+
+      pub length-shorter : how .insert ≡ false → to - from - hitsAfter how s from to ≡ length (edited how false (slice from to s))
+      length-shorter h = omega (arith, shorter h false (slice from to s), hits-first, length-slice from to s le)
+
+      -- where the byte before was FF: it gets a 00 before it, as f says, or not
+      module _ (prev f : Bool) (e : f ≡ (prev && concerns how (getD s from 0))) (inserts : prev ≡ true → how .insert ≡ true) where
+        pub edited-first : edited how prev (slice from to s) ≡ pick f (0 ∷ getD s from 0 ∷ editedAfter how s from to) (getD s from 0 ∷ editedAfter how s from to)
+        edited-first = ap (edited how prev) (slice-next from to s lt le) ∙ cases f e
           where
             cases : (f : Bool) → f ≡ (prev && concerns how (getD s from 0))
                 → edited how prev (getD s from 0 ∷ slice (from + 1) to s)
@@ -146,22 +158,25 @@ module _ (how : How) where
             cases true e = edited-next prev (getD s from 0) (slice (from + 1) to s) true true e (inserts (and-true prev _ (sym e) .0))
             cases false e = edited-next prev (getD s from 0) (slice (from + 1) to s) false (how .insert) e refl
 
-        hits-first : hits how prev (slice from to s) ≡ cond f 1 0 + hitsAfter how s from to
-        unfolding hits
-        hits-first = ap (hits how prev) (slice-next from to s lt le) ∙ ap (λ (g : Bool). cond g 1 0 + hitsAfter how s from to) (sym e)
+        pub first-length : length (edited how prev (slice from to s)) ≡ cond f 1 0 + length (edited how false (slice from to s))
+        first-length = ap length edited-first ∙ cases f ∙ ap (λ (l : List ℕ). cond f 1 0 + length l) (sym plain-first)
+          where
+            cases : (f : Bool) → length (pick f (0 ∷ getD s from 0 ∷ editedAfter how s from to) (getD s from 0 ∷ editedAfter how s from to))
+                ≡ cond f 1 0 + length (getD s from 0 ∷ editedAfter how s from to)
+            cases true = omega arith
+            cases false = omega arith
 
-        pub hits-few : cond f 1 0 + hitsAfter how s from to ≤ to - from
-        hits-few = omega (arith, hits-at-most prev (slice from to s), hits-first, length-slice from to s le)
+        -- whether all fits, by the room that it leaves
+        pub first-fits : (room : ℕ) → leb (length (edited how false (slice from to s))) (room - cond f 1 0) ≡ leb (length (edited how prev (slice from to s))) room
+        first-fits room = cases (cond f 1 0) first-length (leb (length (edited how prev (slice from to s))) room) refl
+          where
+            some : 1 ≤ length (edited how false (slice from to s))
+            some = omega (arith, ap length plain-first)
 
-        pub length-longer : how .insert ≡ true → to - from + (cond f 1 0 + hitsAfter how s from to) ≡ length (edited how prev (slice from to s))
-        length-longer h = omega (arith, longer h prev (slice from to s), hits-first, length-slice from to s le)
-
-        pub length-shorter : how .insert ≡ false → to - from - (cond f 1 0 + hitsAfter how s from to) ≡ length (edited how prev (slice from to s))
-        length-shorter h = omega (arith, shorter h prev (slice from to s), hits-first, length-slice from to s le)
-
-      pub length-most : (g : Bool) → how .insert ≡ g → length (edited how prev (slice from to s)) ≤ pick g (to - from + (to - from)) (to - from)
-      length-most true h = omega (arith, longer h prev (slice from to s), hits-at-most prev (slice from to s), length-slice from to s le)
-      length-most false h = omega (arith, shorter h prev (slice from to s), length-slice from to s le)
+            cases : (k : ℕ) → length (edited how prev (slice from to s)) ≡ k + length (edited how false (slice from to s))
+                → (t : Bool) → leb (length (edited how prev (slice from to s))) room ≡ t → leb (length (edited how false (slice from to s))) (room - k) ≡ t
+            cases k n true e = le-leb (length (edited how false (slice from to s))) (room - k) (omega (arith, leb-true (length (edited how prev (slice from to s))) room e))
+            cases k n false e = lt-leb (length (edited how false (slice from to s))) (room - k) (omega (arith, some, leb-false (length (edited how prev (slice from to s))) room e))
 
     -- one place further: f says that the edit concerns the byte there
     module _ (i to : ℕ) (lt : i + 1 < to) (le : to ≤ length s) where
@@ -311,11 +326,20 @@ module _ (how : How) (z : how .zero ≡ false) (h : how .high ≡ false) where
       ∙ ap {B = ℕ} (λ (g : Bool). cond (prev && (g && leb 0xE0 x)) 1 0 + hits how (eqb x 255) l) h
       ∙ omega (arith, ap {B = ℕ} (λ (g : Bool). cond g 1 0) (and-false prev), no-hits (eqb x 255) l)
 
-  pub none-after : (s : List ℕ) (i to : ℕ) → hitsAfter how s i to ≡ 0
-  none-after s i to = no-hits (eqb (getD s i 0) 255) (slice (i + 1) to s)
+  pub untouched : (prev : Bool) (l : List ℕ) → edited how prev l ≡ l
+  untouched prev l = unhit how prev l (no-hits prev l)
 
   pub unchanged : (s : List ℕ) (i to : ℕ) → editedAfter how s i to ≡ slice (i + 1) to s
-  unchanged s i to = left-alone how s i to (none-after s i to)
+  unchanged s i to = untouched (eqb (getD s i 0) 255) (slice (i + 1) to s)
+
+-- how many bytes there are at most: twice as many, where bytes are inserted
+pub length-most : (how : How) → Known how → (l : List ℕ) → length (edited how false l) ≤ pick (how .insert && how .zero) (length l + length l) (length l)
+length-most how known l = cases (how .insert) refl (how .zero) refl
+  where
+    cases : (g : Bool) → how .insert ≡ g → (z : Bool) → how .zero ≡ z → length (edited how false l) ≤ pick (g && z) (length l + length l) (length l)
+    cases true i true z = omega (arith, longer how i false l, hits-at-most how false l)
+    cases true i false z = omega (arith, ap length (untouched how z (known .inserts z) false l))
+    cases false i z e = omega (arith, shorter how i false l)
 
 -- the edits that there are
 pub known-resync : (how : How) → how ≡ resyncBy → Known how

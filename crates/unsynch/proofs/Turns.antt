@@ -6,12 +6,11 @@ use mathlib.Core.Bool.{Bool, true, false, cond}
 use mathlib.Core.List.{List, _∷_}
 use lib.ListN.{length, getD, take, set, length-set, length-append}
 use lib.Seq.{slice, length-slice, sets, set-set}
-use Rattle.laws.proofs.Bools.{false-not-true}
 use Rattle.laws.proofs.Stores.{take-sets, Storing, begin, lies, same-list, same-buffer, same-place, put, puts, over}
 use Rattle.format.specs.Bytes.{pick}
 use Rattle.unsynch.specs.declared.loops.How.{How}
 use Rattle.unsynch.specs.Edits.{edited, editedAfter, hitsAfter, stored}
-use Rattle.unsynch.proofs.Edits.{edited-first, parted, left-alone, same-front}
+use Rattle.unsynch.proofs.Edits.{plain-first, parted, left-alone, same-front}
 
 -- a byte that lies where the next one will be stored does not matter
 under : {o₀ : List ℕ} {p₀ : ℕ} {l₀ o : List ℕ} {p y : ℕ} {l : List ℕ} (x : ℕ) → Storing o₀ p₀ l₀ o p (y ∷ l) → Storing o₀ p₀ l₀ (set o p x) p (y ∷ l)
@@ -87,5 +86,5 @@ module _ (how : How) (s : List ℕ) (i n to : ℕ) (lt : i + n < to) (le : to �
 pub first-stored : (how : How) (s : List ℕ) (from to at : ℕ) (o : List ℕ) → from < to → to ≤ length s → at + length (edited how false (slice from to s)) ≤ length o
     → (at < length o) × Storing o at (edited how false (slice from to s)) (set o at (getD s from 0)) (at + 1) (editedAfter how s from to)
 first-stored how s from to at o lt le room =
-    let t = same-list (edited-first how s false from to lt le false refl (λ e. absurd (false-not-true e))) (begin o at (edited how false (slice from to s)) room) in
+    let t = same-list (plain-first how s from to lt le) (begin o at (edited how false (slice from to s)) room) in
     (omega (arith, lies t), put t)

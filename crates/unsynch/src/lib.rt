@@ -6,6 +6,7 @@ use format::Mode;
 use format::refusals::NO_ROOM;
 use format::refusals::TOO_LONG;
 use format::refusals::WORK_TOO_SMALL;
+use format::small::beyond;
 use format::small::least;
 use loops::How;
 ghost use mathlib.Core.Path.{_≡_};
@@ -65,7 +66,10 @@ pub fn unsync_len(s: &[u8], from: usize, to: usize, prev: bool, mode: Mode) -> u
     if end <= from {
         return 0;
     }
-    loops::edited_len(s, from, end, prev, how)
+    if !how.zero {
+        return end - from;
+    }
+    loops::bit(loops::hit(how, prev, s[from])) + loops::edited_len(s, from, end, how)
 }
 
 // Resynchronises s[from..to] to the front of a room. One that is too small is left as it was.
@@ -110,7 +114,7 @@ pub fn resync_in(area: &mut [u8], from: usize, to: usize, split: usize) -> Put
         return Put::Bytes(0);
     }
     let how = loops::resync_by();
-    if loops::fits(&area[..], from, end, false, how, area.len() - mid) {
+    if loops::fits(&area[..], from, end, how, area.len() - mid) {
         return Put::Bytes(loops::edit_in(area, mid, from, end, how) - mid);
     }
     Put::Refused(WORK_TOO_SMALL)
@@ -138,7 +142,8 @@ fn put_part(
     if end <= from {
         return Put::Bytes(0);
     }
-    if loops::fits(s, from, end, prev, how, buf.len() - at) {
+    let extra = loops::bit(loops::hit(how, prev, s[from]));
+    if loops::fits(s, from, end, how, beyond(buf.len() - at, extra)) {
         return Put::Bytes(loops::edit(buf, at, s, from, end, prev, how) - at);
     }
     Put::Refused(k)

@@ -54,7 +54,7 @@ pub(crate) fn unsync_by(mode: Mode) -> How
 }
 
 // 1 for true, 0 for false.
-fn bit(x: bool) -> usize
+pub(crate) fn bit(x: bool) -> usize
     ensures { λ r. ⌜ (r ≡ cond x 1 0) × (r ≤ 1) ⌝ }
 {
     if x { 1 } else { 0 }
@@ -88,14 +88,11 @@ fn guarded(last: u8, b: u8, top: u8) -> bool
     (last == 0xFF) & ((b == 0) | (b > top))
 }
 
-// How many bytes of s behind place from, up to place to, the edit concerns. One that concerns no byte looks at none.
+// How many bytes of s behind place from, up to place to, the edit concerns.
 fn hits_after(s: &[u8], from: usize, to: usize, how: How) -> usize
     requires { ⌜ (from < to) × (to ≤ length (now s)) ⌝ }
     ensures { λ r. ⌜ r ≡ hitsAfter how (now (s .entry)) from to ⌝ }
 {
-    if !(how.zero | how.high) {
-        return 0;
-    }
     let mut n: usize = 0;
     let mut i = from;
     while i + 64 < to {
@@ -119,12 +116,12 @@ fn hits_by_byte(s: &[u8], from: usize, to: usize, how: How) -> usize
     n
 }
 
-// How many bytes s[from..to] has after the edit; prev says that the byte before them was FF.
-pub(crate) fn edited_len(s: &[u8], from: usize, to: usize, prev: bool, how: How) -> usize
+// How many bytes s[from..to] has after the edit.
+pub(crate) fn edited_len(s: &[u8], from: usize, to: usize, how: How) -> usize
     requires { ⌜ (from < to) × (to ≤ length (now s)) ⌝ }
-    ensures { λ r. ⌜ r ≡ length (edited how prev (slice from to (now (s .entry)))) ⌝ }
+    ensures { λ r. ⌜ r ≡ length (edited how false (slice from to (now (s .entry)))) ⌝ }
 {
-    let n = bit(hit(how, prev, s[from])) + hits_after(s, from, to, how);
+    let n = hits_after(s, from, to, how);
     if how.insert {
         to - from + n
     } else {
@@ -133,22 +130,23 @@ pub(crate) fn edited_len(s: &[u8], from: usize, to: usize, prev: bool, how: How)
 }
 
 // Whether s[from..to] has at most `room` bytes after the edit. They are counted only where it depends on them.
-pub(crate) fn fits(s: &[u8], from: usize, to: usize, prev: bool, how: How, room: usize) -> bool
+pub(crate) fn fits(s: &[u8], from: usize, to: usize, how: How, room: usize) -> bool
     requires { ⌜ (from < to) × (to ≤ length (now s)) ⌝ }
-    ensures { λ r. ⌜ r ≡ leb (length (edited how prev (slice from to (now (s .entry))))) room ⌝ }
+    requires { ⌜ Known how ⌝ }
+    ensures { λ r. ⌜ r ≡ leb (length (edited how false (slice from to (now (s .entry))))) room ⌝ }
 {
     if most(to - from, how) <= room {
         return true;
     }
-    edited_len(s, from, to, prev, how) <= room
+    edited_len(s, from, to, how) <= room
 }
 
 // How many bytes n bytes have at most after the edit.
 fn most(n: usize, how: How) -> usize
     requires { ⌜ n < 2 ^ 63 ⌝ }
-    ensures { λ r. ⌜ r ≡ pick (how .insert) (n + n) n ⌝ }
+    ensures { λ r. ⌜ r ≡ pick (how .insert && how .zero) (n + n) n ⌝ }
 {
-    if how.insert { n + n } else { n }
+    if how.insert & how.zero { n + n } else { n }
 }
 
 // Stores what resynchronising makes of the bytes of s behind place from, up to place to. Each turn stores: where a byte goes,

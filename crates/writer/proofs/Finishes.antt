@@ -65,16 +65,16 @@ module _ (v : Version) (m : Mode) (padding used : ℕ) (buffer : List ℕ) where
 
   pub by-count : padding < 2 ^ 28 → {mode : Mode} → mode ≡ wholeMode v m → {n : ℕ} → n ≡ length (unsynchronised mode (slice 0 used buffer))
       → leb (2 ^ 28 - padding) n ≡ leb (2 ^ 28) size
-  by-count h {mode} em {n} en = by (leb (2 ^ 28) size) refl
+  by-count h {mode} em {n} en = on-length (leb (2 ^ 28) size) refl
     where
       is : size ≡ n + padding
       is =
           let u : n ≡ length (wholeOf v m frames) = en ∙ ap length (whole-is v m em frames) in
           omega (arith, region-length v m padding frames)
 
-      by : (t : Bool) → leb (2 ^ 28) size ≡ t → leb (2 ^ 28 - padding) n ≡ t
-      by true e = le-leb (2 ^ 28 - padding) n (omega (arith, is, leb-true (2 ^ 28) size e))
-      by false e = lt-leb (2 ^ 28 - padding) n (omega (arith, is, leb-false (2 ^ 28) size e))
+      on-length : (t : Bool) → leb (2 ^ 28) size ≡ t → leb (2 ^ 28 - padding) n ≡ t
+      on-length true e = le-leb (2 ^ 28 - padding) n (omega (arith, is, leb-true (2 ^ 28) size e))
+      on-length false e = lt-leb (2 ^ 28 - padding) n (omega (arith, is, leb-false (2 ^ 28) size e))
 
 -- ---- the frames, in what the padding leaves of the output
 
@@ -94,16 +94,16 @@ module _ (u o : List ℕ) (padding : ℕ) where
   pub in-front : {room : ℕ} → padding ≤ length o → room ≡ length o - padding → {r : Put} {p : List ℕ} → _≡_ {A = Out} (r, p) (placedOf u 10 (take room o))
       → _≡_ {A = Out} (r, p ++ drop room o) (framesPut u padding o)
   in-front {room} le is {r} {p} e =
-      ap {B = Out} (λ (z : Out). (z .0, z .1 ++ drop room o)) e ∙ by (ltb (length o) (10 + (length u + padding))) refl
+      ap {B = Out} (λ (z : Out). (z .0, z .1 ++ drop room o)) e ∙ on-room (ltb (length o) (10 + (length u + padding))) refl
     where
       long : length (take room o) ≡ room
       long = length-take-le room o (omega arith)
 
-      by : (t : Bool) → ltb (length o) (10 + (length u + padding)) ≡ t
+      on-room : (t : Bool) → ltb (length o) (10 + (length u + padding)) ≡ t
           → _≡_ {A = Out} (placedOf u 10 (take room o) .0, placedOf u 10 (take room o) .1 ++ drop room o)
           (pick t (Put.Refused 20, o) (Put.Bytes (length u), sets o 10 u))
-      by true f = rw (lt-ltb (length (take room o)) (10 + length u) (omega (arith, long, ltb-true (length o) (10 + (length u + padding)) f)), take-append-drop)
-      by false f =
+      on-room true f = rw (lt-ltb (length (take room o)) (10 + length u) (omega (arith, long, ltb-true (length o) (10 + (length u + padding)) f)), take-append-drop)
+      on-room false f =
           let g : 10 + length u ≤ room = omega (arith, ltb-false (length o) (10 + (length u + padding)) f) in
           rw (le-ltb (length (take room o)) (10 + length u) (omega (arith, long)), sets-front room o 10 u g)
 
@@ -198,12 +198,12 @@ module _ (v : Version) (m : Mode) (padding : ℕ) (frames o : List ℕ) {r : Put
       rw (n, tag-length v m padding frames)
 
   pub tag-refused : {k : ℕ} → r ≡ Put.Refused k → _≡_ {A = Out} (Put.Refused k, o₁) (placedOf tag 0 o)
-  tag-refused {k} er = by (ltb (length o) (10 + (length u + padding))) e ∙ sym placed
+  tag-refused {k} er = on-room (ltb (length o) (10 + (length u + padding))) e ∙ sym placed
     where
-      by : (t : Bool) → _≡_ {A = Out} (r, o₁) (pick t (Put.Refused 20, o) (Put.Bytes (length u), sets o 10 u))
+      on-room : (t : Bool) → _≡_ {A = Out} (r, o₁) (pick t (Put.Refused 20, o) (Put.Bytes (length u), sets o 10 u))
           → _≡_ {A = Out} (Put.Refused k, o₁) (pick t (Put.Refused 20, o) (Put.Bytes (10 + (length u + padding)), sets o 0 tag))
-      by true f = ap {B = Out} (λ (q : Put). (q, o₁)) (sym er) ∙ f
-      by false f =
+      on-room true f = ap {B = Out} (λ (q : Put). (q, o₁)) (sym er) ∙ f
+      on-room false f =
           let g : Put.Refused k ≡ Put.Bytes (length u) = sym er ∙ ap (λ (z : Out). z .0) f in
           absurd (let z : _≡_ {A = ℕ} 0 1 = cc in omega arith)
 
@@ -215,13 +215,13 @@ module _ (v : Version) (m : Mode) (padding : ℕ) (frames o : List ℕ) {r : Put
     pub room : 10 + (length u + padding) ≤ length o
 
   pub tag-frames : {n : ℕ} → r ≡ Put.Bytes n → Frames n
-  tag-frames {n} er = by (ltb (length o) (10 + (length u + padding))) refl e
+  tag-frames {n} er = on-room (ltb (length o) (10 + (length u + padding))) refl e
     where
-      by : (t : Bool) → ltb (length o) (10 + (length u + padding)) ≡ t → _≡_ {A = Out} (r, o₁) (pick t (Put.Refused 20, o) (Put.Bytes (length u), sets o 10 u)) → Frames n
-      by true et f =
+      on-room : (t : Bool) → ltb (length o) (10 + (length u + padding)) ≡ t → _≡_ {A = Out} (r, o₁) (pick t (Put.Refused 20, o) (Put.Bytes (length u), sets o 10 u)) → Frames n
+      on-room true et f =
           let g : Put.Bytes n ≡ Put.Refused 20 = sym er ∙ ap (λ (z : Out). z .0) f in
           absurd (let z : _≡_ {A = ℕ} 0 1 = cc in omega arith)
-      by false et f =
+      on-room false et f =
           let g : Put.Bytes n ≡ Put.Bytes (length u) = sym er ∙ ap (λ (z : Out). z .0) f in
           let h : o₁ ≡ sets o 10 u = ap (λ (z : Out). z .1) f in
           record { many = cc; holds = h; long = ap length h ∙ length-sets o 10 u; room = ltb-false (length o) (10 + (length u + padding)) et }
@@ -267,14 +267,14 @@ module _ (w : Writer) (padding : ℕ) (buffer output : List ℕ) where
       finished =
           let n : 0 + length wholeTag ≡ length wholeTag = omega arith in
           ap {B = Finishing} (λ (o : Out). (asFinished w (o .0), o .1)) e
-          ∙ rw (short, le-ltb (length buffer) (w .used) all, n) (by (ltb (length output) (length wholeTag)))
+          ∙ rw (short, le-ltb (length buffer) (w .used) all, n) (on-room (ltb (length output) (length wholeTag)))
         where
-          by : (t : Bool)
+          on-room : (t : Bool)
               → _≡_ {A = Finishing}
               (let o : Out = pick t (Put.Refused 20, output) (Put.Bytes (length wholeTag), sets output 0 wholeTag) in (asFinished w (o .0), o .1))
               (pick t (Finished.Refused 20 w, output) (Finished.Done (length wholeTag) w, sets output 0 wholeTag))
-          by true = refl
-          by false = refl
+          on-room true = refl
+          on-room false = refl
 
       pub finish-done : {n : ℕ} → r ≡ Put.Bytes n → _≡_ {A = Finishing} (Finished.Done n w, left) (finishOf w padding buffer output)
       unfolding asFinished

@@ -36,10 +36,10 @@ fn append(
     deviations: &[u32],
     size: usize,
 ) -> Added
-    requires { ⌜ Puttable (contentOf (heading .fields) (now name) (now names) (now rest) (now deviations)) ⌝ }
-    requires { ⌜ size ≡ length (storedOf (writer .version) (writer .mode) (bodyBytes (contentOf (heading .fields) (now name) (now names) (now rest) (now deviations)))) ⌝ }
-    requires { ⌜ size < 2 ^ 28 ⌝ }
-    ensures { λ r. ⌜ (r, now (buffer .exit)) ≡ appendOf writer (encode (writer .version) (writer .mode) (recOf heading (now (name .entry)) (now (names .entry)) (now (rest .entry)) (now (deviations .entry)))) (now (buffer .entry)) ⌝ }
+    requires { ⌜ (let content = contentOf (heading .fields) (now name) (now names) (now rest) (now deviations) in
+        Puttable content × (size ≡ length (storedOf (writer .version) (writer .mode) (bodyBytes content))) × (size < 2 ^ 28)) ⌝ }
+    ensures { λ r. ⌜ (let whole = recOf heading (now (name .entry)) (now (names .entry)) (now (rest .entry)) (now (deviations .entry)) in
+        (r, now (buffer .exit)) ≡ appendOf writer (encode (writer .version) (writer .mode) whole) (now (buffer .entry))) ⌝ }
 {
     let version = writer.version;
     let mode = writer.mode;
@@ -82,8 +82,8 @@ impl Writer {
         rest: &[u8],
         deviations: &[u32],
     ) -> Added
-        ensures { λ r. ⌜ (r, now (buffer .exit)) ≡ addOf self (recOf heading (now (name .entry)) (now (names .entry)) (now (rest .entry)) (now (deviations .entry))) (now (buffer .entry)) ⌝ }
-        ensures { λ _. ⌜ Fits (contentOf (heading .fields) (now (name .entry)) (now (names .entry)) (now (rest .entry)) (now (deviations .entry))) ⌝ }
+        ensures added { λ r. ⌜ (r, now (buffer .exit)) ≡ addOf self (recOf heading (now (name .entry)) (now (names .entry)) (now (rest .entry)) (now (deviations .entry))) (now (buffer .entry)) ⌝ }
+        ensures fits { λ _. ⌜ Fits (contentOf (heading .fields) (now (name .entry)) (now (names .entry)) (now (rest .entry)) (now (deviations .entry))) ⌝ }
     {
         let version = self.version;
         let mode = self.mode;

@@ -198,9 +198,10 @@ pub(crate) fn put_body(
     rest: &[u8],
     deviations: &[u32],
 ) -> Pen
-    requires { ⌜ Puttable (contentOf fields (now name) (now names) (now rest) (now deviations)) ⌝ }
-    requires { ⌜ penAfter mode pen (bodyBytes (contentOf fields (now name) (now names) (now rest) (now deviations))) .at ≤ length (now buffer) ⌝ }
-    ensures { λ r. ⌜ (r, now (buffer .exit)) ≡ putOf mode pen (bodyBytes (contentOf fields (now (name .entry)) (now (names .entry)) (now (rest .entry)) (now (deviations .entry)))) (now (buffer .entry)) ⌝ }
+    requires { ⌜ (let content = contentOf fields (now name) (now names) (now rest) (now deviations) in
+        Puttable content × (penAfter mode pen (bodyBytes content) .at ≤ length (now buffer))) ⌝ }
+    ensures { λ r. ⌜ (let content = contentOf fields (now (name .entry)) (now (names .entry)) (now (rest .entry)) (now (deviations .entry)) in
+        (r, now (buffer .exit)) ≡ putOf mode pen (bodyBytes content) (now (buffer .entry))) ⌝ }
 {
     let plan = plan_of(fields, name, names, rest);
     let n = plan.name;
@@ -231,7 +232,8 @@ pub(crate) fn measure_body(
     deviations: &[u32],
 ) -> usize
     requires { ⌜ Puttable (contentOf fields (now name) (now names) (now rest) (now deviations)) ⌝ }
-    ensures { λ r. ⌜ Sized (penAfter mode pen (bodyBytes (contentOf fields (now (name .entry)) (now (names .entry)) (now (rest .entry)) (now (deviations .entry)))) .at) r ⌝ }
+    ensures { λ r. ⌜ (let content = contentOf fields (now (name .entry)) (now (names .entry)) (now (rest .entry)) (now (deviations .entry)) in
+        Sized (penAfter mode pen (bodyBytes content) .at) r) ⌝ }
 {
     let plan = plan_of(fields, name, names, rest);
     let n = plan.name;

@@ -101,7 +101,8 @@ pub(crate) fn measure_frame(
     deviations: &[u32],
 ) -> usize
     requires { ⌜ Puttable (contentOf (heading .fields) (now name) (now names) (now rest) (now deviations)) ⌝ }
-    ensures { λ r. ⌜ Sized (length (storedOf version mode (bodyBytes (contentOf (heading .fields) (now (name .entry)) (now (names .entry)) (now (rest .entry)) (now (deviations .entry)))))) r ⌝ }
+    ensures { λ r. ⌜ (let content = contentOf (heading .fields) (now (name .entry)) (now (names .entry)) (now (rest .entry)) (now (deviations .entry)) in
+        Sized (length (storedOf version mode (bodyBytes content))) r) ⌝ }
 {
     let fields = heading.fields;
     let pen = Pen { at: 0, prev: false };
@@ -129,11 +130,13 @@ pub(crate) fn put_frame(
     deviations: &[u32],
     size: usize,
 ) -> usize
-    requires { ⌜ Puttable (contentOf (heading .fields) (now name) (now names) (now rest) (now deviations)) ⌝ }
-    requires { ⌜ (size ≡ length (storedOf version mode (bodyBytes (contentOf (heading .fields) (now name) (now names) (now rest) (now deviations))))) × (size < 2 ^ 28) ⌝ }
-    requires { ⌜ at + length (encode version mode (recOf heading (now name) (now names) (now rest) (now deviations))) ≤ length (now buffer) ⌝ }
-    ensures { λ r. ⌜ r ≡ at + length (encode version mode (recOf heading (now (name .entry)) (now (names .entry)) (now (rest .entry)) (now (deviations .entry)))) ⌝ }
-    ensures { λ _. ⌜ now (buffer .exit) ≡ sets (now (buffer .entry)) at (encode version mode (recOf heading (now (name .entry)) (now (names .entry)) (now (rest .entry)) (now (deviations .entry)))) ⌝ }
+    requires { ⌜ (let whole = recOf heading (now name) (now names) (now rest) (now deviations) in
+        Puttable (whole .content)
+        × (size ≡ length (storedOf version mode (bodyBytes (whole .content))))
+        × (size < 2 ^ 28)
+        × (at + length (encode version mode whole) ≤ length (now buffer))) ⌝ }
+    ensures { λ r. ⌜ (let frame = encode version mode (recOf heading (now (name .entry)) (now (names .entry)) (now (rest .entry)) (now (deviations .entry))) in
+        (r ≡ at + length frame) × (now (buffer .exit) ≡ sets (now (buffer .entry)) at frame)) ⌝ }
 {
     let fields = heading.fields;
     let id = heading.id;

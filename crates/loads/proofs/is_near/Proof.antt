@@ -7,9 +7,6 @@ use Rattle.laws.proofs.Bools.{false-not-true}
 use Rattle.loads.proofs.is_near.Statement.{statement}
 use Rattle.loads.proofs.is_near.Tie as tie
 
-sub-result : tie.Need-sub-result
-sub-result c = search needs
-
 returns : tie.Need-returns
 returns c e =
     let a = c .before .before .before .args in
@@ -26,4 +23,4 @@ returns-4 : tie.Need-returns-4
 returns-4 c e = absurd (false-not-true e)
 
 pub is-near-spec : {M : Type 1} → statement M
-is-near-spec = tie.close (tie.spec sub-result returns returns-2 returns-3 returns-4)
+is-near-spec = tie.close (tie.spec (λ c. search needs) returns returns-2 returns-3 returns-4)

@@ -6,9 +6,6 @@ use Rattle.loads.proofs.Onto.{all-read}
 use Rattle.loads.proofs.read64.Statement.{statement}
 use Rattle.loads.proofs.read64.Tie as tie
 
-is-near-requires : tie.Need-is-near-requires
-is-near-requires c κs = search needs
-
 sub-read-last : tie.Need-sub-read-last
 sub-read-last c = let near = c .before .is-near .ensures (c .if1 .taken) in omega arith
 
@@ -23,19 +20,13 @@ returns c =
     let near = c .before .before .is-near .ensures (c .before .if1 .taken) in
     c .read-last .ensures ∙ all-read 8 (a .from) (a .to) (a .s .now) (omega arith) (near .within) (near .few)
 
-read-some-requires : tie.Need-read-some-requires
-read-some-requires c κs = search needs
-
-returns-2 : tie.Need-returns-2
-returns-2 c = search needs
-
 pub read64-spec : {M : Type 1} → statement M
 read64-spec =
     tie.close
     (tie.spec
-    is-near-requires
+    (λ c κs. search needs)
     sub-read-last
     read-last-requires
     returns
-    read-some-requires
-    returns-2)
+    (λ c κs. search needs)
+    (λ c. search needs))

@@ -7,27 +7,6 @@ use Rattle.loads.proofs.Onto.{number-in-two}
 use Rattle.loads.proofs.read_eight.Statement.{statement}
 use Rattle.loads.proofs.read_eight.Tie as tie
 
-read-whole-requires : tie.Need-read-whole-requires
-read-whole-requires c κs = search needs
-
-half-requires : tie.Need-half-requires
-half-requires c κs = search needs
-
-mul-result : tie.Need-mul-result
-mul-result c = search needs
-
-add-read-whole : tie.Need-add-read-whole
-add-read-whole c = search needs
-
-read-whole-requires-2 : tie.Need-read-whole-requires-2
-read-whole-requires-2 c κs = search needs
-
-half-requires-2 : tie.Need-half-requires-2
-half-requires-2 c κs = search needs
-
-add-result : tie.Need-add-result
-add-result c = search needs
-
 returns : tie.Need-returns
 returns c =
     let at-high = c .before .before in
@@ -41,11 +20,11 @@ pub read-eight-spec : {M : Type 1} → statement M
 read-eight-spec =
     tie.close
     (tie.spec
-    read-whole-requires
-    half-requires
-    mul-result
-    add-read-whole
-    read-whole-requires-2
-    half-requires-2
-    add-result
+    (λ c κs. search needs)
+    (λ c κs. search needs)
+    (λ c. search needs)
+    (λ c. search needs)
+    (λ c κs. search needs)
+    (λ c κs. search needs)
+    (λ c. search needs)
     returns)

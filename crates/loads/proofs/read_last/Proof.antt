@@ -4,24 +4,6 @@ use Rattle.loads.proofs.Onto.{shifted-last}
 use Rattle.loads.proofs.read_last.Statement.{statement}
 use Rattle.loads.proofs.read_last.Tie as tie
 
-mul-away : tie.Need-mul-away
-mul-away c = search needs
-
-sub-away : tie.Need-sub-away
-sub-away c = search needs
-
-sub-read-eight : tie.Need-sub-read-eight
-sub-read-eight c = search needs
-
-read-eight-requires : tie.Need-read-eight-requires
-read-eight-requires c κs = search needs
-
-shl-result : tie.Need-shl-result
-shl-result c = search needs
-
-shr-result : tie.Need-shr-result
-shr-result c = search needs
-
 returns : tie.Need-returns
 returns c =
     let a = c .before .before .args in
@@ -31,4 +13,4 @@ returns c =
 pub read-last-spec : {M : Type 1} → statement M
 read-last-spec =
     tie.close
-    (tie.spec mul-away sub-away sub-read-eight read-eight-requires shl-result shr-result returns)
+    (tie.spec (λ c. search needs) (λ c. search needs) (λ c. search needs) (λ c κs. search needs) (λ c. search needs) (λ c. search needs) returns)

@@ -51,25 +51,10 @@ small c some =
 mul-n : tie.Need-mul-n Inv-loop μ-loop
 mul-n c = omega (arith, small (c .before .before .before) (omega arith))
 
-shared-slice-read-wide64 : tie.Need-shared-slice-read-wide64 Inv-loop μ-loop
-shared-slice-read-wide64 c = search needs
-
-wide64-requires : tie.Need-wide64-requires Inv-loop μ-loop
-wide64-requires c κs = search needs
-
 add-n : tie.Need-add-n Inv-loop μ-loop
 add-n c =
     let at-byte = c .before .before in
     omega (arith, small (at-byte .before .before .before) (omega arith), c .wide64 .ensures .1)
-
-sub-left : tie.Need-sub-left Inv-loop μ-loop
-sub-left c = search needs
-
-add-i : tie.Need-add-i Inv-loop μ-loop
-add-i c = search needs
-
-loop-less : tie.Need-loop-less Inv-loop μ-loop
-loop-less c = search needs
 
 loop-again : tie.Need-loop-again Inv-loop μ-loop
 loop-again c =
@@ -99,11 +84,11 @@ read-some-spec =
     returns
     returns-2
     mul-n
-    shared-slice-read-wide64
-    wide64-requires
+    (λ c. search needs)
+    (λ c κs. search needs)
     add-n
-    sub-left
-    add-i
-    loop-less
+    (λ c. search needs)
+    (λ c. search needs)
+    (λ c. search needs)
     loop-again
     returns-3)

@@ -38,9 +38,6 @@ returns c =
     let at-loop-test = at-put-step .before .before .before in
     last (at-loop-test .before .loop .inv) (at-loop-test .loop-test .taken) (at-put-step .put-step .ensures) (c .before .placed .given .1)
 
-loop-less : tie.Need-loop-less Inv-loop μ-loop
-loop-less c = omega arith
-
 loop-again : tie.Need-loop-again Inv-loop μ-loop
 loop-again c =
     let at-out = c .before .before .before .before in
@@ -72,7 +69,7 @@ put-frames-spec =
     returns
     (λ c. search needs)
     (λ c. search needs)
-    loop-less
+    (λ c. omega arith)
     loop-again
     same-length-3
     same-length-4

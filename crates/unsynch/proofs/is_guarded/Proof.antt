@@ -8,12 +8,6 @@ use borrow.Author.Needs.{needs}
 use Rattle.unsynch.proofs.is_guarded.Statement.{statement}
 use Rattle.unsynch.proofs.is_guarded.Tie as tie
 
-unsync-by-requires : tie.Need-unsync-by-requires
-unsync-by-requires c κs = search needs
-
-hit-requires : tie.Need-hit-requires
-hit-requires c κs = search needs
-
 returns : tie.Need-returns
 returns c =
     let a = c .before .before .args in
@@ -22,4 +16,4 @@ returns c =
     ∙ ap (λ (g : Bool). a .prev && g) (guarded (a .mode) (a .b))
 
 pub is-guarded-spec : {M : Type 1} → statement M
-is-guarded-spec = tie.close (tie.spec unsync-by-requires hit-requires returns)
+is-guarded-spec = tie.close (tie.spec (λ c κs. search needs) (λ c κs. search needs) returns)

@@ -22,12 +22,6 @@ use Rattle.unsynch.proofs.resync_in.Tie as tie
 abbrev whole : tie.Start → List ℕ
 whole s = let a = s .args in resynchronised (slice (a .from) (a .to) (take (a .split) (a .area .now)))
 
-least-requires : tie.Need-least-requires
-least-requires c κs = search needs
-
-least-requires-2 : tie.Need-least-requires-2
-least-requires-2 c κs = search needs
-
 returns : tie.Need-returns
 unfolding resync
 returns c =
@@ -47,9 +41,6 @@ start c =
 in-split : (c : tie.Else1) → let a = start c .args in putOf 14 (whole (start c)) (c .before .before .least .result) (a .area .now) ≡ inAreaOf (a .from) (a .to) (a .split) (a .area .now)
 in-split c = let a = start c .args in in-room (whole (start c)) (a .split) (c .before .before .least .result) (a .area .now) (c .before .before .least .ensures)
 
-resync-by-requires : tie.Need-resync-by-requires
-resync-by-requires c κs = search needs
-
 -- what is there of the bytes makes the whole
 cut : (c : tie.After-resync-by) →
     let a = start (c .before) .args in
@@ -62,11 +53,8 @@ cut c =
     ∙ resyncs false part
     ∙ ap resynchronised (slice-before (a .from) (a .to) (a .split) (at-end .least2 .result) (a .area .now) (at-end .least2 .ensures ∙ ap (min (a .to)) (at-end .before .least .ensures)))
 
-sub-fits : tie.Need-sub-fits
-sub-fits c = search needs
-
 fits-requires : tie.Need-fits-requires
-fits-requires c κs = search needs
+fits-requires c κs = (omega arith, known-resync _ (c .before .resync-by .ensures))
 
 edit-in-requires : tie.Need-edit-in-requires
 edit-in-requires c κs =
@@ -97,17 +85,11 @@ stored-all c =
 sub-t17 : tie.Need-sub-t17
 sub-t17 c = stored-all c .0
 
-same-length : tie.Need-same-length
-same-length c = search needs
-
 returns-2 : tie.Need-returns-2
 returns-2 c =
     let at-edit = c .before .before in
     let at-fits = at-edit .before .before .before in
     stored-all c .1 ∙ in-split (at-fits .before .before .before)
-
-same-length-2 : tie.Need-same-length-2
-same-length-2 c = search needs
 
 returns-3 : tie.Need-returns-3
 returns-3 c =
@@ -122,15 +104,15 @@ pub resync-in-spec : {M : Type 1} → statement M
 resync-in-spec =
     tie.close
     (tie.spec
-    least-requires
-    least-requires-2
+    (λ c κs. search needs)
+    (λ c κs. search needs)
     returns
-    resync-by-requires
-    sub-fits
+    (λ c κs. search needs)
+    (λ c. search needs)
     fits-requires
     edit-in-requires
     sub-t17
-    same-length
+    (λ c. search needs)
     returns-2
-    same-length-2
+    (λ c. search needs)
     returns-3)

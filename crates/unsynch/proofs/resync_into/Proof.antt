@@ -17,14 +17,8 @@ use native.Mathlib.Omega.{arith}
 use Rattle.unsynch.proofs.resync_into.Statement.{statement}
 use Rattle.unsynch.proofs.resync_into.Tie as tie
 
-resync-by-requires : tie.Need-resync-by-requires
-resync-by-requires c κs = search needs
-
 put-part-requires : tie.Need-put-part-requires
 put-part-requires c κs = (known-resync _ (c .resync-by .ensures), λ e. absurd (false-not-true e))
-
-same-length : tie.Need-same-length
-same-length c = search needs
 
 returns : tie.Need-returns
 returns c =
@@ -38,4 +32,4 @@ returns c =
     ∙ in-room (resynchronised part) 0 0 (a .room .now) e
 
 pub resync-into-spec : {M : Type 1} → statement M
-resync-into-spec = tie.close (tie.spec resync-by-requires put-part-requires same-length returns)
+resync-into-spec = tie.close (tie.spec (λ c κs. search needs) put-part-requires (λ c. search needs) returns)

@@ -11,15 +11,9 @@ use borrow.Author.Needs.{needs}
 use Rattle.unsynch.proofs.unsync_into.Statement.{statement}
 use Rattle.unsynch.proofs.unsync_into.Tie as tie
 
-unsync-by-requires : tie.Need-unsync-by-requires
-unsync-by-requires c κs = search needs
-
 put-part-requires : tie.Need-put-part-requires
 put-part-requires c κs =
     (known-unsync _ (c .before .before .before .before .args .mode) (c .unsync-by .ensures), λ _. ap (λ (how : How). how .insert) (c .unsync-by .ensures))
-
-same-length : tie.Need-same-length
-same-length c = search needs
 
 returns : tie.Need-returns
 returns c =
@@ -31,4 +25,4 @@ returns c =
     ∙ ap (λ (u : List ℕ). putOf 20 u (a .at) (a .out .now)) (unsyncs (a .mode) (a .prev) part)
 
 pub unsync-into-spec : {M : Type 1} → statement M
-unsync-into-spec = tie.close (tie.spec unsync-by-requires put-part-requires same-length returns)
+unsync-into-spec = tie.close (tie.spec (λ c κs. search needs) put-part-requires (λ c. search needs) returns)

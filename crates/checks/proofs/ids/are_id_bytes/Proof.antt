@@ -6,16 +6,10 @@ use borrow.Author.Needs.{needs}
 use Rattle.checks.proofs.ids.are_id_bytes.Statement.{statement}
 use Rattle.checks.proofs.ids.are_id_bytes.Tie as tie
 
-is-id-byte-requires : tie.Need-is-id-byte-requires
-is-id-byte-requires c κs = search needs
-
 returns : tie.Need-returns
 returns c =
     let high = sym (c .before .is-id-byte .ensures) ∙ not-true _ (c .if1 .taken) in
     rw (three-bytes, high)
-
-is-id-byte-requires-2 : tie.Need-is-id-byte-requires-2
-is-id-byte-requires-2 c κs = search needs
 
 returns-2 : tie.Need-returns-2
 returns-2 c =
@@ -23,9 +17,6 @@ returns-2 c =
     let high = sym (at-is-id-byte .is-id-byte .ensures) ∙ not-false _ (c .before .before .if1 .left) in
     let middle = sym (c .before .is-id-byte2 .ensures) ∙ not-true _ (c .if2 .taken) in
     rw (three-bytes, high, middle)
-
-is-id-byte-requires-3 : tie.Need-is-id-byte-requires-3
-is-id-byte-requires-3 c κs = search needs
 
 returns-3 : tie.Need-returns-3
 returns-3 c =
@@ -39,9 +30,9 @@ pub are-id-bytes-spec : {M : Type 1} → statement M
 are-id-bytes-spec =
     tie.close
     (tie.spec
-    is-id-byte-requires
+    (λ c κs. search needs)
     returns
-    is-id-byte-requires-2
+    (λ c κs. search needs)
     returns-2
-    is-id-byte-requires-3
+    (λ c κs. search needs)
     returns-3)

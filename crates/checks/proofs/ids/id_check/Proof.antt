@@ -30,25 +30,10 @@ kinds c name names rest deviations =
     let said = c .before .kind-number .ensures ∙ ap kindNumber (c .before .before .kind-of .ensures) in
     from-kinds (a .version) (a .heading) name names rest deviations is _ _ (c .kinds-refusal .result) own said (c .kinds-refusal .ensures)
 
-is-id-requires : tie.Need-is-id-requires
-is-id-requires c κs = search needs
-
 returns : tie.Need-returns
 returns c name names rest deviations =
     let a = c .before .before .args in
     no-id (a .version) (a .heading) name names rest deviations (sym (c .before .is-id .ensures) ∙ not-true _ (c .if1 .taken))
-
-fields-number-requires : tie.Need-fields-number-requires
-fields-number-requires c κs = search needs
-
-kind-of-requires : tie.Need-kind-of-requires
-kind-of-requires c κs = search needs
-
-kind-number-requires : tie.Need-kind-number-requires
-kind-number-requires c κs = search needs
-
-kinds-refusal-requires : tie.Need-kinds-refusal-requires
-kinds-refusal-requires c κs = search needs
 
 returns-2 : tie.Need-returns-2
 returns-2 c name names rest deviations = sym (kinds (c .before) name names rest deviations ∙ refused _ _ (c .if2 .taken))
@@ -75,12 +60,12 @@ pub id-check-spec : {M : Type 1} → statement M
 id-check-spec =
     tie.close
     (tie.spec
-    is-id-requires
+    (λ c κs. search needs)
     returns
-    fields-number-requires
-    kind-of-requires
-    kind-number-requires
-    kinds-refusal-requires
+    (λ c κs. search needs)
+    (λ c κs. search needs)
+    (λ c κs. search needs)
+    (λ c κs. search needs)
     returns-2
     returns-3
     returns-4

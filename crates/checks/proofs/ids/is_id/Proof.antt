@@ -3,24 +3,6 @@ use borrow.Author.Needs.{needs}
 use Rattle.checks.proofs.ids.is_id.Statement.{statement}
 use Rattle.checks.proofs.ids.is_id.Tie as tie
 
-enum-told : tie.Need-enum-told
-enum-told c = search needs
-
-is-id3-requires : tie.Need-is-id3-requires
-is-id3-requires c κs = search needs
-
-enum-told-2 : tie.Need-enum-told-2
-enum-told-2 c = search needs
-
-is-id4-requires : tie.Need-is-id4-requires
-is-id4-requires c κs = search needs
-
-enum-told-3 : tie.Need-enum-told-3
-enum-told-3 c = search needs
-
-is-id4-requires-2 : tie.Need-is-id4-requires-2
-is-id4-requires-2 c κs = search needs
-
 returns : tie.Need-returns
 returns c = rw (c .before .enum-told .given .1) (c .is-id3 .ensures)
 
@@ -34,12 +16,12 @@ pub is-id-spec : {M : Type 1} → statement M
 is-id-spec =
     tie.close
     (tie.spec
-    enum-told
-    is-id3-requires
-    enum-told-2
-    is-id4-requires
-    enum-told-3
-    is-id4-requires-2
+    (λ c. search needs)
+    (λ c κs. search needs)
+    (λ c. search needs)
+    (λ c κs. search needs)
+    (λ c. search needs)
+    (λ c κs. search needs)
     returns
     returns-2
     returns-3)

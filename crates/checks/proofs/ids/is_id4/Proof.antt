@@ -11,12 +11,6 @@ use borrow.Author.Needs.{needs}
 use Rattle.checks.proofs.ids.is_id4.Statement.{statement}
 use Rattle.checks.proofs.ids.is_id4.Tie as tie
 
-is-id-byte-requires : tie.Need-is-id-byte-requires
-is-id-byte-requires c κs = search needs
-
-are-id-bytes-requires : tie.Need-are-id-bytes-requires
-are-id-bytes-requires c κs = search needs
-
 returns : tie.Need-returns
 unfolding digits allIdBytes
 returns c =
@@ -31,4 +25,4 @@ returns-2 c =
     rw (fits, ← c .before .is-id-byte .ensures, c .if1 .left)
 
 pub is-id4-spec : {M : Type 1} → statement M
-is-id4-spec = tie.close (tie.spec is-id-byte-requires are-id-bytes-requires returns returns-2)
+is-id4-spec = tie.close (tie.spec (λ c κs. search needs) (λ c κs. search needs) returns returns-2)

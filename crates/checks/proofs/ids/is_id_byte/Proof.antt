@@ -3,12 +3,6 @@ use borrow.Author.Needs.{needs}
 use Rattle.checks.proofs.ids.is_id_byte.Statement.{statement}
 use Rattle.checks.proofs.ids.is_id_byte.Tie as tie
 
-is-within-requires : tie.Need-is-within-requires
-is-within-requires c κs = search needs
-
-is-within-requires-2 : tie.Need-is-within-requires-2
-is-within-requires-2 c κs = search needs
-
 returns : tie.Need-returns
 returns c = rw (← c .before .is-within .ensures, c .if1 .taken)
 
@@ -16,4 +10,4 @@ returns-2 : tie.Need-returns-2
 returns-2 c = rw (← c .before .before .is-within .ensures, c .before .if1 .left) (c .is-within2 .ensures)
 
 pub is-id-byte-spec : {M : Type 1} → statement M
-is-id-byte-spec = tie.close (tie.spec is-within-requires is-within-requires-2 returns returns-2)
+is-id-byte-spec = tie.close (tie.spec (λ c κs. search needs) (λ c κs. search needs) returns returns-2)

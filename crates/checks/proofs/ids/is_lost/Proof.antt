@@ -7,33 +7,6 @@ use Rattle.checks.proofs.ids.is_lost.Tie as tie
 returns : tie.Need-returns
 returns c = rw (not-true (c .before .args .altered) (c .if1 .taken))
 
-enum-told : tie.Need-enum-told
-enum-told c = search needs
-
-slice-aggregate-is-among : tie.Need-slice-aggregate-is-among
-slice-aggregate-is-among c = search needs
-
-is-among-requires : tie.Need-is-among-requires
-is-among-requires c κs = search needs
-
-enum-told-2 : tie.Need-enum-told-2
-enum-told-2 c = search needs
-
-slice-aggregate-is-among-2 : tie.Need-slice-aggregate-is-among-2
-slice-aggregate-is-among-2 c = search needs
-
-is-among-requires-2 : tie.Need-is-among-requires-2
-is-among-requires-2 c κs = search needs
-
-enum-told-3 : tie.Need-enum-told-3
-enum-told-3 c = search needs
-
-slice-aggregate-is-among-3 : tie.Need-slice-aggregate-is-among-3
-slice-aggregate-is-among-3 c = search needs
-
-is-among-requires-3 : tie.Need-is-among-requires-3
-is-among-requires-3 c κs = search needs
-
 returns-2 : tie.Need-returns-2
 returns-2 c =
     let at-if1 = c .before .before .before .before in
@@ -60,15 +33,15 @@ is-lost-spec =
     tie.close
     (tie.spec
     returns
-    enum-told
-    slice-aggregate-is-among
-    is-among-requires
-    enum-told-2
-    slice-aggregate-is-among-2
-    is-among-requires-2
-    enum-told-3
-    slice-aggregate-is-among-3
-    is-among-requires-3
+    (λ c. search needs)
+    (λ c. search needs)
+    (λ c κs. search needs)
+    (λ c. search needs)
+    (λ c. search needs)
+    (λ c κs. search needs)
+    (λ c. search needs)
+    (λ c. search needs)
+    (λ c κs. search needs)
     returns-2
     returns-3
     returns-4)

@@ -6,16 +6,10 @@ use borrow.Author.Needs.{needs}
 use Rattle.checks.proofs.names.children_check.Statement.{statement}
 use Rattle.checks.proofs.names.children_check.Tie as tie
 
-last-byte-requires : tie.Need-last-byte-requires
-last-byte-requires c κs = search needs
-
 returns : tie.Need-returns
 returns c =
     let at-start = c .before .before .before in
     sym (not-closed (at-start .args .children .now) (omega arith))
-
-zeros-in-requires : tie.Need-zeros-in-requires
-zeros-in-requires c κs = search needs
 
 returns-2 : tie.Need-returns-2
 returns-2 c =
@@ -31,4 +25,4 @@ returns-3 c =
 
 pub children-check-spec : {M : Type 1} → statement M
 children-check-spec =
-    tie.close (tie.spec last-byte-requires returns zeros-in-requires returns-2 returns-3)
+    tie.close (tie.spec (λ c κs. search needs) returns (λ c κs. search needs) returns-2 returns-3)

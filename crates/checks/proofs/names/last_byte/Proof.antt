@@ -8,14 +8,8 @@ use Rattle.checks.proofs.names.last_byte.Tie as tie
 returns : tie.Need-returns
 returns c = sym (last-none 0 _ (c .if1 .taken))
 
-sub-result : tie.Need-sub-result
-sub-result c = search needs
-
-shared-slice-read-result : tie.Need-shared-slice-read-result
-shared-slice-read-result c = search needs
-
 returns-2 : tie.Need-returns-2
 returns-2 c = sym (last-at 0 _ (c .before .if1 .left))
 
 pub last-byte-spec : {M : Type 1} → statement M
-last-byte-spec = tie.close (tie.spec returns sub-result shared-slice-read-result returns-2)
+last-byte-spec = tie.close (tie.spec returns (λ c. search needs) (λ c. search needs) returns-2)

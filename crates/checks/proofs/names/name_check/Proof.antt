@@ -4,9 +4,6 @@ use borrow.Author.Needs.{needs}
 use Rattle.checks.proofs.names.name_check.Statement.{statement}
 use Rattle.checks.proofs.names.name_check.Tie as tie
 
-zero-at-requires : tie.Need-zero-at-requires
-zero-at-requires c κs = search needs
-
 returns : tie.Need-returns
 returns c = rw (← c .before .zero-at .ensures, eq-eqb _ _ (c .if1 .taken))
 
@@ -14,4 +11,4 @@ returns-2 : tie.Need-returns-2
 returns-2 c = rw (← c .before .zero-at .ensures, ne-eqb _ _ (c .if1 .left))
 
 pub name-check-spec : {M : Type 1} → statement M
-name-check-spec = tie.close (tie.spec zero-at-requires returns returns-2)
+name-check-spec = tie.close (tie.spec (λ c κs. search needs) returns returns-2)

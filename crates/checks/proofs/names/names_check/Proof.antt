@@ -5,18 +5,12 @@ use borrow.Author.Needs.{needs}
 use Rattle.checks.proofs.names.names_check.Statement.{statement}
 use Rattle.checks.proofs.names.names_check.Tie as tie
 
-name-check-requires : tie.Need-name-check-requires
-name-check-requires c κs = search needs
-
 returns : tie.Need-returns
 returns c = rw (← c .before .name-check .ensures) (sym (refused _ _ (c .if1 .taken)))
-
-children-check-requires : tie.Need-children-check-requires
-children-check-requires c κs = search needs
 
 returns-2 : tie.Need-returns-2
 returns-2 c = rw (← c .before .before .name-check .ensures) (c .children-check .ensures ∙ sym (only _) ∙ sym (passed _ _ (c .before .if1 .left)))
 
 pub names-check-spec : {M : Type 1} → statement M
 names-check-spec =
-    tie.close (tie.spec name-check-requires returns children-check-requires returns-2)
+    tie.close (tie.spec (λ c κs. search needs) returns (λ c κs. search needs) returns-2)

@@ -6,36 +6,6 @@ use borrow.Author.Needs.{needs}
 use Rattle.checks.proofs.record.early_check.Statement.{statement}
 use Rattle.checks.proofs.record.early_check.Tie as tie
 
-enum-known-fields : tie.Need-enum-known-fields
-enum-known-fields c = search needs
-
-encoding-check-requires : tie.Need-encoding-check-requires
-encoding-check-requires c κs = search needs
-
-enum-told : tie.Need-enum-told
-enum-told c = search needs
-
-name-check-requires : tie.Need-name-check-requires
-name-check-requires c κs = search needs
-
-enum-told-2 : tie.Need-enum-told-2
-enum-told-2 c = search needs
-
-enum-told-3 : tie.Need-enum-told-3
-enum-told-3 c = search needs
-
-name-check-requires-2 : tie.Need-name-check-requires-2
-name-check-requires-2 c κs = search needs
-
-enum-told-4 : tie.Need-enum-told-4
-enum-told-4 c = search needs
-
-names-check-requires : tie.Need-names-check-requires
-names-check-requires c κs = search needs
-
-enum-told-5 : tie.Need-enum-told-5
-enum-told-5 c = search needs
-
 returns : tie.Need-returns
 unfolding first
 returns c rest deviations = rw (c .before .before .fields .given .1) (c .encoding-check .ensures ∙ sym (only _))
@@ -64,16 +34,16 @@ pub early-check-spec : {M : Type 1} → statement M
 early-check-spec =
     tie.close
     (tie.spec
-    enum-known-fields
-    encoding-check-requires
-    enum-told
-    name-check-requires
-    enum-told-2
-    enum-told-3
-    name-check-requires-2
-    enum-told-4
-    names-check-requires
-    enum-told-5
+    (λ c. search needs)
+    (λ c κs. search needs)
+    (λ c. search needs)
+    (λ c κs. search needs)
+    (λ c. search needs)
+    (λ c. search needs)
+    (λ c κs. search needs)
+    (λ c. search needs)
+    (λ c κs. search needs)
+    (λ c. search needs)
     returns
     returns-2
     returns-3

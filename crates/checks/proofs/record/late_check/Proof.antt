@@ -6,36 +6,6 @@ use borrow.Author.Needs.{needs}
 use Rattle.checks.proofs.record.late_check.Statement.{statement}
 use Rattle.checks.proofs.record.late_check.Tie as tie
 
-enum-known-fields : tie.Need-enum-known-fields
-enum-known-fields c = search needs
-
-text-check-requires : tie.Need-text-check-requires
-text-check-requires c κs = search needs
-
-enum-told : tie.Need-enum-told
-enum-told c = search needs
-
-enum-known-fields-2 : tie.Need-enum-known-fields-2
-enum-known-fields-2 c = search needs
-
-table-check-requires : tie.Need-table-check-requires
-table-check-requires c κs = search needs
-
-enum-told-2 : tie.Need-enum-told-2
-enum-told-2 c = search needs
-
-run-check-requires : tie.Need-run-check-requires
-run-check-requires c κs = search needs
-
-enum-told-3 : tie.Need-enum-told-3
-enum-told-3 c = search needs
-
-run-check-requires-2 : tie.Need-run-check-requires-2
-run-check-requires-2 c κs = search needs
-
-enum-told-4 : tie.Need-enum-told-4
-enum-told-4 c = search needs
-
 returns : tie.Need-returns
 unfolding first
 returns c name names = rw (c .before .before .fields .given .1) (c .text-check .ensures ∙ sym (only _))
@@ -64,16 +34,16 @@ pub late-check-spec : {M : Type 1} → statement M
 late-check-spec =
     tie.close
     (tie.spec
-    enum-known-fields
-    text-check-requires
-    enum-told
-    enum-known-fields-2
-    table-check-requires
-    enum-told-2
-    run-check-requires
-    enum-told-3
-    run-check-requires-2
-    enum-told-4
+    (λ c. search needs)
+    (λ c κs. search needs)
+    (λ c. search needs)
+    (λ c. search needs)
+    (λ c κs. search needs)
+    (λ c. search needs)
+    (λ c κs. search needs)
+    (λ c. search needs)
+    (λ c κs. search needs)
+    (λ c. search needs)
     returns
     returns-2
     returns-3

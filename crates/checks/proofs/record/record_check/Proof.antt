@@ -6,9 +6,6 @@ use borrow.Author.Needs.{needs}
 use Rattle.checks.proofs.record.record_check.Statement.{statement}
 use Rattle.checks.proofs.record.record_check.Tie as tie
 
-id-check-requires : tie.Need-id-check-requires
-id-check-requires c κs = search needs
-
 returns : tie.Need-returns
 returns c =
     let at-id-check = c .before in
@@ -16,9 +13,6 @@ returns c =
     let at-start = at-read .before in
     let a = at-start .args in
     rw (in-steps, ← c .before .id-check .ensures (a .name .now) (a .names .now) (a .rest .now) (a .deviations .now)) (sym (refused _ _ (c .if1 .taken)))
-
-early-check-requires : tie.Need-early-check-requires
-early-check-requires c κs = search needs
 
 returns-2 : tie.Need-returns-2
 returns-2 c =
@@ -28,9 +22,6 @@ returns-2 c =
     let a = at-start .args in
     rw (in-steps, ← at-id-check .id-check .ensures (a .name .now) (a .names .now) (a .rest .now) (a .deviations .now), ← c .before .early-check .ensures (a .rest .now) (a .deviations .now))
     (sym (passed _ _ (c .before .before .if1 .left) ∙ refused _ _ (c .if2 .taken)))
-
-late-check-requires : tie.Need-late-check-requires
-late-check-requires c κs = search needs
 
 returns-3 : tie.Need-returns-3
 returns-3 c =
@@ -46,9 +37,9 @@ pub record-check-spec : {M : Type 1} → statement M
 record-check-spec =
     tie.close
     (tie.spec
-    id-check-requires
+    (λ c κs. search needs)
     returns
-    early-check-requires
+    (λ c κs. search needs)
     returns-2
-    late-check-requires
+    (λ c κs. search needs)
     returns-3)

@@ -19,12 +19,6 @@ walks c =
     let a = at-start .args in
     ap (λ (s : List ℕ). walked true (a .version) 2 s [] .0) (sym (take-length (a .run .now))) ∙ sym (ap (λ (o : ℕ × List ℕ). o .0) (c .walk .ensures))
 
-slice-aggregate-walk : tie.Need-slice-aggregate-walk
-slice-aggregate-walk c = search needs
-
-walk-requires : tie.Need-walk-requires
-walk-requires c κs = search needs
-
 returns : tie.Need-returns
 returns c = rw (eq-eqb _ _ (walks (c .before .before) ∙ c .if1 .taken))
 
@@ -34,4 +28,4 @@ returns-2 c = rw (walks (c .before .before), ne-eqb _ _ (c .if1 .left))
 pub run-check-spec : {M : Type 1} → statement M
 run-check-spec =
     tie.close
-    (tie.spec slice-aggregate-walk walk-requires returns returns-2)
+    (tie.spec (λ c. search needs) (λ c κs. search needs) returns returns-2)

@@ -15,9 +15,6 @@ ends c =
     let a = c .before .before .args in
     sym (c .text-end .ensures ∙ ap (textEnd (a .version) (a .encoding)) (take-length (a .bytes .now)))
 
-text-end-requires : tie.Need-text-end-requires
-text-end-requires c κs = search needs
-
 returns : tie.Need-returns
 returns c = rw (eq-eqb _ _ (ends (c .before) ∙ c .if1 .taken))
 
@@ -25,4 +22,4 @@ returns-2 : tie.Need-returns-2
 returns-2 c = rw (ends (c .before), ne-eqb _ _ (c .if1 .left))
 
 pub text-check-spec : {M : Type 1} → statement M
-text-check-spec = tie.close (tie.spec text-end-requires returns returns-2)
+text-check-spec = tie.close (tie.spec (λ c κs. search needs) returns returns-2)

@@ -19,15 +19,6 @@ abbrev μ-loop : tie.MeasureT-loop
 loop-holds : tie.Need-loop-holds Inv-loop μ-loop
 loop-holds c = (omega arith, refl)
 
-mul-fits : tie.Need-mul-fits Inv-loop μ-loop
-mul-fits c = search needs
-
-shared-slice-read-fits : tie.Need-shared-slice-read-fits Inv-loop μ-loop
-shared-slice-read-fits c = search needs
-
-fits-requires : tie.Need-fits-requires Inv-loop μ-loop
-fits-requires c κs = search needs
-
 returns : tie.Need-returns Inv-loop μ-loop
 returns c =
     let at-loop-test = c .before .before .before in
@@ -36,12 +27,6 @@ returns c =
     let ds = at-start .args .deviations .now in
     let L = at-loop .loop in
     sym (one-over ds (L .i) (L .a) (L .b) (at-loop-test .loop-test .taken) (sym (c .before .fits2 .ensures) ∙ not-true _ (c .if1 .taken))) ∙ L .inv .1
-
-add-i : tie.Need-add-i Inv-loop μ-loop
-add-i c = search needs
-
-loop-less : tie.Need-loop-less Inv-loop μ-loop
-loop-less c = search needs
 
 loop-again : tie.Need-loop-again Inv-loop μ-loop
 loop-again c =
@@ -66,11 +51,11 @@ all-fit-spec =
     Inv-loop
     μ-loop
     loop-holds
-    mul-fits
-    shared-slice-read-fits
-    fits-requires
+    (λ c. search needs)
+    (λ c. search needs)
+    (λ c κs. search needs)
     returns
-    add-i
-    loop-less
+    (λ c. search needs)
+    (λ c. search needs)
     loop-again
     returns-2)

@@ -25,17 +25,11 @@ returns : tie.Need-returns
 unfolding first
 returns c = rw (ne-eqb _ _ (c .if1 .taken))
 
-all-fit-requires : tie.Need-all-fit-requires
-all-fit-requires c κs = search needs
-
 returns-2 : tie.Need-returns-2
 unfolding first
 returns-2 c =
     let over = sym (c .before .all-fit .ensures) ∙ not-true _ (c .if2 .taken) in
     rw (even (c .before .before), over)
-
-fits-requires : tie.Need-fits-requires
-fits-requires c κs = search needs
 
 returns-3 : tie.Need-returns-3
 unfolding first
@@ -43,21 +37,12 @@ returns-3 c =
     let over = sym (c .before .fits2 .ensures) ∙ not-true _ (c .if3 .taken) in
     rw (fitting (c .before .before), over)
 
-fits-requires-2 : tie.Need-fits-requires-2
-fits-requires-2 c κs = search needs
-
 returns-4 : tie.Need-returns-4
 unfolding first
 returns-4 c =
     let at-fits2 = c .before .before .before in
     let over = sym (c .before .fits3 .ensures) ∙ not-true _ (c .if4 .taken) in
     rw (fitting (at-fits2 .before), short (c .before .before), over)
-
-add-odd-check : tie.Need-add-odd-check
-add-odd-check c = search needs
-
-odd-check-requires : tie.Need-odd-check-requires
-odd-check-requires c κs = search needs
 
 returns-5 : tie.Need-returns-5
 unfolding first
@@ -72,12 +57,12 @@ deviations-check-spec =
     tie.close
     (tie.spec
     returns
-    all-fit-requires
+    (λ c κs. search needs)
     returns-2
-    fits-requires
+    (λ c κs. search needs)
     returns-3
-    fits-requires-2
+    (λ c κs. search needs)
     returns-4
-    add-odd-check
-    odd-check-requires
+    (λ c. search needs)
+    (λ c κs. search needs)
     returns-5)

@@ -5,18 +5,12 @@ use borrow.Author.Needs.{needs}
 use Rattle.checks.proofs.tables.table_check.Statement.{statement}
 use Rattle.checks.proofs.tables.table_check.Tie as tie
 
-widths-refusal-requires : tie.Need-widths-refusal-requires
-widths-refusal-requires c κs = search needs
-
 returns : tie.Need-returns
 returns c = rw (in-front, ← c .before .widths-refusal .ensures) (sym (refused _ _ (c .if1 .taken)))
-
-deviations-check-requires : tie.Need-deviations-check-requires
-deviations-check-requires c κs = search needs
 
 returns-2 : tie.Need-returns-2
 returns-2 c = rw (in-front, ← c .before .before .widths-refusal .ensures) (c .deviations-check .ensures ∙ sym (passed _ _ (c .before .if1 .left)))
 
 pub table-check-spec : {M : Type 1} → statement M
 table-check-spec =
-    tie.close (tie.spec widths-refusal-requires returns deviations-check-requires returns-2)
+    tie.close (tie.spec (λ c κs. search needs) returns (λ c κs. search needs) returns-2)

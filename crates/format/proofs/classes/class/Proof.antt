@@ -27,12 +27,9 @@ table =
     6 ∷ 7 ∷ 7 ∷ 7 ∷ 8 ∷ 9 ∷ 9 ∷ 9 ∷ 9 ∷ 9 ∷ 9 ∷ 9 ∷ 9 ∷ 9 ∷ 9 ∷ 9 ∷
     []
 
-array-read-result : tie.Need-array-read-result
-array-read-result c = search needs
-
 returns : tie.Need-returns
 unfolding table
 returns c = table-rule classOf table tt (c .args .b) (c .fits .b .fits)
 
 pub class-spec : {M : Type 1} → statement M
-class-spec = tie.close (tie.spec array-read-result returns)
+class-spec = tie.close (tie.spec (λ c. search needs) returns)

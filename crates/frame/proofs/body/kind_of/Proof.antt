@@ -4,24 +4,6 @@ use Rattle.format.specs.Ids.{kindOf}
 use Rattle.frame.proofs.body.kind_of.Statement.{statement}
 use Rattle.frame.proofs.body.kind_of.Tie as tie
 
-enum-told : tie.Need-enum-told
-enum-told c = search needs
-
-kind-of3-requires : tie.Need-kind-of3-requires
-kind-of3-requires c κs = search needs
-
-enum-told-2 : tie.Need-enum-told-2
-enum-told-2 c = search needs
-
-kind-of4-requires : tie.Need-kind-of4-requires
-kind-of4-requires c κs = search needs
-
-enum-told-3 : tie.Need-enum-told-3
-enum-told-3 c = search needs
-
-kind-of4-requires-2 : tie.Need-kind-of4-requires-2
-kind-of4-requires-2 c κs = search needs
-
 returns : tie.Need-returns
 unfolding kindOf
 returns c = rw (c .before .enum-told .given .1) (c .kind-of3 .ensures)
@@ -38,12 +20,12 @@ pub kind-of-spec : {M : Type 1} → statement M
 kind-of-spec =
     tie.close
     (tie.spec
-    enum-told
-    kind-of3-requires
-    enum-told-2
-    kind-of4-requires
-    enum-told-3
-    kind-of4-requires-2
+    (λ c. search needs)
+    (λ c κs. search needs)
+    (λ c. search needs)
+    (λ c κs. search needs)
+    (λ c. search needs)
+    (λ c κs. search needs)
     returns
     returns-2
     returns-3)

@@ -6,9 +6,6 @@ use Rattle.format.specs.Bytes.{named}
 use Rattle.frame.proofs.body.kind_of3.Statement.{statement}
 use Rattle.frame.proofs.body.kind_of3.Tie as tie
 
-is-text-requires : tie.Need-is-text-requires
-is-text-requires c κs = search needs
-
 returns : tie.Need-returns
 returns c = rw (sym (c .before .is-text .ensures) ∙ c .if1 .taken)
 
@@ -30,4 +27,4 @@ returns-4 c =
     )
 
 pub kind-of3-spec : {M : Type 1} → statement M
-kind-of3-spec = tie.close (tie.spec is-text-requires returns returns-2 returns-3 returns-4)
+kind-of3-spec = tie.close (tie.spec (λ c κs. search needs) returns returns-2 returns-3 returns-4)

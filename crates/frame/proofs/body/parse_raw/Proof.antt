@@ -5,12 +5,6 @@ use Rattle.frame.proofs.Bodies.{accepted, raw-taken, raw-parts}
 use Rattle.frame.proofs.body.parse_raw.Statement.{statement}
 use Rattle.frame.proofs.body.parse_raw.Tie as tie
 
-part-requires : tie.Need-part-requires
-part-requires c κs = search needs
-
-nowhere-requires : tie.Need-nowhere-requires
-nowhere-requires c κs = search needs
-
 returns : tie.Need-returns
 returns c v =
     let at-start = c .before .before .before in
@@ -20,4 +14,4 @@ returns c v =
     (raw-parts v (a .from) (b .result .now) (c .nowhere .result) (c .nowhere .ensures))
 
 pub parse-raw-spec : {M : Type 1} → statement M
-parse-raw-spec = tie.close (tie.spec part-requires nowhere-requires returns)
+parse-raw-spec = tie.close (tie.spec (λ c κs. search needs) (λ c κs. search needs) returns)

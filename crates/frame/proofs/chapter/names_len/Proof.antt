@@ -18,9 +18,6 @@ Inv-loop s count left₀ i₀ left i =
 abbrev μ-loop : tie.MeasureT-loop
 μ-loop s count left₀ i₀ left i = length s - i
 
-loop-holds : tie.Need-loop-holds Inv-loop μ-loop
-loop-holds c = omega arith
-
 returns : tie.Need-returns Inv-loop μ-loop
 returns c =
     let at-start = c .before .before .before in
@@ -28,18 +25,6 @@ returns c =
     let s = a .s .now in
     let L = c .before .before .loop in
     names-missing (a .count) s (omega (arith, no-zeros (drop (L .i) s) (omega (arith, length-drop (L .i) s))))
-
-shared-slice-read-if2 : tie.Need-shared-slice-read-if2 Inv-loop μ-loop
-shared-slice-read-if2 c = search needs
-
-sub-left : tie.Need-sub-left Inv-loop μ-loop
-sub-left c = search needs
-
-add-i : tie.Need-add-i Inv-loop μ-loop
-add-i c = search needs
-
-loop-less : tie.Need-loop-less Inv-loop μ-loop
-loop-less c = search needs
 
 loop-again : tie.Need-loop-again Inv-loop μ-loop
 loop-again c =
@@ -68,11 +53,11 @@ names-len-spec =
     (tie.spec
     Inv-loop
     μ-loop
-    loop-holds
+    (λ c. omega arith)
     returns
-    shared-slice-read-if2
-    sub-left
-    add-i
-    loop-less
+    (λ c. search needs)
+    (λ c. search needs)
+    (λ c. search needs)
+    (λ c. search needs)
     loop-again
     returns-2)

@@ -8,12 +8,6 @@ use Rattle.frame.proofs.Bodies.{refused, accepted, chapter-cut, chapter
 use Rattle.frame.proofs.chapter.parse_chapter.Statement.{statement}
 use Rattle.frame.proofs.chapter.parse_chapter.Tie as tie
 
-part-requires : tie.Need-part-requires
-part-requires c κs = search needs
-
-zero-at-requires : tie.Need-zero-at-requires
-zero-at-requires c κs = search needs
-
 add-run : tie.Need-add-run
 add-run c = omega (arith, zero-le (c .before .part .result .now), c .before .part .ok)
 
@@ -25,30 +19,6 @@ returns c v =
     let z = c .before .zero-at in
     refused v Kind.Chapter (a .from) (b .result .now) _ (b .ensures) 10 (chapter-cut (b .result .now) (z .result) (z .ensures) (c .if1 .taken))
 
-add-read32 : tie.Need-add-read32
-add-read32 c = search needs
-
-read32-requires : tie.Need-read32-requires
-read32-requires c κs = search needs
-
-add-read32-2 : tie.Need-add-read32-2
-add-read32-2 c = search needs
-
-read32-requires-2 : tie.Need-read32-requires-2
-read32-requires-2 c κs = search needs
-
-add-read32-3 : tie.Need-add-read32-3
-add-read32-3 c = search needs
-
-read32-requires-3 : tie.Need-read32-requires-3
-read32-requires-3 c κs = search needs
-
-add-read32-4 : tie.Need-add-read32-4
-add-read32-4 c = search needs
-
-read32-requires-4 : tie.Need-read32-requires-4
-read32-requires-4 c κs = search needs
-
 add-start : tie.Need-add-start
 add-start c =
     let at-if1 = c .before .before .before .before in
@@ -58,12 +28,6 @@ add-start c =
     let b = at-part .part in
     let whole = at-if1 .if1 .left in
     omega (arith, cut-lies (a .from) (a .to) (a .s .now) (b .result .now) (b .ensures) (omega arith))
-
-sub-left : tie.Need-sub-left
-sub-left c = search needs
-
-nowhere-requires : tie.Need-nowhere-requires
-nowhere-requires c κs = search needs
 
 returns-2 : tie.Need-returns-2
 returns-2 c v =
@@ -90,19 +54,19 @@ pub parse-chapter-spec : {M : Type 1} → statement M
 parse-chapter-spec =
     tie.close
     (tie.spec
-    part-requires
-    zero-at-requires
+    (λ c κs. search needs)
+    (λ c κs. search needs)
     add-run
     returns
-    add-read32
-    read32-requires
-    add-read32-2
-    read32-requires-2
-    add-read32-3
-    read32-requires-3
-    add-read32-4
-    read32-requires-4
+    (λ c. search needs)
+    (λ c κs. search needs)
+    (λ c. search needs)
+    (λ c κs. search needs)
+    (λ c. search needs)
+    (λ c κs. search needs)
+    (λ c. search needs)
+    (λ c κs. search needs)
     add-start
-    sub-left
-    nowhere-requires
+    (λ c. search needs)
+    (λ c κs. search needs)
     returns-2)

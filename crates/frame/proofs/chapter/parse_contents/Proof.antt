@@ -17,12 +17,6 @@ use Rattle.frame.proofs.Bodies.{refused, accepted, contents-cut, conten
 use Rattle.frame.proofs.chapter.parse_contents.Statement.{statement}
 use Rattle.frame.proofs.chapter.parse_contents.Tie as tie
 
-part-requires : tie.Need-part-requires
-part-requires c κs = search needs
-
-zero-at-requires : tie.Need-zero-at-requires
-zero-at-requires c κs = search needs
-
 add-at : tie.Need-add-at
 add-at c = omega (arith, zero-le (c .before .part .result .now), c .before .part .ok)
 
@@ -33,30 +27,6 @@ returns c v =
     let b = c .before .before .part in
     let z = c .before .zero-at in
     refused v Kind.Contents (a .from) (b .result .now) _ (b .ensures) 10 (contents-cut (b .result .now) (z .result) (z .ensures) (c .if1 .taken))
-
-add-flags : tie.Need-add-flags
-add-flags c = search needs
-
-shared-slice-read-flags : tie.Need-shared-slice-read-flags
-shared-slice-read-flags c = search needs
-
-add-count : tie.Need-add-count
-add-count c = search needs
-
-shared-slice-read-count : tie.Need-shared-slice-read-count
-shared-slice-read-count c = search needs
-
-part-requires-2 : tie.Need-part-requires-2
-part-requires-2 c κs = search needs
-
-names-len-requires : tie.Need-names-len-requires
-names-len-requires c κs = search needs
-
-enum-known-n : tie.Need-enum-known-n
-enum-known-n c = search needs
-
-enum-told : tie.Need-enum-told
-enum-told c = search needs
 
 returns-2 : tie.Need-returns-2
 returns-2 c v =
@@ -150,18 +120,18 @@ pub parse-contents-spec : {M : Type 1} → statement M
 parse-contents-spec =
     tie.close
     (tie.spec
-    part-requires
-    zero-at-requires
+    (λ c κs. search needs)
+    (λ c κs. search needs)
     add-at
     returns
-    add-flags
-    shared-slice-read-flags
-    add-count
-    shared-slice-read-count
-    part-requires-2
-    names-len-requires
-    enum-known-n
-    enum-told
+    (λ c. search needs)
+    (λ c. search needs)
+    (λ c. search needs)
+    (λ c. search needs)
+    (λ c κs. search needs)
+    (λ c κs. search needs)
+    (λ c. search needs)
+    (λ c. search needs)
     returns-2
     add-run
     add-first

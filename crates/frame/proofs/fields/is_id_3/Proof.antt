@@ -6,18 +6,6 @@ use Rattle.loads.proofs.Words.{three}
 use Rattle.frame.proofs.fields.is_id_3.Statement.{statement}
 use Rattle.frame.proofs.fields.is_id_3.Tie as tie
 
-shared-slice-read-is-utf8-3 : tie.Need-shared-slice-read-is-utf8-3
-shared-slice-read-is-utf8-3 c = search needs
-
-shared-slice-read-is-utf8-3-2 : tie.Need-shared-slice-read-is-utf8-3-2
-shared-slice-read-is-utf8-3-2 c = search needs
-
-shared-slice-read-is-utf8-3-3 : tie.Need-shared-slice-read-is-utf8-3-3
-shared-slice-read-is-utf8-3-3 c = search needs
-
-is-utf8-3-requires : tie.Need-is-utf8-3-requires
-is-utf8-3-requires c κs = search needs
-
 returns : tie.Need-returns
 returns c =
     let at-read = c .before .before .before .before in
@@ -28,8 +16,8 @@ pub is-id-3-spec : {M : Type 1} → statement M
 is-id-3-spec =
     tie.close
     (tie.spec
-    shared-slice-read-is-utf8-3
-    shared-slice-read-is-utf8-3-2
-    shared-slice-read-is-utf8-3-3
-    is-utf8-3-requires
+    (λ c. search needs)
+    (λ c. search needs)
+    (λ c. search needs)
+    (λ c κs. search needs)
     returns)

@@ -6,21 +6,6 @@ use Rattle.loads.proofs.Words.{four}
 use Rattle.frame.proofs.fields.is_id_4.Statement.{statement}
 use Rattle.frame.proofs.fields.is_id_4.Tie as tie
 
-shared-slice-read-is-utf8-4 : tie.Need-shared-slice-read-is-utf8-4
-shared-slice-read-is-utf8-4 c = search needs
-
-shared-slice-read-is-utf8-4-2 : tie.Need-shared-slice-read-is-utf8-4-2
-shared-slice-read-is-utf8-4-2 c = search needs
-
-shared-slice-read-is-utf8-4-3 : tie.Need-shared-slice-read-is-utf8-4-3
-shared-slice-read-is-utf8-4-3 c = search needs
-
-shared-slice-read-is-utf8-4-4 : tie.Need-shared-slice-read-is-utf8-4-4
-shared-slice-read-is-utf8-4-4 c = search needs
-
-is-utf8-4-requires : tie.Need-is-utf8-4-requires
-is-utf8-4-requires c κs = search needs
-
 returns : tie.Need-returns
 returns c =
     let at-read = c .before .before .before .before in
@@ -31,9 +16,9 @@ pub is-id-4-spec : {M : Type 1} → statement M
 is-id-4-spec =
     tie.close
     (tie.spec
-    shared-slice-read-is-utf8-4
-    shared-slice-read-is-utf8-4-2
-    shared-slice-read-is-utf8-4-3
-    shared-slice-read-is-utf8-4-4
-    is-utf8-4-requires
+    (λ c. search needs)
+    (λ c. search needs)
+    (λ c. search needs)
+    (λ c. search needs)
+    (λ c κs. search needs)
     returns)

@@ -48,12 +48,6 @@ module _ (c : tie.Else3) (v : Version) where
         ∙ ap (headOf v (a .depth)) (at-part .part .ensures)
         ∙ ap (λ (x : Version). headOf x (a .depth) (slice (a .from) (a .to) (a .s .now))) (sym is)
 
-part-requires : tie.Need-part-requires
-part-requires c κs = search needs
-
-head-len-requires : tie.Need-head-len-requires
-head-len-requires c κs = search needs
-
 returns : tie.Need-returns
 returns c =
     let at-part = c .before .before in
@@ -77,9 +71,6 @@ returns-2 c =
     ends-padded (a .version) (a .depth) (b .result .now) (rw (at-long .before .head-len .ensures .0) at (at-long .if1 .left)) (c .if2 .taken)
     ∙ ap (headOf (a .version) (a .depth)) (b .ensures)
 
-first-refusal-requires : tie.Need-first-refusal-requires
-first-refusal-requires c κs = search needs
-
 returns-3 : tie.Need-returns-3
 returns-3 c =
     let at-if2 = c .before .before in
@@ -87,20 +78,11 @@ returns-3 c =
     let a = at-part .before .before .args in
     refused-first (checked (c .before)) (c .if3 .taken) ∙ ap (headOf (a .version) (a .depth)) (at-part .part .ensures)
 
-enum-told : tie.Need-enum-told
-enum-told c = search needs
-
 with-body-requires : tie.Need-with-body-requires
 with-body-requires c κs = passed (c .before .before) Version.Id3v22 (c .enum-told .given .1)
 
-enum-told-2 : tie.Need-enum-told-2
-enum-told-2 c = search needs
-
 with-body-requires-2 : tie.Need-with-body-requires-2
 with-body-requires-2 c κs = passed (c .before .before) Version.Id3v23 (c .enum-told2 .given .1)
-
-enum-told-3 : tie.Need-enum-told-3
-enum-told-3 c = search needs
 
 with-body-requires-3 : tie.Need-with-body-requires-3
 with-body-requires-3 c κs = passed (c .before .before) Version.Id3v24 (c .enum-told3 .given .1)
@@ -118,18 +100,18 @@ pub decode-spec : {M : Type 1} → statement M
 decode-spec =
     tie.close
     (tie.spec
-    part-requires
-    head-len-requires
+    (λ c κs. search needs)
+    (λ c κs. search needs)
     returns
     shared-slice-read-if2
     returns-2
-    first-refusal-requires
+    (λ c κs. search needs)
     returns-3
-    enum-told
+    (λ c. search needs)
     with-body-requires
-    enum-told-2
+    (λ c. search needs)
     with-body-requires-2
-    enum-told-3
+    (λ c. search needs)
     with-body-requires-3
     returns-4
     returns-5

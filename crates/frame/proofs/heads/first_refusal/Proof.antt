@@ -12,22 +12,13 @@ use Rattle.frame.proofs.heads.first_refusal.Tie as tie
 returns : tie.Need-returns
 returns c = let a = c .before .before .args in too-deep (a .version) (a .depth) (a .b .now) (c .if1 .taken)
 
-enum-told : tie.Need-enum-told
-enum-told c = search needs
-
 is-id-3-requires : tie.Need-is-id-3-requires
 is-id-3-requires c κs =
     let a = c .before .before .before .before in omega (arith, head-some (a .args .version), a .pre)
 
-enum-told-2 : tie.Need-enum-told-2
-enum-told-2 c = search needs
-
 id-refusal-requires : tie.Need-id-refusal-requires
 id-refusal-requires c κs =
     let at-start = c .before .before .before .before in rw (c .enum-told2 .given .1) at (at-start .pre)
-
-enum-told-3 : tie.Need-enum-told-3
-enum-told-3 c = search needs
 
 id-refusal-requires-2 : tie.Need-id-refusal-requires-2
 id-refusal-requires-2 c κs =
@@ -66,11 +57,11 @@ first-refusal-spec =
     tie.close
     (tie.spec
     returns
-    enum-told
+    (λ c. search needs)
     is-id-3-requires
-    enum-told-2
+    (λ c. search needs)
     id-refusal-requires
-    enum-told-3
+    (λ c. search needs)
     id-refusal-requires-2
     returns-2
     returns-3

@@ -6,30 +6,15 @@ use Rattle.format.specs.Bytes.{first}
 use Rattle.frame.proofs.heads.id_refusal.Statement.{statement}
 use Rattle.frame.proofs.heads.id_refusal.Tie as tie
 
-is-id-4-requires : tie.Need-is-id-4-requires
-is-id-4-requires c κs = search needs
-
 returns : tie.Need-returns
 unfolding first
 returns c = rw (sym (c .before .is-id-4 .ensures) ∙ not-true _ (c .if1 .taken))
-
-shared-slice-read-has : tie.Need-shared-slice-read-has
-shared-slice-read-has c = search needs
-
-has-requires : tie.Need-has-requires
-has-requires c κs = search needs
 
 returns-2 : tie.Need-returns-2
 unfolding first
 returns-2 c =
     let at-id = c .before .before .before in
     rw (sym (at-id .before .is-id-4 .ensures) ∙ not-false _ (at-id .if1 .left), sym (c .before .has .ensures) ∙ c .if2 .taken)
-
-shared-slice-read-has-2 : tie.Need-shared-slice-read-has-2
-shared-slice-read-has-2 c = search needs
-
-has-requires-2 : tie.Need-has-requires-2
-has-requires-2 c κs = search needs
 
 returns-3 : tie.Need-returns-3
 unfolding first
@@ -57,12 +42,12 @@ pub id-refusal-spec : {M : Type 1} → statement M
 id-refusal-spec =
     tie.close
     (tie.spec
-    is-id-4-requires
+    (λ c κs. search needs)
     returns
-    shared-slice-read-has
-    has-requires
+    (λ c. search needs)
+    (λ c κs. search needs)
     returns-2
-    shared-slice-read-has-2
-    has-requires-2
+    (λ c. search needs)
+    (λ c κs. search needs)
     returns-3
     returns-4)

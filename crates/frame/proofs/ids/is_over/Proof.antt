@@ -4,17 +4,8 @@ use Rattle.frame.proofs.Utf8.{over}
 use Rattle.frame.proofs.ids.is_over.Statement.{statement}
 use Rattle.frame.proofs.ids.is_over.Tie as tie
 
-enum-known-due : tie.Need-enum-known-due
-enum-known-due c = search needs
-
-enum-told : tie.Need-enum-told
-enum-told c = search needs
-
-returns : tie.Need-returns
-returns c = search needs
-
 returns-2 : tie.Need-returns-2
 returns-2 c = let d = c .before .due .given in rw (d .1) (over _ _ _)
 
 pub is-over-spec : {M : Type 1} → statement M
-is-over-spec = tie.close (tie.spec enum-known-due enum-told returns returns-2)
+is-over-spec = tie.close (tie.spec (λ c. search needs) (λ c. search needs) (λ c. search needs) returns-2)

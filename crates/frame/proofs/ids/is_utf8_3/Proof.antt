@@ -9,18 +9,6 @@ use Rattle.frame.proofs.ids.is_utf8_3.Tie as tie
 returns : tie.Need-returns
 returns c = let a = c .before .args in sym (ascii-3 (a .a) (a .b) (a .c) (c .if1 .taken))
 
-lead-requires : tie.Need-lead-requires
-lead-requires c κs = search needs
-
-next-requires : tie.Need-next-requires
-next-requires c κs = search needs
-
-next-requires-2 : tie.Need-next-requires-2
-next-requires-2 c κs = search needs
-
-is-over-requires : tie.Need-is-over-requires
-is-over-requires c κs = search needs
-
 returns-2 : tie.Need-returns-2
 returns-2 c =
     let at-lead = c .before .before .before in
@@ -34,4 +22,4 @@ returns-2 c =
 pub is-utf8-3-spec : {M : Type 1} → statement M
 is-utf8-3-spec =
     tie.close
-    (tie.spec returns lead-requires next-requires next-requires-2 is-over-requires returns-2)
+    (tie.spec returns (λ c κs. search needs) (λ c κs. search needs) (λ c κs. search needs) (λ c κs. search needs) returns-2)

@@ -9,21 +9,6 @@ use Rattle.frame.proofs.ids.is_utf8_4.Tie as tie
 returns : tie.Need-returns
 returns c = let a = c .before .args in sym (ascii-4 (a .a) (a .b) (a .c) (a .d) (c .if1 .taken))
 
-lead-requires : tie.Need-lead-requires
-lead-requires c κs = search needs
-
-next-requires : tie.Need-next-requires
-next-requires c κs = search needs
-
-next-requires-2 : tie.Need-next-requires-2
-next-requires-2 c κs = search needs
-
-next-requires-3 : tie.Need-next-requires-3
-next-requires-3 c κs = search needs
-
-is-over-requires : tie.Need-is-over-requires
-is-over-requires c κs = search needs
-
 returns-2 : tie.Need-returns-2
 returns-2 c =
     let at-next = c .before .before .before in
@@ -41,9 +26,9 @@ is-utf8-4-spec =
     tie.close
     (tie.spec
     returns
-    lead-requires
-    next-requires
-    next-requires-2
-    next-requires-3
-    is-over-requires
+    (λ c κs. search needs)
+    (λ c κs. search needs)
+    (λ c κs. search needs)
+    (λ c κs. search needs)
+    (λ c κs. search needs)
     returns-2)

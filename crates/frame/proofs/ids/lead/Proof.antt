@@ -5,9 +5,6 @@ use Rattle.frame.proofs.Utf8.{lead-of, no-lead, class-below}
 use Rattle.frame.proofs.ids.lead.Statement.{statement}
 use Rattle.frame.proofs.ids.lead.Tie as tie
 
-class-requires : tie.Need-class-requires
-class-requires c κs = search needs
-
 returns : tie.Need-returns
 returns c s = lead-of (c .before .before .args .b) 0 s (sym (c .before .class .ensures) ∙ c .match .keys1)
 
@@ -52,7 +49,7 @@ pub lead-spec : {M : Type 1} → statement M
 lead-spec =
     tie.close
     (tie.spec
-    class-requires
+    (λ c κs. search needs)
     returns
     returns-2
     returns-3

@@ -5,17 +5,8 @@ use Rattle.frame.proofs.Utf8.{none-due, tail, tail-low, tail-high}
 use Rattle.frame.proofs.ids.next.Statement.{statement}
 use Rattle.frame.proofs.ids.next.Tie as tie
 
-enum-known-due : tie.Need-enum-known-due
-enum-known-due c = search needs
-
-enum-told : tie.Need-enum-told
-enum-told c = search needs
-
 returns : tie.Need-returns
 returns c s = rw (c .enum-told .given .1)
-
-lead-requires : tie.Need-lead-requires
-lead-requires c κs = search needs
 
 returns-2 : tie.Need-returns-2
 returns-2 c s =
@@ -41,9 +32,6 @@ returns-4 c s =
     let d = at-due .due .given in
     rw (d .1) (tail-high _ _ b s _ (c .before .before .if1 .left) (c .before .if2 .left) (c .if3 .taken))
 
-sub-t7 : tie.Need-sub-t7
-sub-t7 c = search needs
-
 returns-5 : tie.Need-returns-5
 returns-5 c s =
     let at-due = c .before .before .before .before in
@@ -56,12 +44,12 @@ pub next-spec : {M : Type 1} → statement M
 next-spec =
     tie.close
     (tie.spec
-    enum-known-due
-    enum-told
+    (λ c. search needs)
+    (λ c. search needs)
     returns
-    lead-requires
+    (λ c κs. search needs)
     returns-2
     returns-3
     returns-4
-    sub-t7
+    (λ c. search needs)
     returns-5)

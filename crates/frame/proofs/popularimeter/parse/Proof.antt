@@ -13,12 +13,6 @@ use Rattle.frame.proofs.Bodies.{refused, accepted, counter-lies, popula
 use Rattle.frame.proofs.popularimeter.parse.Statement.{statement}
 use Rattle.frame.proofs.popularimeter.parse.Tie as tie
 
-part-requires : tie.Need-part-requires
-part-requires c κs = search needs
-
-zero-at-requires : tie.Need-zero-at-requires
-zero-at-requires c κs = search needs
-
 add-if1 : tie.Need-add-if1
 add-if1 c = omega (arith, zero-le (c .before .part .result .now), c .before .part .ok)
 
@@ -29,12 +23,6 @@ returns c v =
     let b = c .before .before .part in
     let z = c .before .zero-at in
     refused v Kind.Popularimeter (a .from) (b .result .now) _ (b .ensures) 10 (popularimeter-cut (b .result .now) (z .result) (z .ensures) (c .if1 .taken))
-
-add-rating : tie.Need-add-rating
-add-rating c = search needs
-
-shared-slice-read-rating : tie.Need-shared-slice-read-rating
-shared-slice-read-rating c = search needs
 
 add-read64 : tie.Need-add-read64
 add-read64 c =
@@ -60,12 +48,6 @@ add-read64-3 c =
     let b = at-part .part in
     omega (arith, cut-lies (a .from) (a .to) (a .s .now) (b .result .now) (b .ensures) (omega arith))
 
-read64-requires : tie.Need-read64-requires
-read64-requires c κs = search needs
-
-nowhere-requires : tie.Need-nowhere-requires
-nowhere-requires c κs = search needs
-
 returns-2 : tie.Need-returns-2
 returns-2 c v =
     let at-if1 = c .before .before .before in
@@ -86,15 +68,15 @@ pub parse-spec : {M : Type 1} → statement M
 parse-spec =
     tie.close
     (tie.spec
-    part-requires
-    zero-at-requires
+    (λ c κs. search needs)
+    (λ c κs. search needs)
     add-if1
     returns
-    add-rating
-    shared-slice-read-rating
+    (λ c. search needs)
+    (λ c. search needs)
     add-read64
     add-read64-2
     add-read64-3
-    read64-requires
-    nowhere-requires
+    (λ c κs. search needs)
+    (λ c κs. search needs)
     returns-2)

@@ -5,32 +5,8 @@ use Rattle.frame.proofs.Packed.{mask-pos, masked-small, bits-masked}
 use Rattle.frame.proofs.table.bits_at.Statement.{statement}
 use Rattle.frame.proofs.table.bits_at.Tie as tie
 
-add-end : tie.Need-add-end
-add-end c = search needs
-
-add-n : tie.Need-add-n
-add-n c = search needs
-
-add-read64 : tie.Need-add-read64
-add-read64 c = search needs
-
-read64-requires : tie.Need-read64-requires
-read64-requires c κs = search needs
-
-shl-mask : tie.Need-shl-mask
-shl-mask c = search needs
-
 sub-mask : tie.Need-sub-mask
 sub-mask c = mask-pos (c .before .before .args .w) (c .before .before .pre .1)
-
-mul-result : tie.Need-mul-result
-mul-result c = search needs
-
-sub-result : tie.Need-sub-result
-sub-result c = search needs
-
-shr-result : tie.Need-shr-result
-shr-result c = search needs
 
 cast-result : tie.Need-cast-result
 cast-result c =
@@ -48,14 +24,14 @@ pub bits-at-spec : {M : Type 1} → statement M
 bits-at-spec =
     tie.close
     (tie.spec
-    add-end
-    add-n
-    add-read64
-    read64-requires
-    shl-mask
+    (λ c. search needs)
+    (λ c. search needs)
+    (λ c. search needs)
+    (λ c κs. search needs)
+    (λ c. search needs)
     sub-mask
-    mul-result
-    sub-result
-    shr-result
+    (λ c. search needs)
+    (λ c. search needs)
+    (λ c. search needs)
     cast-result
     returns)

@@ -6,9 +6,6 @@ use Rattle.frame.proofs.Counts.{counts, counts-none}
 use Rattle.frame.proofs.table.count_in.Statement.{statement}
 use Rattle.frame.proofs.table.count_in.Tie as tie
 
-sum-of-requires : tie.Need-sum-of-requires
-sum-of-requires c κs = search needs
-
 returns : tie.Need-returns
 returns c =
     let a = c .before .before .args in
@@ -29,4 +26,4 @@ returns-2 c =
     counts (a .v) (a .w) (a .n) (s .result) (c .fitting .result) (widths (a .v) (a .w) (s .result) (s .ensures) (c .before .if1 .left)) (c .fitting .ensures)
 
 pub count-in-spec : {M : Type 1} → statement M
-count-in-spec = tie.close (tie.spec sum-of-requires returns fitting-requires returns-2)
+count-in-spec = tie.close (tie.spec (λ c κs. search needs) returns fitting-requires returns-2)

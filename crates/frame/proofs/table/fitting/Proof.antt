@@ -6,23 +6,11 @@ use Rattle.frame.proofs.Counts.{count-low, count-whole, count-capped}
 use Rattle.frame.proofs.table.fitting.Statement.{statement}
 use Rattle.frame.proofs.table.fitting.Tie as tie
 
-div-eights : tie.Need-div-eights
-div-eights c = search needs
-
 returns : tie.Need-returns
 returns c = let a = c .before .args in count-capped (a .n) (a .sum) (c .before .pre .0) (c .if1 .taken)
 
-mul-result : tie.Need-mul-result
-mul-result c = search needs
-
-rem-result : tie.Need-rem-result
-rem-result c = search needs
-
 mul-result-2 : tie.Need-mul-result-2
 mul-result-2 c = let a = c .before .args in omega (arith, mod-lt (a .n) (c .before .pre .0))
-
-div-result : tie.Need-div-result
-div-result c = search needs
 
 add-result : tie.Need-add-result
 add-result c = let a = c .before .args in omega (arith, count-low (a .n) (a .sum) (c .before .pre .0))
@@ -34,11 +22,11 @@ pub fitting-spec : {M : Type 1} → statement M
 fitting-spec =
     tie.close
     (tie.spec
-    div-eights
+    (λ c. search needs)
     returns
-    mul-result
-    rem-result
+    (λ c. search needs)
+    (λ c. search needs)
     mul-result-2
-    div-result
+    (λ c. search needs)
     add-result
     returns-2)

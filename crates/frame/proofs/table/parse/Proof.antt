@@ -8,24 +8,12 @@ use Rattle.frame.proofs.Bodies.{refused, refused-as, accepted, table-cu
 use Rattle.frame.proofs.table.parse.Statement.{statement}
 use Rattle.frame.proofs.table.parse.Tie as tie
 
-part-requires : tie.Need-part-requires
-part-requires c κs = search needs
-
 returns : tie.Need-returns
 returns c v =
     let at-start = c .before .before .before in
     let a = at-start .args in
     let b = c .before .part in
     refused v Kind.Table (a .from) (b .result .now) _ (b .ensures) 10 (table-cut (b .result .now) (c .if1 .taken))
-
-shared-slice-read-bits-for-bytes : tie.Need-shared-slice-read-bits-for-bytes
-shared-slice-read-bits-for-bytes c = search needs
-
-shared-slice-read-bits-for-millis : tie.Need-shared-slice-read-bits-for-millis
-shared-slice-read-bits-for-millis c = search needs
-
-widths-refusal-requires : tie.Need-widths-refusal-requires
-widths-refusal-requires c κs = search needs
 
 returns-2 : tie.Need-returns-2
 returns-2 c v =
@@ -38,24 +26,6 @@ returns-2 c v =
     refused-as v Kind.Table (a .from) (b .result .now) _ (b .ensures) (no .result)
     (table-checked (b .result .now) (at-if1 .if1 .left) ∙ sym (no .ensures)) (c .if2 .taken)
 
-read-few-requires : tie.Need-read-few-requires
-read-few-requires c κs = search needs
-
-cast-frames : tie.Need-cast-frames
-cast-frames c = search needs
-
-read-few-requires-2 : tie.Need-read-few-requires-2
-read-few-requires-2 c κs = search needs
-
-cast-bytes : tie.Need-cast-bytes
-cast-bytes c = search needs
-
-read-few-requires-3 : tie.Need-read-few-requires-3
-read-few-requires-3 c κs = search needs
-
-cast-millis : tie.Need-cast-millis
-cast-millis c = search needs
-
 add-start : tie.Need-add-start
 add-start c =
     let at-if2 = c .before .before .before in
@@ -64,12 +34,6 @@ add-start c =
     let a = at-part .before .before .args in
     let b = at-part .part in
     omega (arith, cut-lies (a .from) (a .to) (a .s .now) (b .result .now) (b .ensures) (omega arith))
-
-sub-len : tie.Need-sub-len
-sub-len c = search needs
-
-nowhere-requires : tie.Need-nowhere-requires
-nowhere-requires c κs = search needs
 
 returns-3 : tie.Need-returns-3
 returns-3 c v =
@@ -94,19 +58,19 @@ pub parse-spec : {M : Type 1} → statement M
 parse-spec =
     tie.close
     (tie.spec
-    part-requires
+    (λ c κs. search needs)
     returns
-    shared-slice-read-bits-for-bytes
-    shared-slice-read-bits-for-millis
-    widths-refusal-requires
+    (λ c. search needs)
+    (λ c. search needs)
+    (λ c κs. search needs)
     returns-2
-    read-few-requires
-    cast-frames
-    read-few-requires-2
-    cast-bytes
-    read-few-requires-3
-    cast-millis
+    (λ c κs. search needs)
+    (λ c. search needs)
+    (λ c κs. search needs)
+    (λ c. search needs)
+    (λ c κs. search needs)
+    (λ c. search needs)
     add-start
-    sub-len
-    nowhere-requires
+    (λ c. search needs)
+    (λ c κs. search needs)
     returns-3)

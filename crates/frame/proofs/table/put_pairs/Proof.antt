@@ -18,34 +18,13 @@ loop-holds c =
     let p = c .before .before .pre in
     begin (a .out .now) (a .v) (a .w) (a .b .now) (a .n) (p .0) (p .1) (p .3)
 
-mul-loop : tie.Need-mul-loop Inv-loop μ-loop
-mul-loop c = search needs
-
 bits-at-requires : tie.Need-bits-at-requires Inv-loop μ-loop
 bits-at-requires c κs =
     let p = c .before .loop .inv in
     (p .bit, p .narrow, lies p (c .loop-test .taken))
 
-mul-out : tie.Need-mul-out Inv-loop μ-loop
-mul-out c = omega arith
-
-slice-write-out : tie.Need-slice-write-out Inv-loop μ-loop
-slice-write-out c = omega arith
-
-cast-end : tie.Need-cast-end Inv-loop μ-loop
-cast-end c = omega arith
-
-add-end : tie.Need-add-end Inv-loop μ-loop
-add-end c = omega arith
-
 add-k : tie.Need-add-k Inv-loop μ-loop
 add-k c = omega (arith, lies (c .before .before .loop .inv) (c .before .loop-test .taken))
-
-add-i : tie.Need-add-i Inv-loop μ-loop
-add-i c = search needs
-
-loop-less : tie.Need-loop-less Inv-loop μ-loop
-loop-less c = search needs
 
 loop-again : tie.Need-loop-again Inv-loop μ-loop
 loop-again c = again (c .before .before .loop .inv) (c .before .loop-test .taken) (c .bits-at .result) (c .bits-at .ensures)
@@ -65,15 +44,15 @@ put-pairs-spec =
     Inv-loop
     μ-loop
     loop-holds
-    mul-loop
+    (λ c. search needs)
     bits-at-requires
-    mul-out
-    slice-write-out
-    cast-end
-    add-end
+    (λ c. omega arith)
+    (λ c. omega arith)
+    (λ c. omega arith)
+    (λ c. omega arith)
     add-k
-    add-i
-    loop-less
+    (λ c. search needs)
+    (λ c. search needs)
     loop-again
     same-length
     returns)

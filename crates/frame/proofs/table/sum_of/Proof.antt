@@ -4,15 +4,6 @@ use borrow.Author.Needs.{needs}
 use Rattle.frame.proofs.table.sum_of.Statement.{statement}
 use Rattle.frame.proofs.table.sum_of.Tie as tie
 
-is-width-requires : tie.Need-is-width-requires
-is-width-requires c κs = search needs
-
-is-width-requires-2 : tie.Need-is-width-requires-2
-is-width-requires-2 c κs = search needs
-
-add-result : tie.Need-add-result
-add-result c = search needs
-
 returns : tie.Need-returns
 returns c =
     let at-is-width = c .before .before .before in
@@ -31,4 +22,4 @@ returns-3 : tie.Need-returns-3
 returns-3 c = rw (sym (c .before .is-width .ensures) ∙ c .if1 .left)
 
 pub sum-of-spec : {M : Type 1} → statement M
-sum-of-spec = tie.close (tie.spec is-width-requires is-width-requires-2 add-result returns returns-2 returns-3)
+sum-of-spec = tie.close (tie.spec (λ c κs. search needs) (λ c κs. search needs) (λ c. search needs) returns returns-2 returns-3)

@@ -6,21 +6,12 @@ use Rattle.frame.proofs.Unpacking.{unpack-refused, unpack-full, unpack-
 use Rattle.frame.proofs.table.unpack.Statement.{statement}
 use Rattle.frame.proofs.table.unpack.Tie as tie
 
-sum-of-requires : tie.Need-sum-of-requires
-sum-of-requires c κs = search needs
-
 returns : tie.Need-returns
 returns c =
     let at-start = c .before .before .before .before in
     let a = at-start .args in
     let s = c .before .sum-of in
     unpack-refused (a .v) (a .w) _ (a .out .now) (no-widths (a .v) (a .w) (s .result) (s .ensures) (c .if1 .taken))
-
-part-requires : tie.Need-part-requires
-part-requires c κs = search needs
-
-count-in-requires : tie.Need-count-in-requires
-count-in-requires c κs = search needs
 
 returns-2 : tie.Need-returns-2
 returns-2 c =
@@ -47,9 +38,6 @@ put-pairs-requires c κs =
     let n = c .before .before .count-in in
     (d .first-most, d .second-most, omega arith, pairs-within (a .v) (a .w) (b .result .now) _ (b .ensures) (a .out .now) (s .result) d (n .result) (n .ensures))
 
-same-length : tie.Need-same-length
-same-length c = search needs
-
 returns-3 : tie.Need-returns-3
 returns-3 c =
     let at-if2 = c .before .before .before .before in
@@ -71,11 +59,11 @@ pub unpack-spec : {M : Type 1} → statement M
 unpack-spec =
     tie.close
     (tie.spec
-    sum-of-requires
+    (λ c κs. search needs)
     returns
-    part-requires
-    count-in-requires
+    (λ c κs. search needs)
+    (λ c κs. search needs)
     returns-2
     put-pairs-requires
-    same-length
+    (λ c. search needs)
     returns-3)

@@ -5,9 +5,6 @@ use Rattle.frame.proofs.Widths.{widths, no-widths, width-refused, fours
 use Rattle.frame.proofs.table.widths_refusal.Statement.{statement}
 use Rattle.frame.proofs.table.widths_refusal.Tie as tie
 
-sum-of-requires : tie.Need-sum-of-requires
-sum-of-requires c κs = search needs
-
 returns : tie.Need-returns
 returns c =
     let a = c .before .before .args in
@@ -31,4 +28,4 @@ returns-3 c =
     sym (widths-taken (a .v) (a .w) (s .result) d (c .if2 .left))
 
 pub widths-refusal-spec : {M : Type 1} → statement M
-widths-refusal-spec = tie.close (tie.spec sum-of-requires returns returns-2 returns-3)
+widths-refusal-spec = tie.close (tie.spec (λ c κs. search needs) returns returns-2 returns-3)

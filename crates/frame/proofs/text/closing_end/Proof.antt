@@ -3,12 +3,6 @@ use borrow.Author.Needs.{needs}
 use Rattle.frame.proofs.text.closing_end.Statement.{statement}
 use Rattle.frame.proofs.text.closing_end.Tie as tie
 
-closing-pair-at-requires : tie.Need-closing-pair-at-requires
-closing-pair-at-requires c κs = search needs
-
-closing-at-requires : tie.Need-closing-at-requires
-closing-at-requires c κs = search needs
-
 returns : tie.Need-returns
 returns c = rw (c .before .if1 .taken) (c .closing-pair-at .ensures)
 
@@ -16,4 +10,4 @@ returns-2 : tie.Need-returns-2
 returns-2 c = rw (c .before .if1 .left) (c .closing-at .ensures)
 
 pub closing-end-spec : {M : Type 1} → statement M
-closing-end-spec = tie.close (tie.spec closing-pair-at-requires closing-at-requires returns returns-2)
+closing-end-spec = tie.close (tie.spec (λ c κs. search needs) (λ c κs. search needs) returns returns-2)

@@ -16,29 +16,11 @@ Inv-loop s i₀ i = (i ≤ length s) × (i % 2 ≡ 0) × (min 2 (length s) ≤ i
 abbrev μ-loop : tie.MeasureT-loop
 μ-loop s i₀ i = i
 
-sub-i : tie.Need-sub-i Inv-loop μ-loop
-sub-i c = search needs
-
 loop-holds : tie.Need-loop-holds Inv-loop μ-loop
 loop-holds c =
     let s = c .before .args .s .now in
     let i : ℕ = length s - length s % 2 in
     (omega arith, omega arith, omega arith, pairs-none (drop i s) (omega (arith, length-drop i s)))
-
-sub-zero-pair : tie.Need-sub-zero-pair Inv-loop μ-loop
-sub-zero-pair c = search needs
-
-shared-slice-read-zero-pair : tie.Need-shared-slice-read-zero-pair Inv-loop μ-loop
-shared-slice-read-zero-pair c = search needs
-
-sub-zero-pair-2 : tie.Need-sub-zero-pair-2 Inv-loop μ-loop
-sub-zero-pair-2 c = search needs
-
-shared-slice-read-zero-pair-2 : tie.Need-shared-slice-read-zero-pair-2 Inv-loop μ-loop
-shared-slice-read-zero-pair-2 c = search needs
-
-zero-pair-requires : tie.Need-zero-pair-requires Inv-loop μ-loop
-zero-pair-requires c κs = search needs
 
 returns : tie.Need-returns Inv-loop μ-loop
 returns c =
@@ -50,12 +32,6 @@ returns c =
     let z = c .before .zero-pair in
     let p = at-loop-test .loop-test .taken in
     sym (closing-pairs-kept (L .i) s p (L .inv .1) (L .inv .0) (L .inv .3) (sym (not-true _ (c .if1 .taken)) ∙ z .ensures))
-
-sub-i-2 : tie.Need-sub-i-2 Inv-loop μ-loop
-sub-i-2 c = search needs
-
-loop-less : tie.Need-loop-less Inv-loop μ-loop
-loop-less c = search needs
 
 loop-again : tie.Need-loop-again Inv-loop μ-loop
 loop-again c =
@@ -84,15 +60,15 @@ closing-pair-at-spec =
     (tie.spec
     Inv-loop
     μ-loop
-    sub-i
+    (λ c. search needs)
     loop-holds
-    sub-zero-pair
-    shared-slice-read-zero-pair
-    sub-zero-pair-2
-    shared-slice-read-zero-pair-2
-    zero-pair-requires
+    (λ c. search needs)
+    (λ c. search needs)
+    (λ c. search needs)
+    (λ c. search needs)
+    (λ c κs. search needs)
     returns
-    sub-i-2
-    loop-less
+    (λ c. search needs)
+    (λ c. search needs)
     loop-again
     returns-2)

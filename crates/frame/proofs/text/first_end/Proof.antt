@@ -3,12 +3,6 @@ use borrow.Author.Needs.{needs}
 use Rattle.frame.proofs.text.first_end.Statement.{statement}
 use Rattle.frame.proofs.text.first_end.Tie as tie
 
-zero-pair-at-requires : tie.Need-zero-pair-at-requires
-zero-pair-at-requires c κs = search needs
-
-zero-at-requires : tie.Need-zero-at-requires
-zero-at-requires c κs = search needs
-
 returns : tie.Need-returns
 returns c = rw (c .before .if1 .taken) (c .zero-pair-at .ensures)
 
@@ -16,4 +10,4 @@ returns-2 : tie.Need-returns-2
 returns-2 c = rw (c .before .if1 .left) (c .zero-at .ensures)
 
 pub first-end-spec : {M : Type 1} → statement M
-first-end-spec = tie.close (tie.spec zero-pair-at-requires zero-at-requires returns returns-2)
+first-end-spec = tie.close (tie.spec (λ c κs. search needs) (λ c κs. search needs) returns returns-2)

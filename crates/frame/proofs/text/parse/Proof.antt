@@ -7,18 +7,12 @@ use Rattle.frame.proofs.Bodies.{refused, accepted, text-empty, text-unk
 use Rattle.frame.proofs.text.parse.Statement.{statement}
 use Rattle.frame.proofs.text.parse.Tie as tie
 
-part-requires : tie.Need-part-requires
-part-requires c κs = search needs
-
 returns : tie.Need-returns
 returns c =
     let at-start = c .before .before .before in
     let a = at-start .args in
     let b = c .before .part in
     refused (a .version) Kind.Text (a .from) (b .result .now) _ (b .ensures) 10 (text-empty (b .result .now) (c .if1 .taken))
-
-shared-slice-read-encoding : tie.Need-shared-slice-read-encoding
-shared-slice-read-encoding c = search needs
 
 returns-2 : tie.Need-returns-2
 returns-2 c =
@@ -29,9 +23,6 @@ returns-2 c =
     let some = c .before .before .if1 .left in
     refused (a .version) Kind.Text (a .from) (b .result .now) _ (b .ensures) 11 (text-unknown (b .result .now) some (c .if2 .taken))
 
-text-end-requires : tie.Need-text-end-requires
-text-end-requires c κs = search needs
-
 add-start : tie.Need-add-start
 add-start c =
     let at-if1 = c .before .before .before in
@@ -41,9 +32,6 @@ add-start c =
     let b = at-part .part in
     let some = at-if1 .if1 .left in
     omega (arith, cut-lies (a .from) (a .to) (a .s .now) (b .result .now) (b .ensures) (omega arith))
-
-nowhere-requires : tie.Need-nowhere-requires
-nowhere-requires c κs = search needs
 
 returns-3 : tie.Need-returns-3
 returns-3 c =
@@ -60,11 +48,11 @@ pub parse-spec : {M : Type 1} → statement M
 parse-spec =
     tie.close
     (tie.spec
-    part-requires
+    (λ c κs. search needs)
     returns
-    shared-slice-read-encoding
+    (λ c. search needs)
     returns-2
-    text-end-requires
+    (λ c κs. search needs)
     add-start
-    nowhere-requires
+    (λ c κs. search needs)
     returns-3)

@@ -3,30 +3,6 @@ use borrow.Author.Needs.{needs}
 use Rattle.frame.proofs.text.text_end.Statement.{statement}
 use Rattle.frame.proofs.text.text_end.Tie as tie
 
-part-requires : tie.Need-part-requires
-part-requires c κs = search needs
-
-is-paired-requires : tie.Need-is-paired-requires
-is-paired-requires c κs = search needs
-
-enum-told : tie.Need-enum-told
-enum-told c = search needs
-
-first-end-requires : tie.Need-first-end-requires
-first-end-requires c κs = search needs
-
-enum-told-2 : tie.Need-enum-told-2
-enum-told-2 c = search needs
-
-first-end-requires-2 : tie.Need-first-end-requires-2
-first-end-requires-2 c κs = search needs
-
-enum-told-3 : tie.Need-enum-told-3
-enum-told-3 c = search needs
-
-closing-end-requires : tie.Need-closing-end-requires
-closing-end-requires c κs = search needs
-
 returns : tie.Need-returns
 returns c =
     let at-is-paired = c .before .before .before in
@@ -55,14 +31,14 @@ pub text-end-spec : {M : Type 1} → statement M
 text-end-spec =
     tie.close
     (tie.spec
-    part-requires
-    is-paired-requires
-    enum-told
-    first-end-requires
-    enum-told-2
-    first-end-requires-2
-    enum-told-3
-    closing-end-requires
+    (λ c κs. search needs)
+    (λ c κs. search needs)
+    (λ c. search needs)
+    (λ c κs. search needs)
+    (λ c. search needs)
+    (λ c κs. search needs)
+    (λ c. search needs)
+    (λ c κs. search needs)
     returns
     returns-2
     returns-3)

@@ -15,24 +15,6 @@ Inv-loop s i₀ i = (i ≤ length s) × (i + zeroPairAt (drop i s) ≡ zeroPairA
 abbrev μ-loop : tie.MeasureT-loop
 μ-loop s i₀ i = length s - i
 
-loop-holds : tie.Need-loop-holds Inv-loop μ-loop
-loop-holds c = omega arith
-
-add-loop : tie.Need-add-loop Inv-loop μ-loop
-add-loop c = omega arith
-
-shared-slice-read-zero-pair : tie.Need-shared-slice-read-zero-pair Inv-loop μ-loop
-shared-slice-read-zero-pair c = search needs
-
-add-zero-pair : tie.Need-add-zero-pair Inv-loop μ-loop
-add-zero-pair c = search needs
-
-shared-slice-read-zero-pair-2 : tie.Need-shared-slice-read-zero-pair-2 Inv-loop μ-loop
-shared-slice-read-zero-pair-2 c = search needs
-
-zero-pair-requires : tie.Need-zero-pair-requires Inv-loop μ-loop
-zero-pair-requires c κs = search needs
-
 returns : tie.Need-returns Inv-loop μ-loop
 returns c =
     let at-loop-test = c .before .before .before .before in
@@ -42,12 +24,6 @@ returns c =
     let L = at-loop .loop in
     let z = c .before .zero-pair in
     omega (arith, pair-here s (L .i) (at-loop-test .loop-test .taken) (z .result) (z .ensures) (c .if1 .taken))
-
-add-i : tie.Need-add-i Inv-loop μ-loop
-add-i c = search needs
-
-loop-less : tie.Need-loop-less Inv-loop μ-loop
-loop-less c = search needs
 
 loop-again : tie.Need-loop-again Inv-loop μ-loop
 loop-again c =
@@ -72,14 +48,14 @@ zero-pair-at-spec =
     (tie.spec
     Inv-loop
     μ-loop
-    loop-holds
-    add-loop
-    shared-slice-read-zero-pair
-    add-zero-pair
-    shared-slice-read-zero-pair-2
-    zero-pair-requires
+    (λ c. omega arith)
+    (λ c. omega arith)
+    (λ c. search needs)
+    (λ c. search needs)
+    (λ c. search needs)
+    (λ c κs. search needs)
     returns
-    add-i
-    loop-less
+    (λ c. search needs)
+    (λ c. search needs)
     loop-again
     returns-2)

@@ -11,21 +11,6 @@ use Rattle.frame.proofs.Bodies.{short-cut}
 use Rattle.frame.proofs.v2.with_body.Statement.{statement}
 use Rattle.frame.proofs.v2.with_body.Tie as tie
 
-read-few-requires : tie.Need-read-few-requires
-read-few-requires c κs = search needs
-
-cast-id : tie.Need-cast-id
-cast-id c = search needs
-
-read-few-requires-2 : tie.Need-read-few-requires-2
-read-few-requires-2 c κs = search needs
-
-sub-found : tie.Need-sub-found
-sub-found c = search needs
-
-found-requires : tie.Need-found-requires
-found-requires c κs = search needs
-
 returns : tie.Need-returns
 returns c depth shallow =
     let at-start = c .before .before .before .before in
@@ -39,4 +24,4 @@ returns c depth shallow =
 pub with-body-spec : {M : Type 1} → statement M
 with-body-spec =
     tie.close
-    (tie.spec read-few-requires cast-id read-few-requires-2 sub-found found-requires returns)
+    (tie.spec (λ c κs. search needs) (λ c. search needs) (λ c κs. search needs) (λ c. search needs) (λ c κs. search needs) returns)

@@ -12,30 +12,12 @@ use Rattle.frame.proofs.v3.with_body.Tie as tie
 is-length : (c : tie.After-length-bytes) → c .length-bytes .result ≡ lengthBytes Id3v23 (c .before .before .before .before .args .b .now)
 is-length c = c .length-bytes .ensures .0 ∙ ap (λ (t : Bool). pick t 4 0) (c .before .has .ensures)
 
-shared-slice-read-has : tie.Need-shared-slice-read-has
-shared-slice-read-has c = search needs
-
-has-requires : tie.Need-has-requires
-has-requires c κs = search needs
-
-length-bytes-requires : tie.Need-length-bytes-requires
-length-bytes-requires c κs = search needs
-
-add-start : tie.Need-add-start
-add-start c = search needs
-
 returns : tie.Need-returns
 returns c depth shallow =
     let at-read = c .before .before .before .before in
     let a = at-read .before in
     let n = c .before in
     no-length Id3v23 (a .args .b .now) (a .pre) depth shallow (n .length-bytes .result) (is-length n) (c .if1 .taken)
-
-read32-requires : tie.Need-read32-requires
-read32-requires c κs = search needs
-
-cast-whole : tie.Need-cast-whole
-cast-whole c = search needs
 
 returns-2 : tie.Need-returns-2
 returns-2 c depth shallow =
@@ -46,9 +28,6 @@ returns-2 c depth shallow =
     too-small Id3v23 (a .args .b .now) (a .pre) depth shallow (n .length-bytes .result) (is-length n) (c .before .before .if1 .left)
     (whole .result) (whole .ensures) refl (c .if2 .taken)
 
-sub-left : tie.Need-sub-left
-sub-left c = search needs
-
 returns-3 : tie.Need-returns-3
 returns-3 c depth shallow =
     let at-if1 = c .before .before .before in
@@ -58,12 +37,6 @@ returns-3 c depth shallow =
     let whole = c .before .before .read32 in
     not-whole Id3v23 (a .args .b .now) (a .pre) depth shallow (n .length-bytes .result) (is-length n) (at-if1 .if1 .left)
     (whole .result) (whole .ensures) _ refl refl (c .before .if2 .left) (c .if3 .taken)
-
-read32-requires-2 : tie.Need-read32-requires-2
-read32-requires-2 c κs = search needs
-
-found-requires : tie.Need-found-requires
-found-requires c κs = search needs
 
 returns-4 : tie.Need-returns-4
 returns-4 c depth shallow =
@@ -84,16 +57,16 @@ pub with-body-spec : {M : Type 1} → statement M
 with-body-spec =
     tie.close
     (tie.spec
-    shared-slice-read-has
-    has-requires
-    length-bytes-requires
-    add-start
+    (λ c. search needs)
+    (λ c κs. search needs)
+    (λ c κs. search needs)
+    (λ c. search needs)
     returns
-    read32-requires
-    cast-whole
+    (λ c κs. search needs)
+    (λ c. search needs)
     returns-2
-    sub-left
+    (λ c. search needs)
     returns-3
-    read32-requires-2
-    found-requires
+    (λ c κs. search needs)
+    (λ c κs. search needs)
     returns-4)

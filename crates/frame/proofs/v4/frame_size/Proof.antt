@@ -8,15 +8,6 @@ use Rattle.loads.proofs.Words.{bytes-back}
 use Rattle.frame.proofs.v4.frame_size.Statement.{statement}
 use Rattle.frame.proofs.v4.frame_size.Tie as tie
 
-read32-requires : tie.Need-read32-requires
-read32-requires c κs = search needs
-
-decode-u32-requires : tie.Need-decode-u32-requires
-decode-u32-requires c κs = search needs
-
-cast-result : tie.Need-cast-result
-cast-result c = search needs
-
 returns : tie.Need-returns
 returns c =
     let at-start = c .before .before .before in
@@ -26,4 +17,4 @@ returns c =
     ∙ ap fromSynchsafe (bytes-back 4 s (omega arith) (λ i. omega (arith, c .before .before .shared-slice-known .given i)))
 
 pub frame-size-spec : {M : Type 1} → statement M
-frame-size-spec = tie.close (tie.spec read32-requires decode-u32-requires cast-result returns)
+frame-size-spec = tie.close (tie.spec (λ c κs. search needs) (λ c κs. search needs) (λ c. search needs) returns)

@@ -13,45 +13,12 @@ use Rattle.frame.proofs.v4.with_body.Tie as tie
 is-length : (c : tie.After-length-bytes) → c .length-bytes .result ≡ lengthBytes Id3v24 (c .before .before .before .before .args .b .now)
 is-length c = c .length-bytes .ensures .0 ∙ ap (λ (t : Bool). pick t 4 0) (c .before .has .ensures)
 
-shared-slice-read-flags : tie.Need-shared-slice-read-flags
-shared-slice-read-flags c = search needs
-
-has-requires : tie.Need-has-requires
-has-requires c κs = search needs
-
-length-bytes-requires : tie.Need-length-bytes-requires
-length-bytes-requires c κs = search needs
-
-add-start : tie.Need-add-start
-add-start c = search needs
-
-frame-size-requires : tie.Need-frame-size-requires
-frame-size-requires c κs = search needs
-
-beyond-requires : tie.Need-beyond-requires
-beyond-requires c κs = search needs
-
 returns : tie.Need-returns
 returns c depth shallow =
     let at-length-bytes = c .before .before .before in
     let a = at-length-bytes .before .before .before .before in
     let n = c .before .before .before in
     no-length Id3v24 (a .args .b .now) (a .pre) depth shallow (n .length-bytes .result) (is-length n) (c .if1 .taken)
-
-sub-left : tie.Need-sub-left
-sub-left c = search needs
-
-has-requires-2 : tie.Need-has-requires-2
-has-requires-2 c κs = search needs
-
-has-requires-3 : tie.Need-has-requires-3
-has-requires-3 c κs = search needs
-
-read32-requires : tie.Need-read32-requires
-read32-requires c κs = search needs
-
-found-requires : tie.Need-found-requires
-found-requires c κs = search needs
 
 returns-2 : tie.Need-returns-2
 returns-2 c depth shallow =
@@ -76,16 +43,16 @@ pub with-body-spec : {M : Type 1} → statement M
 with-body-spec =
     tie.close
     (tie.spec
-    shared-slice-read-flags
-    has-requires
-    length-bytes-requires
-    add-start
-    frame-size-requires
-    beyond-requires
+    (λ c. search needs)
+    (λ c κs. search needs)
+    (λ c κs. search needs)
+    (λ c. search needs)
+    (λ c κs. search needs)
+    (λ c κs. search needs)
     returns
-    sub-left
-    has-requires-2
-    has-requires-3
-    read32-requires
-    found-requires
+    (λ c. search needs)
+    (λ c κs. search needs)
+    (λ c κs. search needs)
+    (λ c κs. search needs)
+    (λ c κs. search needs)
     returns-2)

@@ -23,18 +23,6 @@ loop-holds c =
     let here : a .i + 0 ≡ a .i = omega arith in
     (omega arith, ap (λ (j : ℕ). anyFF (slice j (a .i + a .n) (a .s .now))) here)
 
-add-any : tie.Need-add-any Inv-loop μ-loop
-add-any c = omega arith
-
-shared-slice-read-any : tie.Need-shared-slice-read-any Inv-loop μ-loop
-shared-slice-read-any c = omega arith
-
-add-k : tie.Need-add-k Inv-loop μ-loop
-add-k c = omega arith
-
-loop-less : tie.Need-loop-less Inv-loop μ-loop
-loop-less c = omega arith
-
 loop-again : tie.Need-loop-again Inv-loop μ-loop
 loop-again c =
     let a = c .before .before .before .args in
@@ -55,9 +43,9 @@ any-ff-spec =
     Inv-loop
     μ-loop
     loop-holds
-    add-any
-    shared-slice-read-any
-    add-k
-    loop-less
+    (λ c. omega arith)
+    (λ c. omega arith)
+    (λ c. omega arith)
+    (λ c. omega arith)
     loop-again
     returns)

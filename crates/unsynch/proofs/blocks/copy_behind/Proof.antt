@@ -10,33 +10,6 @@ use native.Mathlib.Omega.{arith}
 use Rattle.unsynch.proofs.blocks.copy_behind.Statement.{statement}
 use Rattle.unsynch.proofs.blocks.copy_behind.Tie as tie
 
-slice-aggregate-copy : tie.Need-slice-aggregate-copy
-slice-aggregate-copy c = search needs
-
-add-copy : tie.Need-add-copy
-add-copy c = search needs
-
-add-copy-2 : tie.Need-add-copy-2
-add-copy-2 c = search needs
-
-add-copy-3 : tie.Need-add-copy-3
-add-copy-3 c = search needs
-
-copy-requires : tie.Need-copy-requires
-copy-requires c κs = search needs
-
-slice-aggregate-copy-2 : tie.Need-slice-aggregate-copy-2
-slice-aggregate-copy-2 c = search needs
-
-copy-requires-2 : tie.Need-copy-requires-2
-copy-requires-2 c κs = search needs
-
-add-result : tie.Need-add-result
-add-result c = search needs
-
-same-length : tie.Need-same-length
-same-length c = search needs
-
 returns : tie.Need-returns
 returns c =
     let at-stored = c .before .before in
@@ -51,13 +24,13 @@ pub copy-behind-spec : {M : Type 1} → statement M
 copy-behind-spec =
     tie.close
     (tie.spec
-    slice-aggregate-copy
-    add-copy
-    add-copy-2
-    add-copy-3
-    copy-requires
-    slice-aggregate-copy-2
-    copy-requires-2
-    add-result
-    same-length
+    (λ c. search needs)
+    (λ c. search needs)
+    (λ c. search needs)
+    (λ c. search needs)
+    (λ c κs. search needs)
+    (λ c. search needs)
+    (λ c κs. search needs)
+    (λ c. search needs)
+    (λ c. search needs)
     returns)

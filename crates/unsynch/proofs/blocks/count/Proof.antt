@@ -27,35 +27,8 @@ loop-holds c =
     let here : a .i + 0 ≡ a .i = omega arith in
     (omega arith, omega arith, omega (arith, ap (λ (j : ℕ). hitsAfter (a .how) (a .s .now) j (a .i + 64 + 1)) here))
 
-add-hit : tie.Need-add-hit Inv-loop μ-loop
-add-hit c = omega arith
-
-shared-slice-read-hit : tie.Need-shared-slice-read-hit Inv-loop μ-loop
-shared-slice-read-hit c = omega arith
-
-add-hit-2 : tie.Need-add-hit-2 Inv-loop μ-loop
-add-hit-2 c = omega arith
-
-add-hit-3 : tie.Need-add-hit-3 Inv-loop μ-loop
-add-hit-3 c = omega arith
-
-shared-slice-read-hit-2 : tie.Need-shared-slice-read-hit-2 Inv-loop μ-loop
-shared-slice-read-hit-2 c = omega arith
-
-hit-requires : tie.Need-hit-requires Inv-loop μ-loop
-hit-requires c κs = search needs
-
-cast-n : tie.Need-cast-n Inv-loop μ-loop
-cast-n c = tt
-
 add-n : tie.Need-add-n Inv-loop μ-loop
 add-n c = omega (arith, number (c .hit .result))
-
-add-k : tie.Need-add-k Inv-loop μ-loop
-add-k c = omega arith
-
-loop-less : tie.Need-loop-less Inv-loop μ-loop
-loop-less c = omega arith
 
 loop-again : tie.Need-loop-again Inv-loop μ-loop
 loop-again c =
@@ -80,15 +53,15 @@ count-spec =
     Inv-loop
     μ-loop
     loop-holds
-    add-hit
-    shared-slice-read-hit
-    add-hit-2
-    add-hit-3
-    shared-slice-read-hit-2
-    hit-requires
-    cast-n
+    (λ c. omega arith)
+    (λ c. omega arith)
+    (λ c. omega arith)
+    (λ c. omega arith)
+    (λ c. omega arith)
+    (λ c κs. search needs)
+    (λ c. tt)
     add-n
-    add-k
-    loop-less
+    (λ c. omega arith)
+    (λ c. omega arith)
     loop-again
     returns)

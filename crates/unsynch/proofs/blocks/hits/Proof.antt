@@ -7,22 +7,10 @@ use borrow.Author.Needs.{needs}
 use Rattle.unsynch.proofs.blocks.hits.Statement.{statement}
 use Rattle.unsynch.proofs.blocks.hits.Tie as tie
 
-any-ff-requires : tie.Need-any-ff-requires
-any-ff-requires c κs = search needs
-
-count-requires : tie.Need-count-requires
-count-requires c κs = search needs
-
-cast-result : tie.Need-cast-result
-cast-result c = search needs
-
-returns : tie.Need-returns
-returns c = search needs
-
 returns-2 : tie.Need-returns-2
 returns-2 c =
     let a = c .before .before .before .args in
     sym (no-ff (a .how) (a .s .now) 64 (a .i) (a .i + 64) (omega arith) (omega arith) (sym (c .before .any-ff .ensures) ∙ c .if1 .left))
 
 pub hits-spec : {M : Type 1} → statement M
-hits-spec = tie.close (tie.spec any-ff-requires count-requires cast-result returns returns-2)
+hits-spec = tie.close (tie.spec (λ c κs. search needs) (λ c κs. search needs) (λ c. search needs) (λ c. search needs) returns-2)

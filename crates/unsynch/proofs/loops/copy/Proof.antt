@@ -13,34 +13,16 @@ Inv-loop buf₀ at s from to n k₀ buf k = (n ≡ to - from) × (k ≤ n) × St
 abbrev μ-loop : tie.MeasureT-loop
 μ-loop buf₀ at s from to n k₀ buf k = n - k
 
-sub-n : tie.Need-sub-n Inv-loop μ-loop
-sub-n c = omega arith
-
 loop-holds : tie.Need-loop-holds Inv-loop μ-loop
 loop-holds c =
     let a = c .args in
     (refl, omega arith, copy-begin (a .s .now) (a .from) (a .to) (a .at) (omega arith) (a .buf .now) (omega arith))
-
-add-buf : tie.Need-add-buf Inv-loop μ-loop
-add-buf c = omega arith
-
-shared-slice-read-buf : tie.Need-shared-slice-read-buf Inv-loop μ-loop
-shared-slice-read-buf c = omega arith
-
-add-buf-2 : tie.Need-add-buf-2 Inv-loop μ-loop
-add-buf-2 c = omega arith
 
 slice-write-buf : tie.Need-slice-write-buf Inv-loop μ-loop
 slice-write-buf c =
     let a = c .before .before .before .args in
     let L = c .before .before .loop in
     copy-turn (a .s .now) (a .from) (a .to) (a .at) (omega arith) (L .k) (omega arith) (L .inv .2) .0
-
-add-k : tie.Need-add-k Inv-loop μ-loop
-add-k c = omega arith
-
-loop-less : tie.Need-loop-less Inv-loop μ-loop
-loop-less c = omega arith
 
 loop-again : tie.Need-loop-again Inv-loop μ-loop
 loop-again c =
@@ -62,14 +44,14 @@ copy-spec =
     (tie.spec
     Inv-loop
     μ-loop
-    sub-n
+    (λ c. omega arith)
     loop-holds
-    add-buf
-    shared-slice-read-buf
-    add-buf-2
+    (λ c. omega arith)
+    (λ c. omega arith)
+    (λ c. omega arith)
     slice-write-buf
-    add-k
-    loop-less
+    (λ c. omega arith)
+    (λ c. omega arith)
     loop-again
     same-length
     returns)

@@ -37,43 +37,16 @@ turn c f q e is =
     (λ z. next-stays (a .s .now) (L .i) (a .to) (omega arith) (omega arith) (sym e ∙ z))
     is
 
-sub-last : tie.Need-sub-last Inv-loop μ-loop
-sub-last c = search needs
-
 loop-holds : tie.Need-loop-holds Inv-loop μ-loop
 loop-holds c = (omega arith, omega arith, begin _ _ _ (omega arith))
 
-add-loop : tie.Need-add-loop Inv-loop μ-loop
-add-loop c = omega arith
-
-add-b : tie.Need-add-b Inv-loop μ-loop
-add-b c = omega arith
-
-shared-slice-read-b : tie.Need-shared-slice-read-b Inv-loop μ-loop
-shared-slice-read-b c = omega arith
-
 slice-write-buf : tie.Need-slice-write-buf Inv-loop μ-loop
 slice-write-buf c = turn c _ _ refl refl .0
-
-shared-slice-read-stays : tie.Need-shared-slice-read-stays Inv-loop μ-loop
-shared-slice-read-stays c = omega arith
-
-stays-requires : tie.Need-stays-requires Inv-loop μ-loop
-stays-requires c κs = search needs
-
-bit-requires : tie.Need-bit-requires Inv-loop μ-loop
-bit-requires c κs = search needs
 
 add-o : tie.Need-add-o Inv-loop μ-loop
 add-o c =
     let at-byte = c .before .before .before in
     omega (arith, turn at-byte _ _ refl refl .0, c .bit .ensures .1, at-byte .before .before .loop .inv .2 .long)
-
-add-i : tie.Need-add-i Inv-loop μ-loop
-add-i c = omega arith
-
-loop-less : tie.Need-loop-less Inv-loop μ-loop
-loop-less c = omega arith
 
 loop-again : tie.Need-loop-again Inv-loop μ-loop
 loop-again c =
@@ -100,18 +73,18 @@ drop-bytes-spec =
     (tie.spec
     Inv-loop
     μ-loop
-    sub-last
+    (λ c. search needs)
     loop-holds
-    add-loop
-    add-b
-    shared-slice-read-b
+    (λ c. omega arith)
+    (λ c. omega arith)
+    (λ c. omega arith)
     slice-write-buf
-    shared-slice-read-stays
-    stays-requires
-    bit-requires
+    (λ c. omega arith)
+    (λ c κs. search needs)
+    (λ c κs. search needs)
     add-o
-    add-i
-    loop-less
+    (λ c. omega arith)
+    (λ c. omega arith)
     loop-again
     drop-last-requires
     same-length

@@ -26,29 +26,8 @@ byte-left c =
     let a = start c .args in
     same-list (stays (a .s .now) (a .from) (a .to) (omega arith) (omega arith) true (sym (c .if2 .taken) ∙ c .before .stays .ensures)) (begin _ _ _ (omega arith))
 
-add-if1 : tie.Need-add-if1
-add-if1 c = search needs
-
-add-b : tie.Need-add-b
-add-b c = search needs
-
-shared-slice-read-b : tie.Need-shared-slice-read-b
-shared-slice-read-b c = search needs
-
-shared-slice-read-stays : tie.Need-shared-slice-read-stays
-shared-slice-read-stays c = search needs
-
-stays-requires : tie.Need-stays-requires
-stays-requires c κs = search needs
-
 slice-write-buf : tie.Need-slice-write-buf
 slice-write-buf c = omega (arith, lies (byte-left c))
-
-add-result : tie.Need-add-result
-add-result c = search needs
-
-same-length : tie.Need-same-length
-same-length c = search needs
 
 returns : tie.Need-returns
 returns c =
@@ -71,14 +50,14 @@ pub drop-last-spec : {M : Type 1} → statement M
 drop-last-spec =
     tie.close
     (tie.spec
-    add-if1
-    add-b
-    shared-slice-read-b
-    shared-slice-read-stays
-    stays-requires
+    (λ c. search needs)
+    (λ c. search needs)
+    (λ c. search needs)
+    (λ c. search needs)
+    (λ c κs. search needs)
     slice-write-buf
-    add-result
-    same-length
+    (λ c. search needs)
+    (λ c. search needs)
     returns
     returns-2
     returns-3)

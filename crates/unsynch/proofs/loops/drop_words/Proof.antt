@@ -29,18 +29,6 @@ alone c e =
 loop-holds : tie.Need-loop-holds Inv-loop μ-loop
 loop-holds c = (omega arith, omega arith, begin _ _ _ (omega arith))
 
-add-loop : tie.Need-add-loop Inv-loop μ-loop
-add-loop c = omega arith
-
-add-last : tie.Need-add-last Inv-loop μ-loop
-add-last c = omega arith
-
-any-ff-requires : tie.Need-any-ff-requires Inv-loop μ-loop
-any-ff-requires c κs = omega arith
-
-add-drop-bytes : tie.Need-add-drop-bytes Inv-loop μ-loop
-add-drop-bytes c = omega arith
-
 drop-bytes-requires : tie.Need-drop-bytes-requires Inv-loop μ-loop
 drop-bytes-requires c κs =
     let at-loop = c .before .before .before .before in
@@ -55,9 +43,6 @@ copy-behind-requires c κs =
     let L = at-loop .loop in
     (omega arith, omega arith, block resyncBy (a .s .now) (L .i) 8 (a .to) (omega arith) (omega arith) (alone (c .before .before) (c .before .if1 .left)) (L .inv .2) .0)
 
-loop-less : tie.Need-loop-less Inv-loop μ-loop
-loop-less c = omega arith
-
 loop-again : tie.Need-loop-again Inv-loop μ-loop
 loop-again c =
     let at-store = c .before .before in
@@ -68,9 +53,6 @@ loop-again c =
     let L = at-loop .loop in
     let t = piece resyncBy (a .s .now) (L .i) (L .i + 8) (a .to) (omega arith) (omega arith) (omega arith) (L .inv .2) .1 (stores .result) (stores .last .0) (stores .ensures) in
     (omega arith, omega arith, t .1)
-
-loop-less-2 : tie.Need-loop-less-2 Inv-loop μ-loop
-loop-less-2 c = omega arith
 
 loop-again-2 : tie.Need-loop-again-2 Inv-loop μ-loop
 loop-again-2 c =
@@ -103,15 +85,15 @@ drop-words-spec =
     Inv-loop
     μ-loop
     loop-holds
-    add-loop
-    add-last
-    any-ff-requires
-    add-drop-bytes
+    (λ c. omega arith)
+    (λ c. omega arith)
+    (λ c κs. omega arith)
+    (λ c. omega arith)
     drop-bytes-requires
     copy-behind-requires
-    loop-less
+    (λ c. omega arith)
     loop-again
-    loop-less-2
+    (λ c. omega arith)
     loop-again-2
     drop-bytes-requires-2
     same-length

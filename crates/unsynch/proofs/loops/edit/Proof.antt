@@ -29,29 +29,14 @@ first-put c =
     let a = at-start .args in
     let f = c .before .hit in
     insert-turn (begin _ _ _ (at-start .pre .1 .0)) (getD (a .s .now) (a .from) 0) (editedAfter (a .how) (a .s .now) (a .from) (a .to)) (f .result) (a .at + c .bit .result)
-    (edited-first (a .how) (a .s .now) (a .prev) (a .from) (a .to) (omega arith) (omega arith) (f .result) (f .ensures) (at-start .pre .1 .1 .1))
+    (edited-first (a .how) (a .s .now) (a .from) (a .to) (omega arith) (omega arith) (a .prev) (f .result) (f .ensures) (at-start .pre .1 .1 .1))
     (ap (λ (k : ℕ). a .at + k) (c .bit .ensures .0))
-
-shared-slice-read-b : tie.Need-shared-slice-read-b
-shared-slice-read-b c = search needs
-
-hit-requires : tie.Need-hit-requires
-hit-requires c κs = search needs
-
-bit-requires : tie.Need-bit-requires
-bit-requires c κs = search needs
-
-add-first : tie.Need-add-first
-add-first c = search needs
 
 slice-write-buf : tie.Need-slice-write-buf
 slice-write-buf c = omega (arith, first-put c .0, first-put c .1)
 
 slice-write-buf-2 : tie.Need-slice-write-buf-2
 slice-write-buf-2 c = simp length-set (first-put c .1)
-
-add-behind : tie.Need-add-behind
-add-behind c = search needs
 
 edit-after-requires : tie.Need-edit-after-requires
 edit-after-requires c κs =
@@ -87,13 +72,13 @@ pub edit-spec : {M : Type 1} → statement M
 edit-spec =
     tie.close
     (tie.spec
-    shared-slice-read-b
-    hit-requires
-    bit-requires
-    add-first
+    (λ c. search needs)
+    (λ c κs. search needs)
+    (λ c κs. search needs)
+    (λ c. search needs)
     slice-write-buf
     slice-write-buf-2
-    add-behind
+    (λ c. search needs)
     edit-after-requires
     same-length
     returns

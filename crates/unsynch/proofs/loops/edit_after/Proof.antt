@@ -19,12 +19,6 @@ abbrev μ-loop : tie.MeasureT-loop
 loop-holds : tie.Need-loop-holds Inv-loop μ-loop
 loop-holds c = (omega arith, omega arith, omega arith, omega arith, begin _ _ _ (omega arith))
 
-add-loop : tie.Need-add-loop Inv-loop μ-loop
-add-loop c = omega arith
-
-hits-requires : tie.Need-hits-requires Inv-loop μ-loop
-hits-requires c κs = omega arith
-
 copy-behind-requires : tie.Need-copy-behind-requires Inv-loop μ-loop
 copy-behind-requires c κs =
     let at-loop = c .before .before .before .before in
@@ -32,12 +26,6 @@ copy-behind-requires c κs =
     let L = at-loop .loop in
     let alone = sym (c .before .before .hits .ensures) ∙ c .before .if1 .taken in
     (omega arith, omega arith, block (a .how) (a .s .now) (L .i) 64 (a .to) (omega arith) (omega arith) alone (L .inv .4) .0)
-
-add-i : tie.Need-add-i Inv-loop μ-loop
-add-i c = omega arith
-
-loop-less : tie.Need-loop-less Inv-loop μ-loop
-loop-less c = omega arith
 
 loop-again : tie.Need-loop-again Inv-loop μ-loop
 loop-again c =
@@ -51,21 +39,6 @@ loop-again c =
     let t = block (a .how) (a .s .now) (L .i) 64 (a .to) (omega arith) (omega arith) alone (L .inv .4) .1 (stores .result) (stores .last .0) (stores .ensures) in
     (omega arith, omega arith, omega arith, omega arith, t)
 
-sub-least : tie.Need-sub-least Inv-loop μ-loop
-sub-least c = omega arith
-
-sub-least-2 : tie.Need-sub-least-2 Inv-loop μ-loop
-sub-least-2 c = omega arith
-
-least-requires : tie.Need-least-requires Inv-loop μ-loop
-least-requires c κs = search needs
-
-add-last : tie.Need-add-last Inv-loop μ-loop
-add-last c = omega arith
-
-add-edit-by-byte : tie.Need-add-edit-by-byte Inv-loop μ-loop
-add-edit-by-byte c = omega arith
-
 edit-by-byte-requires : tie.Need-edit-by-byte-requires Inv-loop μ-loop
 edit-by-byte-requires c κs =
     let at-least = c .before in
@@ -75,15 +48,6 @@ edit-by-byte-requires c κs =
     let L = at-loop .loop in
     let last = L .i + at-least .least .result in
     (omega arith, (piece (a .how) (a .s .now) (L .i) last (a .to) (omega arith) (omega arith) (omega arith) (L .inv .4) .0, at-start .pre .1 .1))
-
-add-least : tie.Need-add-least Inv-loop μ-loop
-add-least c = omega arith
-
-least-requires-2 : tie.Need-least-requires-2 Inv-loop μ-loop
-least-requires-2 c κs = search needs
-
-loop-less-2 : tie.Need-loop-less-2 Inv-loop μ-loop
-loop-less-2 c = omega arith
 
 loop-again-2 : tie.Need-loop-again-2 Inv-loop μ-loop
 loop-again-2 c =
@@ -119,21 +83,21 @@ edit-after-spec =
     Inv-loop
     μ-loop
     loop-holds
-    add-loop
-    hits-requires
+    (λ c. omega arith)
+    (λ c κs. omega arith)
     copy-behind-requires
-    add-i
-    loop-less
+    (λ c. omega arith)
+    (λ c. omega arith)
     loop-again
-    sub-least
-    sub-least-2
-    least-requires
-    add-last
-    add-edit-by-byte
+    (λ c. omega arith)
+    (λ c. omega arith)
+    (λ c κs. search needs)
+    (λ c. omega arith)
+    (λ c. omega arith)
     edit-by-byte-requires
-    add-least
-    least-requires-2
-    loop-less-2
+    (λ c. omega arith)
+    (λ c κs. search needs)
+    (λ c. omega arith)
     loop-again-2
     edit-by-byte-requires-2
     same-length

@@ -11,18 +11,6 @@ use native.Mathlib.Omega.{arith}
 use Rattle.unsynch.proofs.loops.edit_by_byte.Statement.{statement}
 use Rattle.unsynch.proofs.loops.edit_by_byte.Tie as tie
 
-insert-bytes-requires : tie.Need-insert-bytes-requires
-insert-bytes-requires c κs = search needs
-
-same-length : tie.Need-same-length
-same-length c = search needs
-
-returns : tie.Need-returns
-returns c = search needs
-
-add-copy : tie.Need-add-copy
-add-copy c = search needs
-
 copy-requires : tie.Need-copy-requires
 copy-requires c κs =
     let at-test = c .before in
@@ -31,18 +19,6 @@ copy-requires c κs =
     let off = at-test .if2 .left in
     let e = unchanged (a .how) off (at-start .pre .1 .1 .inserts off) (a .s .now) (a .from) (a .to) in
     omega (arith, ap length e, length-slice (a .from + 1) (a .to) (a .s .now) (omega arith))
-
-sub-result : tie.Need-sub-result
-sub-result c = search needs
-
-sub-result-2 : tie.Need-sub-result-2
-sub-result-2 c = search needs
-
-add-result : tie.Need-add-result
-add-result c = search needs
-
-same-length-2 : tie.Need-same-length-2
-same-length-2 c = search needs
 
 returns-2 : tie.Need-returns-2
 returns-2 c =
@@ -61,9 +37,6 @@ drop-words-requires c κs =
     let a = at-start .args in
     omega (arith, ap (λ (how : How). length (editedAfter how (a .s .now) (a .from) (a .to))) (at-start .pre .1 .1 .drops (c .before .if1 .left)))
 
-same-length-3 : tie.Need-same-length-3
-same-length-3 c = search needs
-
 returns-3 : tie.Need-returns-3
 returns-3 c =
     let at-test = c .before .before .before .before in
@@ -76,16 +49,16 @@ pub edit-by-byte-spec : {M : Type 1} → statement M
 edit-by-byte-spec =
     tie.close
     (tie.spec
-    insert-bytes-requires
-    same-length
-    returns
-    add-copy
+    (λ c κs. search needs)
+    (λ c. search needs)
+    (λ c. search needs)
+    (λ c. search needs)
     copy-requires
-    sub-result
-    sub-result-2
-    add-result
-    same-length-2
+    (λ c. search needs)
+    (λ c. search needs)
+    (λ c. search needs)
+    (λ c. search needs)
     returns-2
     drop-words-requires
-    same-length-3
+    (λ c. search needs)
     returns-3)

@@ -10,18 +10,6 @@ use native.Mathlib.Omega.{arith}
 use Rattle.unsynch.proofs.loops.edit_chunk.Statement.{statement}
 use Rattle.unsynch.proofs.loops.edit_chunk.Tie as tie
 
-slice-aggregate-copy : tie.Need-slice-aggregate-copy
-slice-aggregate-copy c = search needs
-
-copy-requires : tie.Need-copy-requires
-copy-requires c κs = search needs
-
-slice-aggregate-edit-after : tie.Need-slice-aggregate-edit-after
-slice-aggregate-edit-after c = search needs
-
-sub-edit-after : tie.Need-sub-edit-after
-sub-edit-after c = search needs
-
 edit-after-requires : tie.Need-edit-after-requires
 edit-after-requires c κs =
     let at-copy = c .before .before .before in
@@ -29,9 +17,6 @@ edit-after-requires c κs =
     let a = at-start .args in
     let e = in-copy (a .how) (a .area .now) (replicate 1025 0) (at-copy .copy .last .0) (a .from) (a .to) (omega arith) (omega arith) (omega arith) (at-copy .copy .ensures) in
     (omega arith, (omega (arith, ap length (e .1)), at-start .pre .1 .1))
-
-same-length : tie.Need-same-length
-same-length c = search needs
 
 returns : tie.Need-returns
 returns c =
@@ -45,10 +30,10 @@ pub edit-chunk-spec : {M : Type 1} → statement M
 edit-chunk-spec =
     tie.close
     (tie.spec
-    slice-aggregate-copy
-    copy-requires
-    slice-aggregate-edit-after
-    sub-edit-after
+    (λ c. search needs)
+    (λ c κs. search needs)
+    (λ c. search needs)
+    (λ c. search needs)
     edit-after-requires
-    same-length
+    (λ c. search needs)
     returns)

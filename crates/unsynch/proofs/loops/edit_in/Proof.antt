@@ -13,17 +13,11 @@ use native.Mathlib.Omega.{arith}
 use Rattle.unsynch.proofs.loops.edit_in.Statement.{statement}
 use Rattle.unsynch.proofs.loops.edit_in.Tie as tie
 
-slice-read-area : tie.Need-slice-read-area
-slice-read-area c = search needs
-
 slice-write-area : tie.Need-slice-write-area
 slice-write-area c =
     let at-start = c .before .before in
     let a = at-start .args in
     first-stored (a .how) (a .area .now) (a .from) (a .to) (a .at) (a .area .now) (omega arith) (omega arith) (at-start .pre .1 .0) .0
-
-add-edit-in-after : tie.Need-add-edit-in-after
-add-edit-in-after c = search needs
 
 edit-in-after-requires : tie.Need-edit-in-after-requires
 edit-in-after-requires c κs =
@@ -53,9 +47,9 @@ pub edit-in-spec : {M : Type 1} → statement M
 edit-in-spec =
     tie.close
     (tie.spec
-    slice-read-area
+    (λ c. search needs)
     slice-write-area
-    add-edit-in-after
+    (λ c. search needs)
     edit-in-after-requires
     same-length
     returns)

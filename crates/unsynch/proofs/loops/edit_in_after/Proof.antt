@@ -22,24 +22,6 @@ abbrev μ-loop : tie.MeasureT-loop
 loop-holds : tie.Need-loop-holds Inv-loop μ-loop
 loop-holds c = (omega arith, omega arith, omega arith, refl, begin _ _ _ (omega arith))
 
-add-loop : tie.Need-add-loop Inv-loop μ-loop
-add-loop c = omega arith
-
-sub-least : tie.Need-sub-least Inv-loop μ-loop
-sub-least c = omega arith
-
-sub-least-2 : tie.Need-sub-least-2 Inv-loop μ-loop
-sub-least-2 c = omega arith
-
-least-requires : tie.Need-least-requires Inv-loop μ-loop
-least-requires c κs = search needs
-
-add-last : tie.Need-add-last Inv-loop μ-loop
-add-last c = omega arith
-
-add-edit-chunk : tie.Need-add-edit-chunk Inv-loop μ-loop
-add-edit-chunk c = omega arith
-
 edit-chunk-requires : tie.Need-edit-chunk-requires Inv-loop μ-loop
 edit-chunk-requires c κs =
     let at-loop = c .before .before .before in
@@ -47,9 +29,6 @@ edit-chunk-requires c κs =
     let a = at-start .args in
     let L = at-loop .loop in
     (omega (arith, L .inv .4 .long), (piece-in (a .how) (a .area .now) (L .i) (L .i + c .before .least .result) (a .to) (omega arith) (omega arith) (omega arith) (a .at) (omega arith) (omega arith) (L .inv .2) (L .inv .4 .long) (L .inv .3) (L .inv .4) .0, at-start .pre .1 .1))
-
-loop-less : tie.Need-loop-less Inv-loop μ-loop
-loop-less c = omega arith
 
 loop-again : tie.Need-loop-again Inv-loop μ-loop
 loop-again c =
@@ -76,14 +55,14 @@ edit-in-after-spec =
     Inv-loop
     μ-loop
     loop-holds
-    add-loop
-    sub-least
-    sub-least-2
-    least-requires
-    add-last
-    add-edit-chunk
+    (λ c. omega arith)
+    (λ c. omega arith)
+    (λ c. omega arith)
+    (λ c κs. search needs)
+    (λ c. omega arith)
+    (λ c. omega arith)
     edit-chunk-requires
-    loop-less
+    (λ c. omega arith)
     loop-again
     same-length
     returns)

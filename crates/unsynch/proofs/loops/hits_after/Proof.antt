@@ -1,10 +1,8 @@
 -- `unsynch::loops::hits_after` meets its contract. Assumes nothing.
-use mathlib.Core.Path.{_≡_, sym}
+use mathlib.Core.Path.{_≡_}
 use Prim.Native.Nat.{_+_, _-_, _≤_, _<_}
 use Rattle.unsynch.specs.Edits.{hitsAfter}
-use Rattle.unsynch.proofs.Edits.{few-after, hits-parted, none-after}
-use Rattle.laws.proofs.Bools.{or-false}
-use borrow.Author.Tests.{not-true}
+use Rattle.unsynch.proofs.Edits.{few-after, hits-parted}
 use native.Mathlib.Omega.{arith}
 use Rattle.unsynch.proofs.loops.hits_after.Statement.{statement}
 use Rattle.unsynch.proofs.loops.hits_after.Tie as tie
@@ -14,12 +12,6 @@ Inv-loop s from to how n₀ i₀ n i = (from ≤ i) × (i < to) × (n ≤ i - fr
 
 abbrev μ-loop : tie.MeasureT-loop
 μ-loop s from to how n₀ i₀ n i = to - i
-
-returns : tie.Need-returns Inv-loop μ-loop
-returns c =
-    let a = c .before .before .before .args in
-    let none = or-false (a .how .zero) (a .how .high) (not-true _ (c .if1 .taken)) in
-    sym (none-after (a .how) (none .0) (none .1) (a .s .now) (a .from) (a .to))
 
 loop-holds : tie.Need-loop-holds Inv-loop μ-loop
 loop-holds c = omega arith
@@ -33,7 +25,7 @@ hits-requires c κs = omega arith
 add-n : tie.Need-add-n Inv-loop μ-loop
 add-n c =
     let at-loop = c .before .before in
-    let a = at-loop .before .before .before .before .args in
+    let a = at-loop .before .before .args in
     let L = at-loop .loop in
     omega (arith, few-after (a .how) (a .s .now) (L .i) (L .i + 64 + 1) (omega arith) (omega arith))
 
@@ -46,7 +38,7 @@ loop-less c = omega arith
 loop-again : tie.Need-loop-again Inv-loop μ-loop
 loop-again c =
     let at-loop = c .before .before in
-    let a = at-loop .before .before .before .before .args in
+    let a = at-loop .before .before .args in
     let L = at-loop .loop in
     let few = few-after (a .how) (a .s .now) (L .i) (L .i + 64 + 1) (omega arith) (omega arith) in
     let both = hits-parted (a .how) (a .s .now) 64 (L .i) (L .i + 64) (a .to) (omega arith) (omega arith) (omega arith) in
@@ -58,12 +50,12 @@ hits-by-byte-requires c κs = omega arith
 add-result : tie.Need-add-result Inv-loop μ-loop
 add-result c =
     let at-loop = c .before .before in
-    let a = at-loop .before .before .before .before .args in
+    let a = at-loop .before .before .args in
     let L = at-loop .loop in
     omega (arith, few-after (a .how) (a .s .now) (L .i) (a .to) (omega arith) (omega arith))
 
-returns-2 : tie.Need-returns-2 Inv-loop μ-loop
-returns-2 c = omega arith
+returns : tie.Need-returns Inv-loop μ-loop
+returns c = omega arith
 
 pub hits-after-spec : {M : Type 1} → statement M
 hits-after-spec =
@@ -71,7 +63,6 @@ hits-after-spec =
     (tie.spec
     Inv-loop
     μ-loop
-    returns
     loop-holds
     add-loop
     hits-requires
@@ -81,4 +72,4 @@ hits-after-spec =
     loop-again
     hits-by-byte-requires
     add-result
-    returns-2)
+    returns)

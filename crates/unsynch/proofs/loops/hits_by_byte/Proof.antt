@@ -14,36 +14,6 @@ Inv-loop s from to how n₀ k₀ n k = (from ≤ k) × (k < to) × (n ≤ k - fr
 abbrev μ-loop : tie.MeasureT-loop
 μ-loop s from to how n₀ k₀ n k = to - k
 
-loop-holds : tie.Need-loop-holds Inv-loop μ-loop
-loop-holds c = omega arith
-
-add-loop : tie.Need-add-loop Inv-loop μ-loop
-add-loop c = omega arith
-
-shared-slice-read-hit : tie.Need-shared-slice-read-hit Inv-loop μ-loop
-shared-slice-read-hit c = omega arith
-
-add-hit : tie.Need-add-hit Inv-loop μ-loop
-add-hit c = omega arith
-
-shared-slice-read-hit-2 : tie.Need-shared-slice-read-hit-2 Inv-loop μ-loop
-shared-slice-read-hit-2 c = omega arith
-
-hit-requires : tie.Need-hit-requires Inv-loop μ-loop
-hit-requires c κs = search needs
-
-bit-requires : tie.Need-bit-requires Inv-loop μ-loop
-bit-requires c κs = search needs
-
-add-n : tie.Need-add-n Inv-loop μ-loop
-add-n c = omega arith
-
-add-k : tie.Need-add-k Inv-loop μ-loop
-add-k c = omega arith
-
-loop-less : tie.Need-loop-less Inv-loop μ-loop
-loop-less c = omega arith
-
 loop-again : tie.Need-loop-again Inv-loop μ-loop
 loop-again c =
     let at-hit = c .before in
@@ -64,15 +34,15 @@ hits-by-byte-spec =
     (tie.spec
     Inv-loop
     μ-loop
-    loop-holds
-    add-loop
-    shared-slice-read-hit
-    add-hit
-    shared-slice-read-hit-2
-    hit-requires
-    bit-requires
-    add-n
-    add-k
-    loop-less
+    (λ c. omega arith)
+    (λ c. omega arith)
+    (λ c. omega arith)
+    (λ c. omega arith)
+    (λ c. omega arith)
+    (λ c κs. search needs)
+    (λ c κs. search needs)
+    (λ c. omega arith)
+    (λ c. omega arith)
+    (λ c. omega arith)
     loop-again
     returns)

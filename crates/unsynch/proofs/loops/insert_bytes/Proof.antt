@@ -54,31 +54,10 @@ turn c =
     (comes (guardBy (top .result)) (a .s .now) (L .i) (a .to) (omega arith) (omega arith) (f .result) e refl)
     (ap (λ (k : ℕ). L .o + k) (c .bit .ensures .0))
 
-either-requires : tie.Need-either-requires Inv-loop μ-loop
-either-requires c κs = search needs
-
 loop-holds : tie.Need-loop-holds Inv-loop μ-loop
 loop-holds c =
     let a = c .before .before .before .args in
     (omega arith, omega arith, begin _ _ _ (omega (arith, ap (λ (how : How). length (editedAfter how (a .s .now) (a .from) (a .to))) (same c))))
-
-add-loop : tie.Need-add-loop Inv-loop μ-loop
-add-loop c = omega arith
-
-add-b : tie.Need-add-b Inv-loop μ-loop
-add-b c = omega arith
-
-shared-slice-read-b : tie.Need-shared-slice-read-b Inv-loop μ-loop
-shared-slice-read-b c = omega arith
-
-shared-slice-read-guarded : tie.Need-shared-slice-read-guarded Inv-loop μ-loop
-shared-slice-read-guarded c = omega arith
-
-guarded-requires : tie.Need-guarded-requires Inv-loop μ-loop
-guarded-requires c κs = search needs
-
-bit-requires : tie.Need-bit-requires Inv-loop μ-loop
-bit-requires c κs = search needs
 
 add-p : tie.Need-add-p Inv-loop μ-loop
 add-p c =
@@ -95,12 +74,6 @@ add-o : tie.Need-add-o Inv-loop μ-loop
 add-o c =
     let at-byte = c .before .before .before in
     omega (arith, turn c .1, at-byte .before .before .loop .inv .2 .long)
-
-add-i : tie.Need-add-i Inv-loop μ-loop
-add-i c = omega arith
-
-loop-less : tie.Need-loop-less Inv-loop μ-loop
-loop-less c = omega arith
 
 loop-again : tie.Need-loop-again Inv-loop μ-loop
 loop-again c = (omega arith, omega arith, turn c .2)
@@ -122,20 +95,20 @@ insert-bytes-spec =
     (tie.spec
     Inv-loop
     μ-loop
-    either-requires
+    (λ c κs. search needs)
     loop-holds
-    add-loop
-    add-b
-    shared-slice-read-b
-    shared-slice-read-guarded
-    guarded-requires
-    bit-requires
+    (λ c. omega arith)
+    (λ c. omega arith)
+    (λ c. omega arith)
+    (λ c. omega arith)
+    (λ c κs. search needs)
+    (λ c κs. search needs)
     add-p
     slice-write-buf
     slice-write-buf-2
     add-o
-    add-i
-    loop-less
+    (λ c. omega arith)
+    (λ c. omega arith)
     loop-again
     same-length
     returns)

@@ -12,65 +12,20 @@ use Rattle.walk.proofs.inside.look.Statement.{statement}
 use Rattle.walk.proofs.inside.look.Tie as tie
 
 -- src/inside.rt:67:23
-enum-told : tie.Need-enum-told
-enum-told c = search needs
-
 -- src/inside.rt:67:23
-text-requires : tie.Need-text-requires
-text-requires c κs = search needs
-
 -- src/inside.rt:68:44
-enum-told-2 : tie.Need-enum-told-2
-enum-told-2 c = search needs
-
 -- src/inside.rt:68:44
-parse-requires : tie.Need-parse-requires
-parse-requires c κs = search needs
-
 -- src/inside.rt:68:32
-after-requires : tie.Need-after-requires
-after-requires c κs = search needs
-
 -- src/inside.rt:69:36
-enum-told-3 : tie.Need-enum-told-3
-enum-told-3 c = search needs
-
 -- src/inside.rt:69:36
-parse-requires-2 : tie.Need-parse-requires-2
-parse-requires-2 c κs = search needs
-
 -- src/inside.rt:69:24
-after-requires-2 : tie.Need-after-requires-2
-after-requires-2 c κs = search needs
-
 -- src/inside.rt:70:38
-enum-told-4 : tie.Need-enum-told-4
-enum-told-4 c = search needs
-
 -- src/inside.rt:70:38
-parse-chapter-requires : tie.Need-parse-chapter-requires
-parse-chapter-requires c κs = search needs
-
 -- src/inside.rt:70:26
-after-requires-3 : tie.Need-after-requires-3
-after-requires-3 c κs = search needs
-
 -- src/inside.rt:71:39
-enum-told-5 : tie.Need-enum-told-5
-enum-told-5 c = search needs
-
 -- src/inside.rt:71:39
-parse-contents-requires : tie.Need-parse-contents-requires
-parse-contents-requires c κs = search needs
-
 -- src/inside.rt:71:27
-after-requires-4 : tie.Need-after-requires-4
-after-requires-4 c κs = search needs
-
 -- src/inside.rt:72:22
-enum-told-6 : tie.Need-enum-told-6
-enum-told-6 c = search needs
-
 -- src/inside.rt:62:1
 returns : tie.Need-returns
 returns c = rw (c .before .enum-told .given .1) (c .text .ensures)
@@ -133,21 +88,21 @@ pub look-spec : {M : Type 1} → statement M
 look-spec =
     tie.close
     (tie.spec
-    enum-told
-    text-requires
-    enum-told-2
-    parse-requires
-    after-requires
-    enum-told-3
-    parse-requires-2
-    after-requires-2
-    enum-told-4
-    parse-chapter-requires
-    after-requires-3
-    enum-told-5
-    parse-contents-requires
-    after-requires-4
-    enum-told-6
+    (λ c. search needs)
+    (λ c κs. search needs)
+    (λ c. search needs)
+    (λ c κs. search needs)
+    (λ c κs. search needs)
+    (λ c. search needs)
+    (λ c κs. search needs)
+    (λ c κs. search needs)
+    (λ c. search needs)
+    (λ c κs. search needs)
+    (λ c κs. search needs)
+    (λ c. search needs)
+    (λ c κs. search needs)
+    (λ c κs. search needs)
+    (λ c. search needs)
     returns
     returns-2
     returns-3

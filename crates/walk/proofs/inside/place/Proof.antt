@@ -5,29 +5,11 @@ use Rattle.walk.proofs.inside.place.Statement.{statement}
 use Rattle.walk.proofs.inside.place.Tie as tie
 
 -- src/inside.rt:28:26
-enum-told : tie.Need-enum-told
-enum-told c = search needs
-
 -- src/inside.rt:29:27
-enum-told-2 : tie.Need-enum-told-2
-enum-told-2 c = search needs
-
 -- src/inside.rt:30:23
-enum-told-3 : tie.Need-enum-told-3
-enum-told-3 c = search needs
-
 -- src/inside.rt:31:32
-enum-told-4 : tie.Need-enum-told-4
-enum-told-4 c = search needs
-
 -- src/inside.rt:32:24
-enum-told-5 : tie.Need-enum-told-5
-enum-told-5 c = search needs
-
 -- src/inside.rt:33:22
-enum-told-6 : tie.Need-enum-told-6
-enum-told-6 c = search needs
-
 -- src/inside.rt:23:1
 returns : tie.Need-returns
 unfolding placeOf
@@ -62,12 +44,12 @@ pub place-spec : {M : Type 1} → statement M
 place-spec =
     tie.close
     (tie.spec
-    enum-told
-    enum-told-2
-    enum-told-3
-    enum-told-4
-    enum-told-5
-    enum-told-6
+    (λ c. search needs)
+    (λ c. search needs)
+    (λ c. search needs)
+    (λ c. search needs)
+    (λ c. search needs)
+    (λ c. search needs)
     returns
     returns-2
     returns-3

@@ -20,9 +20,6 @@ returns c =
     refused-inside Kind.Text (a .from) b 10 (text-empty b (omega arith))
 
 -- src/inside.rt:55:8
-shared-slice-read-if2 : tie.Need-shared-slice-read-if2
-shared-slice-read-if2 c = search needs
-
 -- src/inside.rt:56:9
 returns-2 : tie.Need-returns-2
 returns-2 c =
@@ -45,4 +42,4 @@ returns-3 c =
     runs-inside Kind.Text (a .from) b (a .to) (text-known b (λ z. omega arith) (omega arith)) (text-runs (a .from) (a .to) b ends)
 
 pub text-spec : {M : Type 1} → statement M
-text-spec = tie.close (tie.spec returns shared-slice-read-if2 returns-2 returns-3)
+text-spec = tie.close (tie.spec returns (λ c. search needs) returns-2 returns-3)

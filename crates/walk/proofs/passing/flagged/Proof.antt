@@ -12,24 +12,6 @@ use borrow.Author.Needs.{needs}
 use Rattle.walk.proofs.passing.flagged.Statement.{statement}
 use Rattle.walk.proofs.passing.flagged.Tie as tie
 
-resync-into-requires : tie.Need-resync-into-requires
-resync-into-requires c κs = search needs
-
-enum-known-k : tie.Need-enum-known-k
-enum-known-k c = search needs
-
-enum-known-n : tie.Need-enum-known-n
-enum-known-n c = search needs
-
-parse-requires : tie.Need-parse-requires
-parse-requires c κs = search needs
-
-read-as-requires : tie.Need-read-as-requires
-read-as-requires c κs = search needs
-
-same-length : tie.Need-same-length
-same-length c = search needs
-
 returns : tie.Need-returns
 returns c =
     let at-k = c .before in
@@ -39,9 +21,6 @@ returns c =
     let R = at-resync-into .resync-into in
     let e = ap {B = Put × List ℕ} (λ (x : Put). (x, R .last .0)) (sym (c .before .k .given .1)) ∙ R .ensures in
     λ v id place from len. front-refused v (recordOf id (a .short) false place true from len) (a .next) (resynchronised (slice (a .first) (a .next) (a .s .now))) (a .room .now) (R .last .0) e
-
-same-length-2 : tie.Need-same-length-2
-same-length-2 c = search needs
 
 returns-2 : tie.Need-returns-2
 returns-2 c =
@@ -58,12 +37,12 @@ pub flagged-spec : {M : Type 1} → statement M
 flagged-spec =
     tie.close
     (tie.spec
-    resync-into-requires
-    enum-known-k
-    enum-known-n
-    parse-requires
-    read-as-requires
-    same-length
+    (λ c κs. search needs)
+    (λ c. search needs)
+    (λ c. search needs)
+    (λ c κs. search needs)
+    (λ c κs. search needs)
+    (λ c. search needs)
     returns
-    same-length-2
+    (λ c. search needs)
     returns-2)

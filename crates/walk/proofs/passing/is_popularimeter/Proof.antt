@@ -4,9 +4,6 @@ use borrow.Author.Needs.{needs}
 use Rattle.walk.proofs.passing.is_popularimeter.Statement.{statement}
 use Rattle.walk.proofs.passing.is_popularimeter.Tie as tie
 
-enum-told : tie.Need-enum-told
-enum-told c = search needs
-
 returns : tie.Need-returns
 returns c = is-meter (c .before .before .args .kind) (c .enum-told .given .1)
 
@@ -14,4 +11,4 @@ returns-2 : tie.Need-returns-2
 returns-2 c = no-meter (c .before .args .kind) (c .match .keys2)
 
 pub is-popularimeter-spec : {M : Type 1} → statement M
-is-popularimeter-spec = tie.close (tie.spec enum-told returns returns-2)
+is-popularimeter-spec = tie.close (tie.spec (λ c. search needs) returns returns-2)

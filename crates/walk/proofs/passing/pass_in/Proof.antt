@@ -15,18 +15,6 @@ use borrow.Author.Needs.{needs}
 use Rattle.walk.proofs.passing.pass_in.Statement.{statement}
 use Rattle.walk.proofs.passing.pass_in.Tie as tie
 
-decode-requires : tie.Need-decode-requires
-decode-requires c κs = search needs
-
-enum-told : tie.Need-enum-told
-enum-told c = search needs
-
-enum-known-k : tie.Need-enum-known-k
-enum-known-k c = search needs
-
-enum-known-id : tie.Need-enum-known-id
-enum-known-id c = search needs
-
 -- the frame that was found
 found : (d : tie.After-known-told2)
     → let at-decode = d .before .before .before in
@@ -50,21 +38,6 @@ add-next c =
     let at-start = at-decode .before .before .before in
     omega (arith, found c .within, at-start .fits)
 
-shown-kind-requires : tie.Need-shown-kind-requires
-shown-kind-requires c κs = search needs
-
-is-resynced-requires : tie.Need-is-resynced-requires
-is-resynced-requires c κs = search needs
-
-is-popularimeter-requires : tie.Need-is-popularimeter-requires
-is-popularimeter-requires c κs = search needs
-
-flagged-requires : tie.Need-flagged-requires
-flagged-requires c κs = search needs
-
-same-length : tie.Need-same-length
-same-length c = search needs
-
 returns : tie.Need-returns
 returns c =
     let at-if2 = c .before .before .before .before in
@@ -77,12 +50,6 @@ returns c =
     let b = slice (a .at + h .1 .1 .1 .1 .0) (a .at + h .1 .1 .1 .1 .0 + h .1 .1 .1 .1 .1 .0) (a .s .now) in
     λ begin. pass-front (a .version) (a .in-work) begin (a .at) (a .end) (a .s .now) (a .room .now) (found d) _ _ (q .before .before .shown-kind .ensures) (q .before .is-resynced .ensures) (sym (q .is-popularimeter .ensures) ∙ at-if1 .if1 .taken) (at-if2 .if2 .taken)
     (c .before .before .flagged .ensures (a .version) (h .0) (a .at - begin) 0 (length (resynchronised b)))
-
-parse-requires : tie.Need-parse-requires
-parse-requires c κs = search needs
-
-read-as-requires : tie.Need-read-as-requires
-read-as-requires c κs = search needs
 
 returns-2 : tie.Need-returns-2
 returns-2 c =
@@ -101,9 +68,6 @@ body-requires c κs =
     let at-shown-kind = c .before .before .before .before in
     (omega arith, found (at-shown-kind .before) .within, omega arith)
 
-same-length-2 : tie.Need-same-length-2
-same-length-2 c = search needs
-
 returns-3 : tie.Need-returns-3
 returns-3 c =
     let at-body = c .before .before .before in
@@ -112,12 +76,6 @@ returns-3 c =
     let at-decode = d .before .before .before in
     let a = at-decode .before .before .before .args in
     λ begin. pass-body-refused (a .version) (a .in-work) begin (a .at) (a .end) (a .s .now) (a .room .now) (found d) _ _ (q .before .before .shown-kind .ensures) (q .before .is-resynced .ensures) (at-body .body .ensures) (c .if3 .taken)
-
-kind-of-requires : tie.Need-kind-of-requires
-kind-of-requires c κs = search needs
-
-is-popularimeter-requires-2 : tie.Need-is-popularimeter-requires-2
-is-popularimeter-requires-2 c κs = search needs
 
 returns-4 : tie.Need-returns-4
 returns-4 c =
@@ -132,9 +90,6 @@ returns-5 c =
     let at-start = at-decode .before .before .before in
     let a = at-start .args in
     λ begin. pass-refused (a .version) (a .in-work) begin (a .at) (slice (a .at) (a .end) (a .s .now)) (a .room .now) (sym (c .before .k .given .1) ∙ at-decode .decode .ensures)
-
-same-length-3 : tie.Need-same-length-3
-same-length-3 c = search needs
 
 returns-6 : tie.Need-returns-6
 returns-6 c =
@@ -153,27 +108,27 @@ pub pass-in-spec : {M : Type 1} → statement M
 pass-in-spec =
     tie.close
     (tie.spec
-    decode-requires
-    enum-told
-    enum-known-k
-    enum-known-id
+    (λ c κs. search needs)
+    (λ c. search needs)
+    (λ c. search needs)
+    (λ c. search needs)
     add-first
     add-next
-    shown-kind-requires
-    is-resynced-requires
-    is-popularimeter-requires
-    flagged-requires
-    same-length
+    (λ c κs. search needs)
+    (λ c κs. search needs)
+    (λ c κs. search needs)
+    (λ c κs. search needs)
+    (λ c. search needs)
     returns
-    parse-requires
-    read-as-requires
+    (λ c κs. search needs)
+    (λ c κs. search needs)
     returns-2
     body-requires
-    same-length-2
+    (λ c. search needs)
     returns-3
-    kind-of-requires
-    is-popularimeter-requires-2
+    (λ c κs. search needs)
+    (λ c κs. search needs)
     returns-4
     returns-5
-    same-length-3
+    (λ c. search needs)
     returns-6)

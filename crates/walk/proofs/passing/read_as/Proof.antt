@@ -4,20 +4,11 @@ use borrow.Author.Needs.{needs}
 use Rattle.walk.proofs.passing.read_as.Statement.{statement}
 use Rattle.walk.proofs.passing.read_as.Tie as tie
 
-enum-known-parsed : tie.Need-enum-known-parsed
-enum-known-parsed c = search needs
-
-enum-known-parsed-2 : tie.Need-enum-known-parsed-2
-enum-known-parsed-2 c = search needs
-
 returns : tie.Need-returns
 returns c =
     let at-start = c .before .before .before .before in
     let a = at-start .args in
     λ v id place from len. read-short v id (a .short) place (a .in-work) from len (a .next) (c .before .before .parsed2 .given .1) (c .if1 .taken)
-
-enum-known-fields : tie.Need-enum-known-fields
-enum-known-fields c = search needs
 
 returns-2 : tie.Need-returns-2
 returns-2 c =
@@ -44,10 +35,10 @@ pub read-as-spec : {M : Type 1} → statement M
 read-as-spec =
     tie.close
     (tie.spec
-    enum-known-parsed
-    enum-known-parsed-2
+    (λ c. search needs)
+    (λ c. search needs)
     returns
-    enum-known-fields
+    (λ c. search needs)
     returns-2
     returns-3
     returns-4)

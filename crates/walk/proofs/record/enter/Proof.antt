@@ -8,15 +8,6 @@ use borrow.Author.Needs.{needs}
 use Rattle.walk.proofs.record.enter.Statement.{statement}
 use Rattle.walk.proofs.record.enter.Tie as tie
 
-ready-requires : tie.Need-ready-requires
-ready-requires c κs = search needs
-
-enum-known-k : tie.Need-enum-known-k
-enum-known-k c = search needs
-
-enum-known-start : tie.Need-enum-known-start
-enum-known-start c = search needs
-
 shown-body-requires : tie.Need-shown-body-requires
 shown-body-requires c κs =
     let at-lies = c .before .before in
@@ -27,9 +18,6 @@ shown-body-requires c κs =
     let e = ap {B = Lies × List ℕ} (λ (x : Lies). (x, at-ready .ready .last .0)) (sym (c .before .before .start .given .1)) ∙ at-ready .ready .ensures in
     ready-within (a .version) (a .kind) (a .from) (a .to) (a .tag .now) (a .work .now) (a .in-work) (a .resynced) (q .0) (q .1 .0) (at-ready .ready .last .0) e (at-start .pre .0) (at-start .pre .1)
 
-same-length : tie.Need-same-length
-same-length c = search needs
-
 returns : tie.Need-returns
 returns c =
     let at-k = c .before in
@@ -38,9 +26,6 @@ returns c =
     let a = at-start .args in
     let e = ap {B = Lies × List ℕ} (λ (x : Lies). (x, at-ready .ready .last .0)) (sym (c .before .k .given .1)) ∙ at-ready .ready .ensures in
     ready-refused (a .version) (a .kind) (a .from) (a .to) (a .tag .now) (a .work .now) (a .in-work) (a .resynced) (c .before .k .given .0 .0) (at-ready .ready .last .0) e
-
-same-length-2 : tie.Need-same-length-2
-same-length-2 c = search needs
 
 returns-2 : tie.Need-returns-2
 returns-2 c =
@@ -58,11 +43,11 @@ pub enter-spec : {M : Type 1} → statement M
 enter-spec =
     tie.close
     (tie.spec
-    ready-requires
-    enum-known-k
-    enum-known-start
+    (λ c κs. search needs)
+    (λ c. search needs)
+    (λ c. search needs)
     shown-body-requires
-    same-length
+    (λ c. search needs)
     returns
-    same-length-2
+    (λ c. search needs)
     returns-2)

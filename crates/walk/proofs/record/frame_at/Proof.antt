@@ -11,27 +11,6 @@ use borrow.Author.Needs.{needs}
 use Rattle.walk.proofs.record.frame_at.Statement.{statement}
 use Rattle.walk.proofs.record.frame_at.Tie as tie
 
-source-requires : tie.Need-source-requires
-source-requires c κs = search needs
-
-decode-requires : tie.Need-decode-requires
-decode-requires c κs = search needs
-
-enum-told : tie.Need-enum-told
-enum-told c = search needs
-
-enum-known-k : tie.Need-enum-known-k
-enum-known-k c = search needs
-
-enum-known-id : tie.Need-enum-known-id
-enum-known-id c = search needs
-
-shown-kind-requires : tie.Need-shown-kind-requires
-shown-kind-requires c κs = search needs
-
-is-resynced-requires : tie.Need-is-resynced-requires
-is-resynced-requires c κs = search needs
-
 -- the frame that was found
 found : (c : tie.After-id)
     → let at-source = c .before .before .before in
@@ -62,24 +41,6 @@ enter-requires c κs =
     let at-found = c .before .before .before .before in
     (omega arith, omega (arith, found at-found .within, ap length (at-found .before .before .before .source .ensures)))
 
-enum-known-k-2 : tie.Need-enum-known-k-2
-enum-known-k-2 c = search needs
-
-enum-known-body : tie.Need-enum-known-body
-enum-known-body c = search needs
-
-either-requires : tie.Need-either-requires
-either-requires c κs = search needs
-
-beyond-requires : tie.Need-beyond-requires
-beyond-requires c κs = search needs
-
-record-of-requires : tie.Need-record-of-requires
-record-of-requires c κs = search needs
-
-same-length : tie.Need-same-length
-same-length c = search needs
-
 returns : tie.Need-returns
 returns c =
     let at-decode = c .before .before in
@@ -88,9 +49,6 @@ returns c =
     no-frame (a .version) (a .in-work) (a .begin) (a .at) (a .end) (a .tag .now) (a .work .now) (at-source .source .result .now) (at-source .source .ensures)
     (sym (c .enum-told .given .1) ∙ at-decode .decode .ensures)
 
-same-length-2 : tie.Need-same-length-2
-same-length-2 c = search needs
-
 returns-2 : tie.Need-returns-2
 returns-2 c =
     let at-decode = c .before .before .before in
@@ -98,9 +56,6 @@ returns-2 c =
     let a = at-source .before .before .before .before .args in
     head-refused (a .version) (a .in-work) (a .begin) (a .at) (a .end) (a .tag .now) (a .work .now) (at-source .source .result .now) (at-source .source .ensures)
     (c .before .k .given .0 .0) (sym (c .before .k .given .1) ∙ at-decode .decode .ensures)
-
-same-length-3 : tie.Need-same-length-3
-same-length-3 c = search needs
 
 returns-3 : tie.Need-returns-3
 returns-3 c =
@@ -116,9 +71,6 @@ returns-3 c =
     (found at-found) (at-kind .shown-kind .result) (at-resynced .is-resynced .result) (at-kind .shown-kind .ensures) (at-resynced .is-resynced .ensures)
     (at-enter .enter .last .0) (refused .0 .0)
     (ap {B = Entered × List ℕ} (λ (x : Entered). (x, at-enter .enter .last .0)) (sym (refused .1)) ∙ at-enter .enter .ensures)
-
-same-length-4 : tie.Need-same-length-4
-same-length-4 c = search needs
 
 returns-4 : tie.Need-returns-4
 returns-4 c =
@@ -140,26 +92,26 @@ pub frame-at-spec : {M : Type 1} → statement M
 frame-at-spec =
     tie.close
     (tie.spec
-    source-requires
-    decode-requires
-    enum-told
-    enum-known-k
-    enum-known-id
-    shown-kind-requires
-    is-resynced-requires
+    (λ c κs. search needs)
+    (λ c κs. search needs)
+    (λ c. search needs)
+    (λ c. search needs)
+    (λ c. search needs)
+    (λ c κs. search needs)
+    (λ c κs. search needs)
     add-first
     add-next
     enter-requires
-    enum-known-k-2
-    enum-known-body
-    either-requires
-    beyond-requires
-    record-of-requires
-    same-length
+    (λ c. search needs)
+    (λ c. search needs)
+    (λ c κs. search needs)
+    (λ c κs. search needs)
+    (λ c κs. search needs)
+    (λ c. search needs)
     returns
-    same-length-2
+    (λ c. search needs)
     returns-2
-    same-length-3
+    (λ c. search needs)
     returns-3
-    same-length-4
+    (λ c. search needs)
     returns-4)

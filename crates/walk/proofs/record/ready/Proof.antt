@@ -4,18 +4,6 @@ use borrow.Author.Needs.{needs}
 use Rattle.walk.proofs.record.ready.Statement.{statement}
 use Rattle.walk.proofs.record.ready.Tie as tie
 
-resync-front-requires : tie.Need-resync-front-requires
-resync-front-requires c κs = search needs
-
-enum-known-k : tie.Need-enum-known-k
-enum-known-k c = search needs
-
-enum-known-n : tie.Need-enum-known-n
-enum-known-n c = search needs
-
-same-length : tie.Need-same-length
-same-length c = search needs
-
 returns : tie.Need-returns
 returns c =
     let at-k = c .before in
@@ -25,9 +13,6 @@ returns c =
     let a = at-start .args in
     lies-put (a .in-work) (a .resynced) (a .from) (a .to) (a .tag .now) (a .work .now) (at-if1 .if1 .taken)
     (c .before .k .given .1) (at-resync-front .resync-front .ensures)
-
-same-length-2 : tie.Need-same-length-2
-same-length-2 c = search needs
 
 returns-2 : tie.Need-returns-2
 returns-2 c =
@@ -49,11 +34,11 @@ pub ready-spec : {M : Type 1} → statement M
 ready-spec =
     tie.close
     (tie.spec
-    resync-front-requires
-    enum-known-k
-    enum-known-n
-    same-length
+    (λ c κs. search needs)
+    (λ c. search needs)
+    (λ c. search needs)
+    (λ c. search needs)
     returns
-    same-length-2
+    (λ c. search needs)
     returns-2
     returns-3)

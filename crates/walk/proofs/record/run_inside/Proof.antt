@@ -12,18 +12,6 @@ returns c =
     let a = at-start .args in
     run-none (a .in-work) (a .resynced) (a .version) (a .run) (a .to) (a .tag .now) (a .work .now) (c .if1 .taken)
 
-array-borrow-prefix-none : tie.Need-array-borrow-prefix-none
-array-borrow-prefix-none c = search needs
-
-slice-aggregate-walk : tie.Need-slice-aggregate-walk
-slice-aggregate-walk c = search needs
-
-walk-requires : tie.Need-walk-requires
-walk-requires c κs = search needs
-
-same-length : tie.Need-same-length
-same-length c = search needs
-
 returns-2 : tie.Need-returns-2
 returns-2 c =
     let at-if2 = c .before .before .before .before in
@@ -31,12 +19,6 @@ returns-2 c =
     let a = at-start .args in
     run-in-work (a .in-work) (a .resynced) (a .version) (a .run) (a .to) (a .tag .now) (a .work .now) (at-if2 .if2 .taken)
     (c .before .walk .result) (ap (λ (o : Out). o .0) (c .before .walk .ensures))
-
-walk-in-requires : tie.Need-walk-in-requires
-walk-in-requires c κs = search needs
-
-same-length-2 : tie.Need-same-length-2
-same-length-2 c = search needs
 
 returns-3 : tie.Need-returns-3
 returns-3 c =
@@ -46,12 +28,6 @@ returns-3 c =
     let a = at-start .args in
     run-behind (a .in-work) (a .resynced) (a .version) (a .run) (a .to) (a .tag .now) (a .work .now) (at-if2 .if2 .left) (at-if3 .if3 .taken)
     (c .before .before .walk-in .result, c .before .before .walk-in .last .0) (c .before .before .walk-in .ensures)
-
-walk-requires-2 : tie.Need-walk-requires-2
-walk-requires-2 c κs = search needs
-
-same-length-3 : tie.Need-same-length-3
-same-length-3 c = search needs
 
 returns-4 : tie.Need-returns-4
 returns-4 c =
@@ -67,14 +43,14 @@ run-inside-spec =
     tie.close
     (tie.spec
     returns
-    array-borrow-prefix-none
-    slice-aggregate-walk
-    walk-requires
-    same-length
+    (λ c. search needs)
+    (λ c. search needs)
+    (λ c κs. search needs)
+    (λ c. search needs)
     returns-2
-    walk-in-requires
-    same-length-2
+    (λ c κs. search needs)
+    (λ c. search needs)
     returns-3
-    walk-requires-2
-    same-length-3
+    (λ c κs. search needs)
+    (λ c. search needs)
     returns-4)

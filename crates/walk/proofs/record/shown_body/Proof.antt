@@ -11,27 +11,6 @@ use borrow.Author.Needs.{needs}
 use Rattle.walk.proofs.record.shown_body.Statement.{statement}
 use Rattle.walk.proofs.record.shown_body.Tie as tie
 
-either-requires : tie.Need-either-requires
-either-requires c κs = search needs
-
-source-requires : tie.Need-source-requires
-source-requires c κs = search needs
-
-parse-requires : tie.Need-parse-requires
-parse-requires c κs = search needs
-
-enum-known-k : tie.Need-enum-known-k
-enum-known-k c = search needs
-
-enum-known-parts : tie.Need-enum-known-parts
-enum-known-parts c = search needs
-
-place-requires : tie.Need-place-requires
-place-requires c κs = search needs
-
-run-inside-requires : tie.Need-run-inside-requires
-run-inside-requires c κs = search needs
-
 -- of a body that was read: its source, how long it is, and where it ends
 within : (d : tie.After-run-inside)
     → let at-parts = d .before .before .before .before in
@@ -54,21 +33,12 @@ within d =
     let long : length (slice (a .from) (a .to) S) ≡ a .to - a .from = length-slice (a .from) (a .to) S (omega (arith, ap length es, at-start .pre .1)) in
     (es, long, omega (arith, at-start .pre .0))
 
-same-length : tie.Need-same-length
-same-length c = search needs
-
 returns : tie.Need-returns
 returns c =
     let d = c .before .before .before in
     let at-parts = d .before .before .before .before in
     let k = within d in
     shows-run _ _ _ _ _ _ _ _ _ (k .0) (k .2) _ (sym (at-parts .parts .given .1) ∙ at-parts .before .before .parse .ensures) _ (d .before .before .place .ensures) _ _ (d .run-inside .ensures) (c .if1 .taken)
-
-sub-len : tie.Need-sub-len
-sub-len c = search needs
-
-same-length-2 : tie.Need-same-length-2
-same-length-2 c = search needs
 
 returns-2 : tie.Need-returns-2
 returns-2 c =
@@ -82,9 +52,6 @@ returns-2 c =
     at-source .source .ensures ∙ ap (λ (x : Bool). sourceOf x (a .work .now) (a .tag .now)) (at-either .either .ensures) in
     shows-refused (a .in-work) (a .resynced) (a .version) (a .kind) (a .from) (a .to) (a .tag .now) (a .work .now) S es (c .before .k .given .0 .0) (sym (c .before .k .given .1) ∙ at-parse .parse .ensures)
 
-same-length-3 : tie.Need-same-length-3
-same-length-3 c = search needs
-
 returns-3 : tie.Need-returns-3
 returns-3 c =
     let d = c .before .before .before in
@@ -96,17 +63,17 @@ pub shown-body-spec : {M : Type 1} → statement M
 shown-body-spec =
     tie.close
     (tie.spec
-    either-requires
-    source-requires
-    parse-requires
-    enum-known-k
-    enum-known-parts
-    place-requires
-    run-inside-requires
-    same-length
+    (λ c κs. search needs)
+    (λ c κs. search needs)
+    (λ c κs. search needs)
+    (λ c. search needs)
+    (λ c. search needs)
+    (λ c κs. search needs)
+    (λ c κs. search needs)
+    (λ c. search needs)
     returns
-    sub-len
-    same-length-2
+    (λ c. search needs)
+    (λ c. search needs)
     returns-2
-    same-length-3
+    (λ c. search needs)
     returns-3)

@@ -15,8 +15,5 @@ returns-2 : tie.Need-returns-2
 returns-2 c = let a = c .before .before .args in rw (c .before .if1 .taken, eq-eqb (a .end - a .at) 0 (omega arith))
 
 -- src/steps.rt:31:1
-returns-3 : tie.Need-returns-3
-returns-3 c = search needs
-
 pub left-over-spec : {M : Type 1} → statement M
-left-over-spec = tie.close (tie.spec returns returns-2 returns-3)
+left-over-spec = tie.close (tie.spec returns returns-2 (λ c. search needs))

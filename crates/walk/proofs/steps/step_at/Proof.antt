@@ -14,24 +14,6 @@ use borrow.Author.Needs.{needs}
 use Rattle.walk.proofs.steps.step_at.Statement.{statement}
 use Rattle.walk.proofs.steps.step_at.Tie as tie
 
-decode-requires : tie.Need-decode-requires
-decode-requires c κs = search needs
-
-enum-told : tie.Need-enum-told
-enum-told c = search needs
-
-left-over-requires : tie.Need-left-over-requires
-left-over-requires c κs = search needs
-
-enum-known-k : tie.Need-enum-known-k
-enum-known-k c = search needs
-
-enum-known-id : tie.Need-enum-known-id
-enum-known-id c = search needs
-
-is-unfit-requires : tie.Need-is-unfit-requires
-is-unfit-requires c κs = search needs
-
 -- the header that was found, and where the frame lies
 found : (c : tie.After-id)
     → let a = c .before .before .before .before .args in
@@ -59,12 +41,6 @@ add-first : tie.Need-add-first
 add-first c =
     let at-found = c .before .before .before in
     omega (arith, within at-found, at-found .before .before .before .before .fits)
-
-shown-kind-requires : tie.Need-shown-kind-requires
-shown-kind-requires c κs = search needs
-
-is-resynced-requires : tie.Need-is-resynced-requires
-is-resynced-requires c κs = search needs
 
 add-t21 : tie.Need-add-t21
 add-t21 c =
@@ -103,16 +79,16 @@ pub step-at-spec : {M : Type 1} → statement M
 step-at-spec =
     tie.close
     (tie.spec
-    decode-requires
-    enum-told
-    left-over-requires
-    enum-known-k
-    enum-known-id
-    is-unfit-requires
+    (λ c κs. search needs)
+    (λ c. search needs)
+    (λ c κs. search needs)
+    (λ c. search needs)
+    (λ c. search needs)
+    (λ c κs. search needs)
     returns
     add-first
-    shown-kind-requires
-    is-resynced-requires
+    (λ c κs. search needs)
+    (λ c κs. search needs)
     add-t21
     returns-2
     returns-3

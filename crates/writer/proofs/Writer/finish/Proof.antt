@@ -6,61 +6,56 @@ use borrow.Author.Needs.{needs}
 use Rattle.writer.proofs.Writer.finish.Statement.{statement}
 use Rattle.writer.proofs.Writer.finish.Tie as tie
 
-is-too-long-requires : tie.Need-is-too-long-requires
-is-too-long-requires c κs = search needs
+-- the arguments, where the length is known
+abbrev start : tie.After-is-too-long → tie.Start
+start c = c .before .before .before
 
 returns : tie.Need-returns
 returns c =
-    let a = c .before .before .before .before .args in
+    let a = start (c .before) .args in
     finish-long (a .self) (a .padding) (a .buffer .now) (a .output .now) (sym (c .before .is-too-long .ensures) ∙ c .if1 .taken)
 
 returns-2 : tie.Need-returns-2
 returns-2 c =
-    let a = c .before .before .before .before .before .args in
+    let a = start (c .before .before) .args in
     finish-missing (a .self) (a .padding) (a .buffer .now) (a .output .now) (sym (c .before .before .is-too-long .ensures) ∙ c .before .if1 .left) (c .if2 .taken)
 
 put-tag-requires : tie.Need-put-tag-requires
 put-tag-requires c κs =
-    let p = c .before in
-    leb-false _ _ (sym (p .before .before .is-too-long .ensures) ∙ p .before .if1 .left)
-
-enum-known-put : tie.Need-enum-known-put
-enum-known-put c = search needs
-
-enum-known-put-2 : tie.Need-enum-known-put-2
-enum-known-put-2 c = search needs
-
-same-length : tie.Need-same-length
-same-length c = search needs
+    let at-short = c .before .before in
+    leb-false _ _ (sym (at-short .before .is-too-long .ensures) ∙ at-short .if1 .left)
 
 returns-3 : tie.Need-returns-3
 returns-3 c =
-    let p = c .before .before .before .before .before .before .before in
-    let a = p .before .before .before .before .before .args in
-    let short = sym (p .before .before .is-too-long .ensures) ∙ p .before .if1 .left in
-    finish-done (a .self) (a .padding) (a .buffer .now) (a .output .now) short (p .if2 .left) (c .before .before .before .before .before .put-tag .ensures) (c .before .put .given .1)
-
-same-length-2 : tie.Need-same-length-2
-same-length-2 c = search needs
+    let at-answer = c .before in
+    let at-put = at-answer .before .before .before .before in
+    let at-room = at-put .before .before in
+    let at-length = at-room .before .before in
+    let a = start at-length .args in
+    let short = sym (at-length .is-too-long .ensures) ∙ at-room .before .if1 .left in
+    finish-done (a .self) (a .padding) (a .buffer .now) (a .output .now) short (at-room .if2 .left) (at-put .put-tag .ensures) (at-answer .put .given .1)
 
 returns-4 : tie.Need-returns-4
 returns-4 c =
-    let p = c .before .before .before .before .before .before .before in
-    let a = p .before .before .before .before .before .args in
-    let short = sym (p .before .before .is-too-long .ensures) ∙ p .before .if1 .left in
-    finish-full (a .self) (a .padding) (a .buffer .now) (a .output .now) short (p .if2 .left) (c .before .before .before .before .before .put-tag .ensures) (c .before .put2 .given .1)
+    let at-answer = c .before in
+    let at-put = at-answer .before .before .before .before in
+    let at-room = at-put .before .before in
+    let at-length = at-room .before .before in
+    let a = start at-length .args in
+    let short = sym (at-length .is-too-long .ensures) ∙ at-room .before .if1 .left in
+    finish-full (a .self) (a .padding) (a .buffer .now) (a .output .now) short (at-room .if2 .left) (at-put .put-tag .ensures) (at-answer .put2 .given .1)
 
 pub finish-spec : {M : Type 1} → statement M
 finish-spec =
     tie.close
     (tie.spec
-    is-too-long-requires
+    (λ c κs. search needs)
     returns
     returns-2
     put-tag-requires
-    enum-known-put
-    enum-known-put-2
-    same-length
+    (λ c. search needs)
+    (λ c. search needs)
+    (λ c. search needs)
     returns-3
-    same-length-2
+    (λ c. search needs)
     returns-4)

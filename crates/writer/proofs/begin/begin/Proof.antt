@@ -7,21 +7,12 @@ use Rattle.writer.specs.Writer.{isKnown, beginOf}
 use Rattle.writer.proofs.begin.begin.Statement.{statement}
 use Rattle.writer.proofs.begin.begin.Tie as tie
 
-is-known-requires : tie.Need-is-known-requires
-is-known-requires c κs = search needs
-
 returns : tie.Need-returns
 unfolding beginOf
 returns c =
     let a = c .before .before .args in
     let e : isKnown (a .version) (a .mode) ≡ false = sym (c .before .is-known .ensures) ∙ not-true _ (c .if1 .taken) in
     rw e
-
-version-of-requires : tie.Need-version-of-requires
-version-of-requires c κs = search needs
-
-mode-of-requires : tie.Need-mode-of-requires
-mode-of-requires c κs = search needs
 
 returns-2 : tie.Need-returns-2
 unfolding beginOf
@@ -32,4 +23,4 @@ returns-2 c =
 
 pub begin-spec : {M : Type 1} → statement M
 begin-spec =
-    tie.close (tie.spec is-known-requires returns version-of-requires mode-of-requires returns-2)
+    tie.close (tie.spec (λ c κs. search needs) returns (λ c κs. search needs) (λ c κs. search needs) returns-2)

@@ -3,14 +3,8 @@ use borrow.Author.Needs.{needs}
 use Rattle.writer.proofs.begin.is_known.Statement.{statement}
 use Rattle.writer.proofs.begin.is_known.Tie as tie
 
-is-version-requires : tie.Need-is-version-requires
-is-version-requires c κs = search needs
-
-is-mode-requires : tie.Need-is-mode-requires
-is-mode-requires c κs = search needs
-
 returns : tie.Need-returns
 returns c = rw (c .before .is-version .ensures, c .is-mode .ensures)
 
 pub is-known-spec : {M : Type 1} → statement M
-is-known-spec = tie.close (tie.spec is-version-requires is-mode-requires returns)
+is-known-spec = tie.close (tie.spec (λ c κs. search needs) (λ c κs. search needs) returns)

@@ -5,32 +5,23 @@ use borrow.Author.Needs.{needs}
 use Rattle.writer.proofs.bodies.measure_pieces.Statement.{statement}
 use Rattle.writer.proofs.bodies.measure_pieces.Tie as tie
 
-measure-bytes-requires : tie.Need-measure-bytes-requires
-measure-bytes-requires c κs = search needs
-
-measure-bytes-requires-2 : tie.Need-measure-bytes-requires-2
-measure-bytes-requires-2 c κs = search needs
-
-measure-bytes-requires-3 : tie.Need-measure-bytes-requires-3
-measure-bytes-requires-3 c κs = search needs
-
-measure-bytes-requires-4 : tie.Need-measure-bytes-requires-4
-measure-bytes-requires-4 c κs = search needs
-
 returns : tie.Need-returns
 returns c =
-    let a = c .before .before .before .before .before .before .before .before .args in
+    let at-second = c .before .before in
+    let at-first = at-second .before in
+    let at-slices = at-first .before in
+    let a = at-slices .before .before .before .before .args in
     let rest = a .b .now ++ (a .c .now ++ a .d .now) in
-    then-paced (a .mode) (a .pen) (a .a .now) rest (c .before .before .before .measure-bytes .ensures)
-    (then-paced (a .mode) (c .before .before .before .measure-bytes .result) (a .b .now) (a .c .now ++ a .d .now) (c .before .before .measure-bytes2 .ensures)
-    (then-paced (a .mode) (c .before .before .measure-bytes2 .result) (a .c .now) (a .d .now) (c .before .measure-bytes3 .ensures) (c .measure-bytes4 .ensures)))
+    then-paced (a .mode) (a .pen) (a .a .now) rest (at-first .measure-bytes .ensures)
+    (then-paced (a .mode) (at-first .measure-bytes .result) (a .b .now) (a .c .now ++ a .d .now) (at-second .measure-bytes2 .ensures)
+    (then-paced (a .mode) (at-second .measure-bytes2 .result) (a .c .now) (a .d .now) (c .before .measure-bytes3 .ensures) (c .measure-bytes4 .ensures)))
 
 pub measure-pieces-spec : {M : Type 1} → statement M
 measure-pieces-spec =
     tie.close
     (tie.spec
-    measure-bytes-requires
-    measure-bytes-requires-2
-    measure-bytes-requires-3
-    measure-bytes-requires-4
+    (λ c κs. search needs)
+    (λ c κs. search needs)
+    (λ c κs. search needs)
+    (λ c κs. search needs)
     returns)

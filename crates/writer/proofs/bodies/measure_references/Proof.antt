@@ -8,9 +8,6 @@ use borrow.Author.Needs.{needs}
 use Rattle.writer.proofs.bodies.measure_references.Statement.{statement}
 use Rattle.writer.proofs.bodies.measure_references.Tie as tie
 
-enum-known-fields : tie.Need-enum-known-fields
-enum-known-fields c = search needs
-
 measure-packed-requires : tie.Need-measure-packed-requires
 measure-packed-requires c κs = rw (c .before .fields .given .1) at (c .before .before .before .before .pre)
 
@@ -24,4 +21,4 @@ returns-2 c =
 
 pub measure-references-spec : {M : Type 1} → statement M
 measure-references-spec =
-    tie.close (tie.spec enum-known-fields measure-packed-requires returns returns-2)
+    tie.close (tie.spec (λ c. search needs) measure-packed-requires returns returns-2)

@@ -13,6 +13,10 @@ use borrow.Author.Needs.{needs}
 use Rattle.writer.proofs.bodies.plan_of.Statement.{statement}
 use Rattle.writer.proofs.bodies.plan_of.Tie as tie
 
+-- the arguments
+abbrev start : tie.After-used-of → tie.Start
+start c = c .before .before .before .before
+
 -- the parts of the slices, whatever the deviations
 parts : (c : tie.After-used-of) (ds : List ℕ) → let a = c .before .before .before .before .args in Parts (a .fields) (a .name .now) (a .names .now) (a .rest .now) ds (c .used-of .result)
 parts c ds =
@@ -24,28 +28,22 @@ lies c =
     let a = c .before .before .before .before .args in
     rw (c .used-of .ensures) (used-lies (a .fields) (length (a .name .now)) (length (a .names .now)) (length (a .rest .now)))
 
-used-of-requires : tie.Need-used-of-requires
-used-of-requires c κs = search needs
-
 slice-aggregate-zeros-in : tie.Need-slice-aggregate-zeros-in
 slice-aggregate-zeros-in c = sym (length-take-le _ _ (lies (c .before) .names-fit))
 
-zeros-in-requires : tie.Need-zeros-in-requires
-zeros-in-requires c κs = search needs
-
 -- how many names there are, whatever the deviations
-children : (c : tie.After-zeros-in) (ds : List ℕ) → let a = c .before .before .before .before .before .before .args in
+children : (c : tie.After-zeros-in) (ds : List ℕ) → let a = start (c .before .before) .args in
     zerosIn (layoutOf (contentOf (a .fields) (a .name .now) (a .names .now) (a .rest .now) ds) .names) ≡ c .zeros-in .result
 children c ds = sym (c .zeros-in .ensures ∙ ap zerosIn (parts (c .before .before) ds .names-are))
 
 small-of-requires : tie.Need-small-of-requires
-small-of-requires c κs = rw (children c []) at (c .before .before .before .before .before .before .pre [])
+small-of-requires c κs = rw (children c []) at (start (c .before .before) .pre [])
 
 -- the numbers, whatever the deviations
-small : (c : tie.After-small-of) (ds : List ℕ) → let a = c .before .before .before .before .before .before .before .args in
+small : (c : tie.After-small-of) (ds : List ℕ) → let a = start (c .before .before .before) .args in
     Holds (c .small-of .result) (layoutOf (contentOf (a .fields) (a .name .now) (a .names .now) (a .rest .now) ds) .small)
 small c ds =
-    let a = c .before .before .before .before .before .before .before .args in
+    let a = start (c .before .before .before) .args in
     c .small-of .ensures (a .name .now) (a .names .now) (a .rest .now) ds (children (c .before) ds)
 
 returns : tie.Need-returns
@@ -63,8 +61,8 @@ pub plan-of-spec : {M : Type 1} → statement M
 plan-of-spec =
     tie.close
     (tie.spec
-    used-of-requires
+    (λ c κs. search needs)
     slice-aggregate-zeros-in
-    zeros-in-requires
+    (λ c κs. search needs)
     small-of-requires
     returns)

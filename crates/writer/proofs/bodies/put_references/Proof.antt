@@ -6,17 +6,15 @@ use borrow.Author.Needs.{needs}
 use Rattle.writer.proofs.bodies.put_references.Statement.{statement}
 use Rattle.writer.proofs.bodies.put_references.Tie as tie
 
-enum-known-fields : tie.Need-enum-known-fields
-enum-known-fields c = search needs
-
 put-packed-requires : tie.Need-put-packed-requires
-put-packed-requires c κs = rw (c .before .before .fields .given .1) at (c .before .before .before .before .before .before .pre)
-
-same-length : tie.Need-same-length
-same-length c = search needs
+put-packed-requires c κs =
+    let at-fields = c .before .before in
+    rw (at-fields .fields .given .1) at (at-fields .before .before .before .before .pre)
 
 returns : tie.Need-returns
-returns c = rw (c .before .before .before .before .before .fields .given .1) (c .before .before .put-packed .ensures)
+returns c =
+    let at-put = c .before .before in
+    rw (at-put .before .before .before .fields .given .1) (at-put .put-packed .ensures)
 
 returns-2 : tie.Need-returns-2
 unfolding unsync
@@ -26,4 +24,4 @@ returns-2 c =
 
 pub put-references-spec : {M : Type 1} → statement M
 put-references-spec =
-    tie.close (tie.spec enum-known-fields put-packed-requires same-length returns returns-2)
+    tie.close (tie.spec (λ c. search needs) put-packed-requires (λ c. search needs) returns returns-2)

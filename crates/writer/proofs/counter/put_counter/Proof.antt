@@ -7,23 +7,18 @@ use borrow.Author.Needs.{needs}
 use Rattle.writer.proofs.counter.put_counter.Statement.{statement}
 use Rattle.writer.proofs.counter.put_counter.Tie as tie
 
-width-requires : tie.Need-width-requires
-width-requires c κs = search needs
-
 put-digits-requires : tie.Need-put-digits-requires
 put-digits-requires c κs =
     let a = c .before .before .before .args in
     omega (arith, c .before .width .ensures, counter-small (a .counter) (c .before .before .before .fits .counter .fits))
 
-same-length : tie.Need-same-length
-same-length c = search needs
-
 returns : tie.Need-returns
 returns c =
-    let s = c .before .before .before .before .before .before in
-    let w = c .before .before .before .before .width in
+    let at-width = c .before .before .before .before in
+    let s = at-width .before .before in
+    let w = at-width .width in
     let e = counter-bytes (s .args .counter) (s .fits .counter .fits) (w .result) (w .ensures) in
     (w .ensures, c .before .before .put-digits .ensures ∙ ap (sets (s .args .buffer .now) (s .args .at)) (sym e))
 
 pub put-counter-spec : {M : Type 1} → statement M
-put-counter-spec = tie.close (tie.spec width-requires put-digits-requires same-length returns)
+put-counter-spec = tie.close (tie.spec (λ c κs. search needs) put-digits-requires (λ c. search needs) returns)

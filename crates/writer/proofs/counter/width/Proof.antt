@@ -8,14 +8,8 @@ use Rattle.writer.proofs.counter.width.Tie as tie
 sub-result : tie.Need-sub-result
 sub-result c = leading-le 64 (c .args .counter)
 
-add-result : tie.Need-add-result
-add-result c = search needs
-
-cast-result : tie.Need-cast-result
-cast-result c = search needs
-
 returns : tie.Need-returns
 returns c = counter-width (c .args .counter) (c .fits .counter .fits)
 
 pub width-spec : {M : Type 1} → statement M
-width-spec = tie.close (tie.spec sub-result add-result cast-result returns)
+width-spec = tie.close (tie.spec sub-result (λ c. search needs) (λ c. search needs) returns)

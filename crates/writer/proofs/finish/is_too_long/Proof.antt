@@ -9,26 +9,18 @@ returns c =
     let a = c .before .before .args in
     long-padding (a .version) (a .mode) (a .padding) (a .used) (a .buffer .now) (c .if1 .taken)
 
-sub-left : tie.Need-sub-left
-sub-left c = search needs
-
 returns-2 : tie.Need-returns-2
 returns-2 c =
     let a = c .before .before .before .args in
     short-frames (a .version) (a .mode) (a .padding) (a .used) (a .buffer .now) (c .before .if1 .left) (c .if2 .taken)
 
-whole-mode-requires : tie.Need-whole-mode-requires
-whole-mode-requires c κs = search needs
-
-unsync-len-requires : tie.Need-unsync-len-requires
-unsync-len-requires c κs = search needs
-
 returns-3 : tie.Need-returns-3
 returns-3 c =
-    let a = c .before .before .before .before .before .args in
-    by-count (a .version) (a .mode) (a .padding) (a .used) (a .buffer .now) (c .before .before .before .if1 .left) (c .before .whole-mode .ensures) (c .unsync-len .ensures)
+    let at-mode = c .before in
+    let a = at-mode .before .before .before .before .args in
+    by-count (a .version) (a .mode) (a .padding) (a .used) (a .buffer .now) (at-mode .before .before .if1 .left) (at-mode .whole-mode .ensures) (c .unsync-len .ensures)
 
 pub is-too-long-spec : {M : Type 1} → statement M
 is-too-long-spec =
     tie.close
-    (tie.spec returns sub-left returns-2 whole-mode-requires unsync-len-requires returns-3)
+    (tie.spec returns (λ c. search needs) returns-2 (λ c κs. search needs) (λ c κs. search needs) returns-3)

@@ -17,41 +17,30 @@ returns c =
     let a = c .before .before .before .args in
     no-padding (wholeOf (a .version) (a .mode) (take (a .used) (a .buffer .now))) (a .output .now) (a .padding) (c .if1 .taken)
 
-sub-room : tie.Need-sub-room
-sub-room c = search needs
-
-whole-mode-requires : tie.Need-whole-mode-requires
-whole-mode-requires c κs = search needs
-
-slice-relend-prefix-unsync-into : tie.Need-slice-relend-prefix-unsync-into
-slice-relend-prefix-unsync-into c = search needs
-
 slice-aggregate-unsync-into : tie.Need-slice-aggregate-unsync-into
-slice-aggregate-unsync-into c = sym (length-take-le _ (c .before .before .before .before .before .args .output .now) (omega arith))
-
-unsync-into-requires : tie.Need-unsync-into-requires
-unsync-into-requires c κs = search needs
-
-same-length : tie.Need-same-length
-same-length c = search needs
+slice-aggregate-unsync-into c =
+    let at-mode = c .before in
+    sym (length-take-le _ (at-mode .before .before .before .before .args .output .now) (omega arith))
 
 returns-2 : tie.Need-returns-2
 returns-2 c =
-    let a = c .before .before .before .before .before .before .before .before .args in
+    let at-into = c .before .before in
+    let at-mode = at-into .before .before in
+    let a = at-mode .before .before .before .before .args in
     let frames = take (a .used) (a .buffer .now) in
-    let whole = whole-is (a .version) (a .mode) (c .before .before .before .before .whole-mode .ensures) frames in
-    let puts = c .before .before .unsync-into .ensures ∙ ap (λ (u : List ℕ). placedOf u 10 (take (length (a .output .now) - a .padding) (a .output .now))) whole in
-    in-front (wholeOf (a .version) (a .mode) frames) (a .output .now) (a .padding) (c .before .before .before .before .before .if1 .left) refl puts
+    let whole = whole-is (a .version) (a .mode) (at-mode .whole-mode .ensures) frames in
+    let puts = at-into .unsync-into .ensures ∙ ap (λ (u : List ℕ). placedOf u 10 (take (length (a .output .now) - a .padding) (a .output .now))) whole in
+    in-front (wholeOf (a .version) (a .mode) frames) (a .output .now) (a .padding) (at-mode .before .if1 .left) refl puts
 
 pub put-frames-spec : {M : Type 1} → statement M
 put-frames-spec =
     tie.close
     (tie.spec
     returns
-    sub-room
-    whole-mode-requires
-    slice-relend-prefix-unsync-into
+    (λ c. search needs)
+    (λ c κs. search needs)
+    (λ c. search needs)
     slice-aggregate-unsync-into
-    unsync-into-requires
-    same-length
+    (λ c κs. search needs)
+    (λ c. search needs)
     returns-2)

@@ -9,33 +9,6 @@ use borrow.Author.Needs.{needs}
 use Rattle.writer.proofs.finish.put_header.Statement.{statement}
 use Rattle.writer.proofs.finish.put_header.Tie as tie
 
-put-digits-requires : tie.Need-put-digits-requires
-put-digits-requires c κs = search needs
-
-version-number-requires : tie.Need-version-number-requires
-version-number-requires c κs = search needs
-
-cast-put-digits : tie.Need-cast-put-digits
-cast-put-digits c = search needs
-
-put-digits-requires-2 : tie.Need-put-digits-requires-2
-put-digits-requires-2 c κs = search needs
-
-flags-byte-requires : tie.Need-flags-byte-requires
-flags-byte-requires c κs = search needs
-
-put-digits-requires-3 : tie.Need-put-digits-requires-3
-put-digits-requires-3 c κs = search needs
-
-synchsafe-word-requires : tie.Need-synchsafe-word-requires
-synchsafe-word-requires c κs = search needs
-
-put-digits-requires-4 : tie.Need-put-digits-requires-4
-put-digits-requires-4 c κs = search needs
-
-same-length : tie.Need-same-length
-same-length c = search needs
-
 returns : tie.Need-returns
 returns c =
     let size-put = c .before .before in
@@ -60,13 +33,13 @@ pub put-header-spec : {M : Type 1} → statement M
 put-header-spec =
     tie.close
     (tie.spec
-    put-digits-requires
-    version-number-requires
-    cast-put-digits
-    put-digits-requires-2
-    flags-byte-requires
-    put-digits-requires-3
-    synchsafe-word-requires
-    put-digits-requires-4
-    same-length
+    (λ c κs. search needs)
+    (λ c κs. search needs)
+    (λ c. search needs)
+    (λ c κs. search needs)
+    (λ c κs. search needs)
+    (λ c κs. search needs)
+    (λ c κs. search needs)
+    (λ c κs. search needs)
+    (λ c. search needs)
     returns)

@@ -6,76 +6,78 @@ use borrow.Author.Needs.{needs}
 use Rattle.writer.proofs.finish.put_tag.Statement.{statement}
 use Rattle.writer.proofs.finish.put_tag.Tie as tie
 
--- the frames were put
-put-told : (c : tie.After-put-zeros-arg) →
-    let a = c .before .before .before .before .before .before .before .before .before .before .args in
-    Frames (a .version) (a .mode) (a .padding) (take (a .used) (a .buffer .now)) (a .output .now) (c .before .before .before .before .before .before .put-frames .ensures) (c .before .before .put .given .0 .0)
-put-told c =
-    let a = c .before .before .before .before .before .before .before .before .before .before .args in
-    tag-frames (a .version) (a .mode) (a .padding) (take (a .used) (a .buffer .now)) (a .output .now) (c .before .before .before .before .before .before .put-frames .ensures) (c .before .before .put .given .1)
+-- the arguments, and that the frames were put
+abbrev start : tie.After-put-frames → tie.Start
+start c = c .before .before .before .before
 
-put-frames-requires : tie.Need-put-frames-requires
-put-frames-requires c κs = search needs
-
-enum-known-put : tie.Need-enum-known-put
-enum-known-put c = search needs
+frames-put : (c : tie.After-put-zeros-arg) →
+    let at-put = c .before .before in
+    let at-frames = at-put .before .before .before .before in
+    let a = start at-frames .args in
+    Frames (a .version) (a .mode) (a .padding) (take (a .used) (a .buffer .now)) (a .output .now) (at-frames .put-frames .ensures) (at-put .put .given .0 .0)
+frames-put c =
+    let at-put = c .before .before in
+    let at-frames = at-put .before .before .before .before in
+    let a = start at-frames .args in
+    tag-frames (a .version) (a .mode) (a .padding) (take (a .used) (a .buffer .now)) (a .output .now) (at-frames .put-frames .ensures) (at-put .put .given .1)
 
 add-put-zeros : tie.Need-add-put-zeros
-add-put-zeros c = omega (arith, put-told c)
+add-put-zeros c = omega (arith, frames-put c)
 
 put-zeros-requires : tie.Need-put-zeros-requires
-put-zeros-requires c κs = omega (arith, put-told c)
+put-zeros-requires c κs = omega (arith, frames-put c)
 
 add-put-header : tie.Need-add-put-header
-add-put-header c = omega (arith, put-told (c .before .before .before .before))
+add-put-header c = omega (arith, frames-put (c .before .before .before .before))
 
 put-header-requires : tie.Need-put-header-requires
 put-header-requires c κs =
-    let frames-put = c .before .before .before .before in
-    let at-start = frames-put .before .before .before .before .before .before .before .before .before .before in
+    let at-zeros = c .before .before .before .before in
+    let at-put = at-zeros .before .before in
+    let at-start = start (at-put .before .before .before .before) in
     let a = at-start .args in
-    omega (arith, put-told frames-put, region-length (a .version) (a .mode) (a .padding) (take (a .used) (a .buffer .now)), at-start .pre)
+    omega (arith, frames-put at-zeros, region-length (a .version) (a .mode) (a .padding) (take (a .used) (a .buffer .now)), at-start .pre)
 
 add-t16 : tie.Need-add-t16
-add-t16 c = omega (arith, put-told (c .before .before .before .before .before .before .before))
+add-t16 c =
+    let at-header = c .before .before .before in
+    omega (arith, frames-put (at-header .before .before .before .before))
 
 add-t19 : tie.Need-add-t19
-add-t19 c = omega (arith, put-told (c .before .before .before .before .before .before .before))
-
-enum-known-put-2 : tie.Need-enum-known-put-2
-enum-known-put-2 c = search needs
-
-same-length : tie.Need-same-length
-same-length c = search needs
+add-t19 c =
+    let at-header = c .before .before .before in
+    omega (arith, frames-put (at-header .before .before .before .before))
 
 returns : tie.Need-returns
 returns c =
-    let p = c .before .before .before .before .before .before .before in
-    let a = p .before .before .before .before .before .before .before .before .before .before .args in
-    tag-put (a .version) (a .mode) (a .padding) (take (a .used) (a .buffer .now)) (a .output .now) (p .before .before .before .before .before .before .put-frames .ensures) (put-told p) (c .before .before .before .before .before .before .put-zeros .ensures) (c .before .before .put-header .ensures)
-
-same-length-2 : tie.Need-same-length-2
-same-length-2 c = search needs
+    let at-header = c .before .before in
+    let at-zeros = at-header .before .before .before .before in
+    let at-put = at-zeros .before .before .before in
+    let at-frames = at-put .before .before .before .before in
+    let a = start at-frames .args in
+    tag-put (a .version) (a .mode) (a .padding) (take (a .used) (a .buffer .now)) (a .output .now) (at-frames .put-frames .ensures) (frames-put (at-zeros .before)) (at-zeros .put-zeros .ensures) (at-header .put-header .ensures)
 
 returns-2 : tie.Need-returns-2
 returns-2 c =
-    let a = c .before .before .before .before .before .before .before .before .before .args in
-    tag-refused (a .version) (a .mode) (a .padding) (take (a .used) (a .buffer .now)) (a .output .now) (c .before .before .before .before .before .put-frames .ensures) (c .before .put2 .given .1)
+    let at-put = c .before in
+    let at-frames = at-put .before .before .before .before in
+    let a = start at-frames .args in
+    tag-refused (a .version) (a .mode) (a .padding) (take (a .used) (a .buffer .now)) (a .output .now) (at-frames .put-frames .ensures) (at-put .put2 .given .1)
 
 pub put-tag-spec : {M : Type 1} → statement M
 put-tag-spec =
     tie.close
     (tie.spec
-    put-frames-requires
-    enum-known-put
+    (λ c κs. search needs)
+    (λ c. search needs)
     add-put-zeros
     put-zeros-requires
     add-put-header
     put-header-requires
     add-t16
     add-t19
-    enum-known-put-2
-    same-length
+    (λ c. search needs)
+    (λ c. search needs)
     returns
-    same-length-2
+    (λ c. search needs)
     returns-2)

@@ -17,20 +17,11 @@ abbrev μ-loop : tie.MeasureT-loop
 loop-holds : tie.Need-loop-holds Inv-loop μ-loop
 loop-holds c = (omega arith, zeros-begin (c .args .output .now) (c .args .at) (c .args .n) (c .pre))
 
-add-output : tie.Need-add-output Inv-loop μ-loop
-add-output c = search needs
-
 slice-write-output : tie.Need-slice-write-output Inv-loop μ-loop
 slice-write-output c =
     let a = c .before .before .args in
     let L = c .before .loop in
     zero-turn (a .at) (a .n) (L .i) (c .loop-test .taken) (L .inv .1) .0
-
-add-i : tie.Need-add-i Inv-loop μ-loop
-add-i c = search needs
-
-loop-less : tie.Need-loop-less Inv-loop μ-loop
-loop-less c = search needs
 
 loop-again : tie.Need-loop-again Inv-loop μ-loop
 loop-again c =
@@ -54,10 +45,10 @@ put-zeros-spec =
     Inv-loop
     μ-loop
     loop-holds
-    add-output
+    (λ c. search needs)
     slice-write-output
-    add-i
-    loop-less
+    (λ c. search needs)
+    (λ c. search needs)
     loop-again
     same-length
     returns)

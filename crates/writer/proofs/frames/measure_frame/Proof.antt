@@ -6,17 +6,12 @@ use borrow.Author.Needs.{needs}
 use Rattle.writer.proofs.frames.measure_frame.Statement.{statement}
 use Rattle.writer.proofs.frames.measure_frame.Tie as tie
 
-body-mode-requires : tie.Need-body-mode-requires
-body-mode-requires c κs = search needs
-
-measure-body-requires : tie.Need-measure-body-requires
-measure-body-requires c κs = search needs
-
 returns : tie.Need-returns
 returns c =
-    let a = c .before .before .before .before .before .before .args in
+    let at-slices = c .before .before in
+    let a = at-slices .before .before .before .before .args in
     let body = bodyBytes (contentOf (a .heading .fields) (a .name .now) (a .names .now) (a .rest .now) (a .deviations .now)) in
     rw (← stored-length (a .version) (a .mode) body (c .before .body-mode .ensures)) (c .measure-body .ensures)
 
 pub measure-frame-spec : {M : Type 1} → statement M
-measure-frame-spec = tie.close (tie.spec body-mode-requires measure-body-requires returns)
+measure-frame-spec = tie.close (tie.spec (λ c κs. search needs) (λ c κs. search needs) returns)

@@ -9,39 +9,24 @@ use borrow.Author.Needs.{needs}
 use Rattle.writer.proofs.frames.put_long.Statement.{statement}
 use Rattle.writer.proofs.frames.put_long.Tie as tie
 
-put-digits-requires : tie.Need-put-digits-requires
-put-digits-requires c κs = search needs
-
-add-put-digits : tie.Need-add-put-digits
-add-put-digits c = search needs
-
-put-digits-requires-2 : tie.Need-put-digits-requires-2
-put-digits-requires-2 c κs = search needs
-
-add-put-digits-2 : tie.Need-add-put-digits-2
-add-put-digits-2 c = search needs
-
-put-digits-requires-3 : tie.Need-put-digits-requires-3
-put-digits-requires-3 c κs = search needs
-
-same-length : tie.Need-same-length
-same-length c = search needs
-
 returns : tie.Need-returns
 returns c =
-    let a = c .before .before .before .before .before .before .before .before .before .before .before .before .before .args in
-    bytes-put (a .buffer .now) (a .at) 4 (a .id) (bytesOf 4 (a .size) ++ bytesOf 2 (a .flags)) (c .before .before .before .before .before .before .before .before .before .before .put-digits .ensures)
-    (bytes-put _ (a .at + 4) 4 (a .size) (bytesOf 2 (a .flags)) (c .before .before .before .before .before .before .put-digits2 .ensures) (c .before .before .put-digits3 .ensures) (omega arith))
+    let flags-put = c .before .before in
+    let size-put = flags-put .before .before .before .before in
+    let id-put = size-put .before .before .before .before in
+    let a = id-put .before .before .before .args in
+    bytes-put (a .buffer .now) (a .at) 4 (a .id) (bytesOf 4 (a .size) ++ bytesOf 2 (a .flags)) (id-put .put-digits .ensures)
+    (bytes-put _ (a .at + 4) 4 (a .size) (bytesOf 2 (a .flags)) (size-put .put-digits2 .ensures) (flags-put .put-digits3 .ensures) (omega arith))
     refl
 
 pub put-long-spec : {M : Type 1} → statement M
 put-long-spec =
     tie.close
     (tie.spec
-    put-digits-requires
-    add-put-digits
-    put-digits-requires-2
-    add-put-digits-2
-    put-digits-requires-3
-    same-length
+    (λ c κs. search needs)
+    (λ c. search needs)
+    (λ c κs. search needs)
+    (λ c. search needs)
+    (λ c κs. search needs)
+    (λ c. search needs)
     returns)

@@ -22,9 +22,6 @@ loop-holds c =
     let a = c .args in
     (c .pre .0, begin (a .buffer .now) (a .at) (bytesOf (a .count) (a .n)) (omega (arith, length-digits 256 (a .count) (a .n), c .pre .1)))
 
-sub-left : tie.Need-sub-left Inv-loop μ-loop
-sub-left c = search needs
-
 -- the next byte, then the others
 next : (c : tie.In-loop Inv-loop μ-loop) →
     let a = c .before .before .args in
@@ -35,12 +32,6 @@ next c =
     let L = c .before .loop in
     same-list (bytes-first (L .left) (c .before .before .args .n) (c .loop-test .taken)) (L .inv .1)
 
-mul-buffer : tie.Need-mul-buffer Inv-loop μ-loop
-mul-buffer c = omega arith
-
-shr-buffer : tie.Need-shr-buffer Inv-loop μ-loop
-shr-buffer c = omega arith
-
 cast-buffer : tie.Need-cast-buffer Inv-loop μ-loop
 cast-buffer c = record { fits = omega arith }
 
@@ -49,9 +40,6 @@ slice-write-buffer c = next-lies (next c)
 
 add-place : tie.Need-add-place Inv-loop μ-loop
 add-place c = omega (arith, slice-write-buffer c)
-
-loop-less : tie.Need-loop-less Inv-loop μ-loop
-loop-less c = search needs
 
 loop-again : tie.Need-loop-again Inv-loop μ-loop
 loop-again c = (omega arith, put (next c))
@@ -71,13 +59,13 @@ put-digits-spec =
     Inv-loop
     μ-loop
     loop-holds
-    sub-left
-    mul-buffer
-    shr-buffer
+    (λ c. search needs)
+    (λ c. omega arith)
+    (λ c. omega arith)
     cast-buffer
     slice-write-buffer
     add-place
-    loop-less
+    (λ c. search needs)
     loop-again
     same-length
     returns)

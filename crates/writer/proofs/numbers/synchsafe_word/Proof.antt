@@ -4,21 +4,6 @@ use borrow.Author.Needs.{needs}
 use Rattle.writer.proofs.numbers.synchsafe_word.Statement.{statement}
 use Rattle.writer.proofs.numbers.synchsafe_word.Tie as tie
 
-cast-encode-u32 : tie.Need-cast-encode-u32
-cast-encode-u32 c = search needs
-
-encode-u32-requires : tie.Need-encode-u32-requires
-encode-u32-requires c κs = search needs
-
-enum-known-encoded : tie.Need-enum-known-encoded
-enum-known-encoded c = search needs
-
-cast-result : tie.Need-cast-result
-cast-result c = search needs
-
-enum-told : tie.Need-enum-told
-enum-told c = search needs
-
 returns : tie.Need-returns
 returns c =
     let at-encode = c .before .before .before in
@@ -35,10 +20,10 @@ pub synchsafe-word-spec : {M : Type 1} → statement M
 synchsafe-word-spec =
     tie.close
     (tie.spec
-    cast-encode-u32
-    encode-u32-requires
-    enum-known-encoded
-    cast-result
-    enum-told
+    (λ c. search needs)
+    (λ c κs. search needs)
+    (λ c. search needs)
+    (λ c. search needs)
+    (λ c. search needs)
     returns
     returns-2)

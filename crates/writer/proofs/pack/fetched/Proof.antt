@@ -19,12 +19,6 @@ abbrev μ-loop : tie.MeasureT-loop
 loop-holds : tie.Need-loop-holds Inv-loop μ-loop
 loop-holds c = (c .before .pre .0, refl)
 
-sub-t11 : tie.Need-sub-t11 Inv-loop μ-loop
-sub-t11 c = search needs
-
-shl-t12 : tie.Need-shl-t12 Inv-loop μ-loop
-shl-t12 c = search needs
-
 returns : tie.Need-returns Inv-loop μ-loop
 returns c =
     let s = c .before .before .before .before in
@@ -36,31 +30,11 @@ returns c =
       filled-left (s .args .ds .now) (L .acc) (L .have) (L .i) (L .a) (L .b) none few (L .inv .0) (rw (L .inv .1) (s .pre .1)) ∙ L .inv .1,
     )
 
-shl-acc : tie.Need-shl-acc Inv-loop μ-loop
-shl-acc c = search needs
-
-mul-half : tie.Need-mul-half Inv-loop μ-loop
-mul-half c = search needs
-
-shared-slice-read-half : tie.Need-shared-slice-read-half Inv-loop μ-loop
-shared-slice-read-half c = search needs
-
-half-requires : tie.Need-half-requires Inv-loop μ-loop
-half-requires c κs = search needs
-
-add-have : tie.Need-add-have Inv-loop μ-loop
-add-have c = search needs
-
-add-i : tie.Need-add-i Inv-loop μ-loop
-add-i c = search needs
-
-loop-less : tie.Need-loop-less Inv-loop μ-loop
-loop-less c = search needs
-
 loop-again : tie.Need-loop-again Inv-loop μ-loop
 loop-again c =
-    let ds = c .before .before .before .before .before .before .args .ds .now in
-    let L = c .before .before .before .before .loop in
+    let at-loop = c .before .before .before .before in
+    let ds = at-loop .before .before .args .ds .now in
+    let L = at-loop .loop in
     let there = c .before .before .if1 .left in
     let few = c .before .before .before .loop-test .taken in (
       taken-ready ds (L .acc) (L .have) (L .i) (L .a) (L .b) (c .half .result) there (c .half .ensures .0) few (L .inv .0),
@@ -77,15 +51,15 @@ fetched-spec =
     Inv-loop
     μ-loop
     loop-holds
-    sub-t11
-    shl-t12
+    (λ c. search needs)
+    (λ c. search needs)
     returns
-    shl-acc
-    mul-half
-    shared-slice-read-half
-    half-requires
-    add-have
-    add-i
-    loop-less
+    (λ c. search needs)
+    (λ c. search needs)
+    (λ c. search needs)
+    (λ c κs. search needs)
+    (λ c. search needs)
+    (λ c. search needs)
+    (λ c. search needs)
     loop-again
     returns-2)

@@ -11,9 +11,6 @@ use borrow.Author.Needs.{needs}
 use Rattle.writer.proofs.pack.measure_packed.Statement.{statement}
 use Rattle.writer.proofs.pack.measure_packed.Tie as tie
 
-packed-len-requires : tie.Need-packed-len-requires
-packed-len-requires c κs = search needs
-
 returns : tie.Need-returns
 returns c =
     let a = c .before .before .before .args in
@@ -22,28 +19,11 @@ returns c =
 returns-2 : tie.Need-returns-2
 returns-2 c = inr (omega arith)
 
-enum-told : tie.Need-enum-told
-enum-told c = search needs
-
-add-result : tie.Need-add-result
-add-result c = search needs
-
-enum-told-2 : tie.Need-enum-told-2
-enum-told-2 c = search needs
-
-pace-packed-requires : tie.Need-pace-packed-requires
-pace-packed-requires c κs = search needs
-
-enum-told-3 : tie.Need-enum-told-3
-enum-told-3 c = search needs
-
-pace-packed-requires-2 : tie.Need-pace-packed-requires-2
-pace-packed-requires-2 c κs = search needs
-
 returns-3 : tie.Need-returns-3
 returns-3 c =
-    let a = c .before .before .before .before .before .before .args in
-    inl (omega (arith, c .before .before .before .before .packed-len .ensures, ap length (off-bytes (c .enum-told .given .1) (a .pen .prev) (pack (a .v) (a .w) (a .ds .now)))))
+    let at-len = c .before .before .before .before in
+    let a = at-len .before .before .args in
+    inl (omega (arith, at-len .packed-len .ensures, ap length (off-bytes (c .enum-told .given .1) (a .pen .prev) (pack (a .v) (a .w) (a .ds .now)))))
 
 returns-4 : tie.Need-returns-4
 returns-4 c = paced-sized (c .pace-packed .ensures)
@@ -55,15 +35,15 @@ pub measure-packed-spec : {M : Type 1} → statement M
 measure-packed-spec =
     tie.close
     (tie.spec
-    packed-len-requires
+    (λ c κs. search needs)
     returns
     returns-2
-    enum-told
-    add-result
-    enum-told-2
-    pace-packed-requires
-    enum-told-3
-    pace-packed-requires-2
+    (λ c. search needs)
+    (λ c. search needs)
+    (λ c. search needs)
+    (λ c κs. search needs)
+    (λ c. search needs)
+    (λ c κs. search needs)
     returns-3
     returns-4
     returns-5)

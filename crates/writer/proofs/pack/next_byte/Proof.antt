@@ -7,18 +7,6 @@ use borrow.Author.Needs.{needs}
 use Rattle.writer.proofs.pack.next_byte.Statement.{statement}
 use Rattle.writer.proofs.pack.next_byte.Tie as tie
 
-fetched-requires : tie.Need-fetched-requires
-fetched-requires c κs = search needs
-
-sub-have : tie.Need-sub-have
-sub-have c = search needs
-
-shr-t5 : tie.Need-shr-t5
-shr-t5 c = search needs
-
-cast-t7 : tie.Need-cast-t7
-cast-t7 c = search needs
-
 returns : tie.Need-returns
 returns c =
     let ds = c .before .before .before .before .args .ds .now in
@@ -28,4 +16,4 @@ returns c =
     (out-ready ds full (e .1) (e .0), sym (e .2) ∙ byte (full .have) (full .acc) (spread (full .a) (full .b) (drop (full .i) ds)) (e .1))
 
 pub next-byte-spec : {M : Type 1} → statement M
-next-byte-spec = tie.close (tie.spec fetched-requires sub-have shr-t5 cast-t7 returns)
+next-byte-spec = tie.close (tie.spec (λ c κs. search needs) (λ c. search needs) (λ c. search needs) (λ c. search needs) returns)

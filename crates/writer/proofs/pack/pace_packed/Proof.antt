@@ -32,19 +32,11 @@ loop-holds c =
 next-byte-requires : tie.Need-next-byte-requires Inv-loop μ-loop
 next-byte-requires c κs = (c .before .loop .inv .0, omega (arith, c .before .loop .inv .1))
 
-measure-byte-requires : tie.Need-measure-byte-requires Inv-loop μ-loop
-measure-byte-requires c κs = search needs
-
-add-k : tie.Need-add-k Inv-loop μ-loop
-add-k c = search needs
-
-loop-less : tie.Need-loop-less Inv-loop μ-loop
-loop-less c = search needs
-
 loop-again : tie.Need-loop-again Inv-loop μ-loop
 loop-again c =
-    let a = c .before .before .before .before .before .before .args in
-    let L = c .before .before .before .before .loop in
+    let at-loop = c .before .before .before .before in
+    let a = at-loop .before .before .args in
+    let L = at-loop .loop in
     let n = c .before .before .next-byte in
     let e = n .ensures in (
       e .0,
@@ -69,8 +61,8 @@ pace-packed-spec =
     μ-loop
     loop-holds
     next-byte-requires
-    measure-byte-requires
-    add-k
-    loop-less
+    (λ c κs. search needs)
+    (λ c. search needs)
+    (λ c. search needs)
     loop-again
     returns)

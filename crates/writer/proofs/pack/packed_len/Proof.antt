@@ -9,12 +9,6 @@ use borrow.Author.Needs.{needs}
 use Rattle.writer.proofs.pack.packed_len.Statement.{statement}
 use Rattle.writer.proofs.pack.packed_len.Tie as tie
 
-add-sum : tie.Need-add-sum
-add-sum c = search needs
-
-cast-sum : tie.Need-cast-sum
-cast-sum c = search needs
-
 -- both widths
 sum : (c : tie.Start) → c .args .v + c .args .w ≤ 64
 sum c = omega (arith, c .pre .first, c .pre .second)
@@ -45,4 +39,4 @@ returns c =
 
 pub packed-len-spec : {M : Type 1} → statement M
 packed-len-spec =
-    tie.close (tie.spec add-sum cast-sum mul-result mul-result-2 add-result add-result-2 returns)
+    tie.close (tie.spec (λ c. search needs) (λ c. search needs) mul-result mul-result-2 add-result add-result-2 returns)

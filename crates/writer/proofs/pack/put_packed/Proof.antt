@@ -19,9 +19,6 @@ Inv-loop buffer₀ mode ds v w n bits₀ next₀ k₀ buffer bits next k =
 abbrev μ-loop : tie.MeasureT-loop
 μ-loop buffer₀ mode ds v w n bits₀ next₀ k₀ buffer bits next k = n - k
 
-packed-len-requires : tie.Need-packed-len-requires Inv-loop μ-loop
-packed-len-requires c κs = search needs
-
 loop-holds : tie.Need-loop-holds Inv-loop μ-loop
 loop-holds c =
     let s = c .before .before .before in
@@ -38,25 +35,22 @@ next-byte-requires c κs = (c .before .loop .inv .0, omega (arith, c .before .lo
 put-byte-requires : tie.Need-put-byte-requires Inv-loop μ-loop
 put-byte-requires c κs = lies (same-list (c .before .next-byte .ensures .1) (c .before .before .before .loop .inv .2))
 
-add-k : tie.Need-add-k Inv-loop μ-loop
-add-k c = search needs
-
-loop-less : tie.Need-loop-less Inv-loop μ-loop
-loop-less c = search needs
-
 loop-again : tie.Need-loop-again Inv-loop μ-loop
 loop-again c =
-    let L = c .before .before .before .before .before .before .before .loop in
-    let e = c .before .before .before .before .before .next-byte .ensures in
-    (e .0, omega (arith, L .inv .1, ap length (e .1)), put (same-list (e .1) (L .inv .2)) (c .before .before .before .put-byte .ensures))
+    let at-put = c .before .before .before in
+    let at-byte = at-put .before .before in
+    let L = at-byte .before .before .loop in
+    let e = at-byte .next-byte .ensures in
+    (e .0, omega (arith, L .inv .1, ap length (e .1)), put (same-list (e .1) (L .inv .2)) (at-put .put-byte .ensures))
 
 same-length : tie.Need-same-length Inv-loop μ-loop
 same-length c = c .before .loop .inv .2 .long
 
 returns : tie.Need-returns Inv-loop μ-loop
 returns c =
-    let L = c .before .loop in
-    done (same-list (drop-none (left (L .bits) (c .before .before .before .before .before .args .ds .now)) 0 (omega (arith, L .inv .1))) (L .inv .2))
+    let at-loop = c .before in
+    let L = at-loop .loop in
+    done (same-list (drop-none (left (L .bits) (at-loop .before .before .before .before .args .ds .now)) 0 (omega (arith, L .inv .1))) (L .inv .2))
 
 pub put-packed-spec : {M : Type 1} → statement M
 put-packed-spec =
@@ -64,12 +58,12 @@ put-packed-spec =
     (tie.spec
     Inv-loop
     μ-loop
-    packed-len-requires
+    (λ c κs. search needs)
     loop-holds
     next-byte-requires
     put-byte-requires
-    add-k
-    loop-less
+    (λ c. search needs)
+    (λ c. search needs)
     loop-again
     same-length
     returns)

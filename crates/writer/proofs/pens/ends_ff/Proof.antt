@@ -4,12 +4,6 @@ use borrow.Author.Needs.{needs}
 use Rattle.writer.proofs.pens.ends_ff.Statement.{statement}
 use Rattle.writer.proofs.pens.ends_ff.Tie as tie
 
-sub-result : tie.Need-sub-result
-sub-result c = search needs
-
-shared-slice-read-result : tie.Need-shared-slice-read-result
-shared-slice-read-result c = search needs
-
 returns : tie.Need-returns
 returns c = ends-none (c .before .args .prev) (c .before .args .s .now) (c .if1 .taken)
 
@@ -17,4 +11,4 @@ returns-2 : tie.Need-returns-2
 returns-2 c = ends-last (c .before .before .args .prev) (c .before .before .args .s .now) (c .before .if1 .left)
 
 pub ends-ff-spec : {M : Type 1} → statement M
-ends-ff-spec = tie.close (tie.spec sub-result shared-slice-read-result returns returns-2)
+ends-ff-spec = tie.close (tie.spec (λ c. search needs) (λ c. search needs) returns returns-2)

@@ -11,15 +11,6 @@ use Rattle.writer.proofs.pens.measure_byte.Tie as tie
 returns : tie.Need-returns
 returns c = inr (omega arith)
 
-is-guarded-requires : tie.Need-is-guarded-requires
-is-guarded-requires c κs = search needs
-
-add-t8 : tie.Need-add-t8
-add-t8 c = search needs
-
-add-t10 : tie.Need-add-t10
-add-t10 c = search needs
-
 returns-2 : tie.Need-returns-2
 returns-2 c =
     let a = c .before .before .before .args in
@@ -32,4 +23,4 @@ returns-3 c =
 
 pub measure-byte-spec : {M : Type 1} → statement M
 measure-byte-spec =
-    tie.close (tie.spec returns is-guarded-requires add-t8 add-t10 returns-2 returns-3)
+    tie.close (tie.spec returns (λ c κs. search needs) (λ c. search needs) (λ c. search needs) returns-2 returns-3)

@@ -18,16 +18,10 @@ returns-2 c =
     let a = c .before .before .before .args in
     inr (omega (arith, unsync-longer (guards (a .mode)) (a .pen .prev) (a .s .now)))
 
-unsync-len-requires : tie.Need-unsync-len-requires
-unsync-len-requires c κs = search needs
-
 add-t9 : tie.Need-add-t9
 add-t9 c =
     let a = c .before .before .before .before .args in
     omega (arith, count-all (a .mode) (a .pen .prev) (a .s .now) (c .unsync-len .ensures) .1)
-
-ends-ff-requires : tie.Need-ends-ff-requires
-ends-ff-requires c κs = search needs
 
 returns-3 : tie.Need-returns-3
 returns-3 c =
@@ -38,4 +32,4 @@ returns-3 c =
 pub measure-bytes-spec : {M : Type 1} → statement M
 measure-bytes-spec =
     tie.close
-    (tie.spec returns returns-2 unsync-len-requires add-t9 ends-ff-requires returns-3)
+    (tie.spec returns returns-2 (λ c κs. search needs) add-t9 (λ c κs. search needs) returns-3)

@@ -29,23 +29,11 @@ plain c =
     let a = at-start .args in
     same-list (byte-bytes (a .mode) (a .pen) (a .b) false (sym (c .if1 .left) ∙ at-test .is-guarded .ensures)) (begin _ _ _ (at-start .pre))
 
-is-guarded-requires : tie.Need-is-guarded-requires
-is-guarded-requires c κs = search needs
-
 slice-write-buffer : tie.Need-slice-write-buffer
 slice-write-buffer c = next-lies (guarded c)
 
-add-next : tie.Need-add-next
-add-next c = search needs
-
 slice-write-buffer-2 : tie.Need-slice-write-buffer-2
 slice-write-buffer-2 c = next-lies (put (guarded c))
-
-add-t10 : tie.Need-add-t10
-add-t10 c = search needs
-
-same-length : tie.Need-same-length
-same-length c = search needs
 
 returns : tie.Need-returns
 unfolding endsFF
@@ -55,12 +43,6 @@ returns c =
 
 slice-write-buffer-3 : tie.Need-slice-write-buffer-3
 slice-write-buffer-3 c = next-lies (plain c)
-
-add-t13 : tie.Need-add-t13
-add-t13 c = search needs
-
-same-length-2 : tie.Need-same-length-2
-same-length-2 c = search needs
 
 returns-2 : tie.Need-returns-2
 unfolding endsFF
@@ -72,14 +54,14 @@ pub put-byte-spec : {M : Type 1} → statement M
 put-byte-spec =
     tie.close
     (tie.spec
-    is-guarded-requires
+    (λ c κs. search needs)
     slice-write-buffer
-    add-next
+    (λ c. search needs)
     slice-write-buffer-2
-    add-t10
-    same-length
+    (λ c. search needs)
+    (λ c. search needs)
     returns
     slice-write-buffer-3
-    add-t13
-    same-length-2
+    (λ c. search needs)
+    (λ c. search needs)
     returns-2)

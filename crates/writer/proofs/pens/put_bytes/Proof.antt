@@ -5,12 +5,6 @@ use borrow.Author.Needs.{needs}
 use Rattle.writer.proofs.pens.put_bytes.Statement.{statement}
 use Rattle.writer.proofs.pens.put_bytes.Tie as tie
 
-unsync-into-requires : tie.Need-unsync-into-requires
-unsync-into-requires c κs = search needs
-
-enum-known-put : tie.Need-enum-known-put
-enum-known-put c = search needs
-
 add-t13 : tie.Need-add-t13
 add-t13 c =
     let at-put = c .before in
@@ -19,15 +13,6 @@ add-t13 c =
     let a = at-start .args in
     omega (arith, count-put (a .mode) (a .pen) (a .s .now) (a .buffer .now) (at-start .pre) (at-into .unsync-into .ensures) (at-put .put .given .1), at-start .pre)
 
-ends-ff-requires : tie.Need-ends-ff-requires
-ends-ff-requires c κs = search needs
-
-enum-told : tie.Need-enum-told
-enum-told c = search needs
-
-same-length : tie.Need-same-length
-same-length c = search needs
-
 returns : tie.Need-returns
 returns c =
     let at-put = c .before .before in
@@ -35,9 +20,6 @@ returns c =
     let at-start = at-into .before .before .before .before in
     let a = at-start .args in
     bytes-put (a .mode) (a .pen) (a .s .now) (a .buffer .now) (at-start .pre) (at-into .unsync-into .ensures) (at-put .put .given .1) (c .ends-ff .ensures)
-
-same-length-2 : tie.Need-same-length-2
-same-length-2 c = search needs
 
 returns-2 : tie.Need-returns-2
 returns-2 c =
@@ -50,12 +32,12 @@ pub put-bytes-spec : {M : Type 1} → statement M
 put-bytes-spec =
     tie.close
     (tie.spec
-    unsync-into-requires
-    enum-known-put
+    (λ c κs. search needs)
+    (λ c. search needs)
     add-t13
-    ends-ff-requires
-    enum-told
-    same-length
+    (λ c κs. search needs)
+    (λ c. search needs)
+    (λ c. search needs)
     returns
-    same-length-2
+    (λ c. search needs)
     returns-2)

@@ -6,49 +6,25 @@ use borrow.Author.Needs.{needs}
 use Rattle.writer.proofs.small.chapter.Statement.{statement}
 use Rattle.writer.proofs.small.chapter.Tie as tie
 
-slice-aggregate-put-digits : tie.Need-slice-aggregate-put-digits
-slice-aggregate-put-digits c = search needs
-
-put-digits-requires : tie.Need-put-digits-requires
-put-digits-requires c κs = search needs
-
-slice-aggregate-put-digits-2 : tie.Need-slice-aggregate-put-digits-2
-slice-aggregate-put-digits-2 c = search needs
-
-put-digits-requires-2 : tie.Need-put-digits-requires-2
-put-digits-requires-2 c κs = search needs
-
-slice-aggregate-put-digits-3 : tie.Need-slice-aggregate-put-digits-3
-slice-aggregate-put-digits-3 c = search needs
-
-put-digits-requires-3 : tie.Need-put-digits-requires-3
-put-digits-requires-3 c κs = search needs
-
-slice-aggregate-put-digits-4 : tie.Need-slice-aggregate-put-digits-4
-slice-aggregate-put-digits-4 c = search needs
-
-put-digits-requires-4 : tie.Need-put-digits-requires-4
-put-digits-requires-4 c κs = search needs
-
 returns : tie.Need-returns
 unfolding digits
 returns c =
-    let e = c .before .before .before .before .before .before .before .before .before .before .put-digits .ensures in
-    let f = c .before .before .before .before .before .before .before .put-digits2 .ensures in
-    let g = c .before .before .before .before .put-digits3 .ensures in
-    let h = c .before .put-digits4 .ensures in
-    rw (h, g, f, e) (record { is = refl; fits = omega arith })
+    let fourth = c .before in
+    let third = fourth .before .before .before in
+    let second = third .before .before .before in
+    let first = second .before .before .before in
+    rw (fourth .put-digits4 .ensures, third .put-digits3 .ensures, second .put-digits2 .ensures, first .put-digits .ensures) (record { is = refl; fits = omega arith })
 
 pub chapter-spec : {M : Type 1} → statement M
 chapter-spec =
     tie.close
     (tie.spec
-    slice-aggregate-put-digits
-    put-digits-requires
-    slice-aggregate-put-digits-2
-    put-digits-requires-2
-    slice-aggregate-put-digits-3
-    put-digits-requires-3
-    slice-aggregate-put-digits-4
-    put-digits-requires-4
+    (λ c. search needs)
+    (λ c κs. search needs)
+    (λ c. search needs)
+    (λ c κs. search needs)
+    (λ c. search needs)
+    (λ c κs. search needs)
+    (λ c. search needs)
+    (λ c κs. search needs)
     returns)

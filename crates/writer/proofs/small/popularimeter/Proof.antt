@@ -8,15 +8,6 @@ use borrow.Author.Needs.{needs}
 use Rattle.writer.proofs.small.popularimeter.Statement.{statement}
 use Rattle.writer.proofs.small.popularimeter.Tie as tie
 
-array-write-bytes : tie.Need-array-write-bytes
-array-write-bytes c = search needs
-
-slice-aggregate-put-counter : tie.Need-slice-aggregate-put-counter
-slice-aggregate-put-counter c = search needs
-
-put-counter-requires : tie.Need-put-counter-requires
-put-counter-requires c κs = search needs
-
 add-t10 : tie.Need-add-t10
 add-t10 c =
     let s = c .before .before .before in
@@ -32,4 +23,4 @@ returns c =
 pub popularimeter-spec : {M : Type 1} → statement M
 popularimeter-spec =
     tie.close
-    (tie.spec array-write-bytes slice-aggregate-put-counter put-counter-requires add-t10 returns)
+    (tie.spec (λ c. search needs) (λ c. search needs) (λ c κs. search needs) add-t10 returns)

@@ -5,42 +5,6 @@ use Rattle.format.specs.Bytes.{zerosIn}
 use Rattle.writer.proofs.small.small_of.Statement.{statement}
 use Rattle.writer.proofs.small.small_of.Tie as tie
 
-enum-known-fields : tie.Need-enum-known-fields
-enum-known-fields c = search needs
-
-text-requires : tie.Need-text-requires
-text-requires c κs = search needs
-
-enum-known-fields-2 : tie.Need-enum-known-fields-2
-enum-known-fields-2 c = search needs
-
-popularimeter-requires : tie.Need-popularimeter-requires
-popularimeter-requires c κs = search needs
-
-enum-known-fields-3 : tie.Need-enum-known-fields-3
-enum-known-fields-3 c = search needs
-
-table-requires : tie.Need-table-requires
-table-requires c κs = search needs
-
-enum-known-fields-4 : tie.Need-enum-known-fields-4
-enum-known-fields-4 c = search needs
-
-chapter-requires : tie.Need-chapter-requires
-chapter-requires c κs = search needs
-
-enum-known-fields-5 : tie.Need-enum-known-fields-5
-enum-known-fields-5 c = search needs
-
-contents-requires : tie.Need-contents-requires
-contents-requires c κs = search needs
-
-enum-told : tie.Need-enum-told
-enum-told c = search needs
-
-none-requires : tie.Need-none-requires
-none-requires c κs = search needs
-
 returns : tie.Need-returns
 returns c name names rest ds e = rw (c .before .before .fields .given .1) (c .text .ensures)
 
@@ -66,18 +30,18 @@ pub small-of-spec : {M : Type 1} → statement M
 small-of-spec =
     tie.close
     (tie.spec
-    enum-known-fields
-    text-requires
-    enum-known-fields-2
-    popularimeter-requires
-    enum-known-fields-3
-    table-requires
-    enum-known-fields-4
-    chapter-requires
-    enum-known-fields-5
-    contents-requires
-    enum-told
-    none-requires
+    (λ c. search needs)
+    (λ c κs. search needs)
+    (λ c. search needs)
+    (λ c κs. search needs)
+    (λ c. search needs)
+    (λ c κs. search needs)
+    (λ c. search needs)
+    (λ c κs. search needs)
+    (λ c. search needs)
+    (λ c κs. search needs)
+    (λ c. search needs)
+    (λ c κs. search needs)
     returns
     returns-2
     returns-3
