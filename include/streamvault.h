@@ -12,7 +12,7 @@
  *   then null.
  * - A buffer that a call may change (one without const) must not overlap another buffer of the same call.
  * - What a tag, a reader, a meter, a record or a writer is lies in words of 64 bits, at the places named below. More words
- *   may be lent than named; those behind are never changed. Fewer are refused with SV_NO_ROOM, and nothing at all is
+ *   may be lent than named; those after are never changed. Fewer are refused with SV_NO_ROOM, and nothing at all is
  *   changed.
  * - No call trusts what it is lent. Words that no call leaves are refused: those of a reader, of a meter or of a writer
  *   with SV_UNKNOWN_VERSION, those of a record with the refusal that speaks of the field, and with SV_WRONG_ID where none
@@ -79,7 +79,7 @@ extern "C" {
 #define SV_HEADER_WORDS 4
 #define SV_HEADER_VERSION 0 /* 2, 3 or 4, for 2.2, 2.3 and 2.4 */
 #define SV_HEADER_FLAGS 1   /* the flag byte */
-#define SV_HEADER_SIZE 2    /* bytes of the tag behind its ten header bytes */
+#define SV_HEADER_SIZE 2    /* bytes of the tag after its ten header bytes */
 #define SV_HEADER_EXT 3     /* the extended header's size, 0 without one */
 
 /* ---- the words of a reader */
@@ -89,7 +89,7 @@ extern "C" {
 #define SV_READER_IN_WORK 1 /* 1 where the frames lie in the work buffer, 0 where they lie in the tag */
 #define SV_READER_BEGIN 2   /* the place of the first frame byte in that buffer */
 #define SV_READER_AT 3      /* the place of the next frame */
-#define SV_READER_END 4     /* the place behind the last frame byte */
+#define SV_READER_END 4     /* the place after the last frame byte */
 #define SV_READER_STOP 5    /* one of SV_STOP_... */
 #define SV_READER_NUMBER 6  /* the refusal, where the reader was refused; else 0 */
 
@@ -220,7 +220,7 @@ uint32_t sv_meter_open(const uint8_t *tag, size_t tag_len, uint8_t *work, size_t
  *
  * Where it answers SV_END and none of the meter's three marks is set, every popularimeter of the top level was shown. The
  * bytes from SV_METER_AT to SV_METER_END, of the work buffer where SV_METER_IN_WORK is 1 and else of the tag, are then what
- * stands behind the end of the frames: padding as a rule, and nothing that is read.
+ * stands after the end of the frames: padding as a rule, and nothing that is read.
  */
 uint32_t sv_meter_next(const uint8_t *tag, size_t tag_len, uint8_t *work, size_t work_len, uint64_t *meter, size_t meter_len,
                        uint64_t *metered, size_t metered_len);

@@ -470,11 +470,11 @@ TWO_RUN = "58595A57 00000004 0002 FF00E007" + "58595A57 00000003 0002 FF0008"
 case("flagged chapter, siblings behind it", 4, TWO, chapter("", TWO_RUN, Z4, work=True), room=60, left=ZEROS17 + TWO_RUN + "FF0807")
 case("flagged chapter, siblings behind it, exactly full", 4, TWO, chapter("", TWO_RUN, Z4, work=True), room=47, left=ZEROS17 + TWO_RUN + "FF0807")
 case("flagged chapter, siblings behind it, one too small", 4, TWO, refused(14), room=46, left=ZEROS17 + TWO_RUN)
-# a plain chapter (depth 2) in a flagged one: what is flagged in it still lies behind the outermost
+# a plain chapter (depth 2) in a flagged one: what is flagged in it still lies after the outermost
 PLAIN_IN = f4(b"CHAP", SHOWN + f4(b"CHAP", SHOWN + H("58595A57 00000003 0002 FF000008"), size=30), 0x0002)
 PLAIN_RUN = "43484150 0000001E 0000" + ZEROS17 + "58595A57 00000003 0002 FF0008"
 case("plain chapter in a flagged one", 4, PLAIN_IN, chapter("", PLAIN_RUN, Z4, work=True), room=60, left=ZEROS17 + PLAIN_RUN + "FF08")
-# a flagged chapter (depth 2) in a plain one lies at the front of the room, and what is flagged in it behind it
+# a flagged chapter (depth 2) in a plain one lies at the front of the room, and what is flagged in it after it
 IN_PLAIN = f4(b"CHAP", SHOWN + f4(b"CHAP", SHOWN + H("58595A57 00000003 0002 FF000008"), 0x0002))
 IN_RUN = "43484150 0000001F 0002" + ZEROS17 + "58595A57 00000003 0002 FF000008"
 case("flagged chapter in a plain one", 4, IN_PLAIN, chapter("", IN_RUN, Z4), room=32, left=ZEROS17 + "58595A57 00000003 0002 FF0008" + "FF08")
@@ -486,7 +486,7 @@ THREE_2 = ZEROS17 + "58595A57 00000003 0002 FF0008"
 case("flagged in flagged in flagged, full", 4, THREE, chapter("", THREE_1[34:], Z4, work=True), room=58 + 30 + 2, left=THREE_1 + THREE_2 + "FF08")
 case("flagged in flagged in flagged, one too small", 4, THREE, refused(14), room=58 + 30 + 1, left=THREE_1 + THREE_2)
 case("flagged in flagged in flagged, the second does not fit", 4, THREE, refused(14), room=58 + 29, left=THREE_1)
-# behind a resynchronised chapter comes a sibling: it takes the place of the chapter
+# after a resynchronised chapter comes a sibling: it takes the place of the chapter
 AFTER = f4(b"CHAP", SHOWN + f4(b"CHAP", SHOWN, 0x0002) + R2)
 case("a sibling of a flagged chapter takes its place", 4, AFTER, chapter("", (f4(b"CHAP", SHOWN, 0x0002) + R2).hex(), Z4), room=17, left="FF08" + "00" * 15)
 case("flagged contents with a child", 4, f4(b"CTOC", ctoc(b"a", 3, 1, b"b\0"), 0x0002), contents("61", 1, 1, "6200", "", work=True), left="610003016200")
@@ -498,7 +498,7 @@ case("2.3 chapter, subframe 0002 is no flag", 3, f3(b"CHAP", chap(b"a", f3(b"XYZ
 case("flagged at depth 8", 4, nest(f4, 7, R2), chapter("", nest(f4, 6, R2).hex()), left="FF08")
 case("flagged at depth 9", 4, nest(f4, 8, R2), refused(13))
 
-# ---- places: the frame behind others, the end before the bytes', buffers of the work
+# ---- places: the frame after others, the end before the bytes', buffers of the work
 
 TWO4 = f4(b"XYZW", b"\x07") + f4(b"POPM", H("61 00 05 01"))
 case("2.4 the second frame", 4, TWO4, pop("61", 5, 1), at=11)

@@ -232,7 +232,7 @@ case(
     work=12,
 )
 
-# ---- tags that are cut, and bytes behind a tag
+# ---- tags that are cut, and bytes after a tag
 
 case(
     "2.4, the slice ends in a body",

@@ -143,7 +143,7 @@ for version, x, header, stored in [(2, b"XYZ", 6, 6), (3, b"XYZW", 10, 6), (4, b
     case("work buffer just long enough", version, STANDARD, raw(x, FFS), SAME, work=just)
     case("work buffer one byte too short", version, CRATE, raw(x, FFS), LOST, work=just - 1)
     case("no work buffer", version, STANDARD, raw(x, FFS), LOST, work=0)
-# padding is not guarded: its first byte is dropped behind the last FF
+# padding is not guarded: its first byte is dropped after the last FF
 case("work buffer just long enough, padded", 3, CRATE, raw(b"XYZW", FFS), SAME, padding=7, work=15 + 7 - 1)
 case("work buffer one byte too short, padded", 3, CRATE, raw(b"XYZW", FFS), LOST, padding=7, work=15 + 7 - 2)
 case("work buffer just long enough, padded", 4, CRATE, raw(b"XYZW", FFS), SAME, padding=7, work=5)

@@ -67,7 +67,7 @@ pub fn synchsafe(rng: &mut Rng, n: usize) -> [u8; 4] {
     out
 }
 
-/// A 00 behind each FF before 00, or, by the other rule, before E0 and above too.
+/// A 00 after each FF before 00, or, by the other rule, before E0 and above too.
 pub fn unsynchronised(bytes: &[u8], standard: bool) -> Vec<u8> {
     let mut out = Vec::with_capacity(bytes.len() + 4);
     for (i, byte) in bytes.iter().enumerate() {

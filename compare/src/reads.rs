@@ -153,7 +153,7 @@ impl Comparison<'_> {
         }
     }
 
-    // both show a frame, or the crate goes on behind one that it refuses
+    // both show a frame, or the crate goes on after one that it refuses
     fn both(&mut self, edition: u8, item: &Item, frame: &Frame, level: &mut Level) {
         level.height = level.height.max(1);
         self.must(item.at == frame.at, "a frame's place");

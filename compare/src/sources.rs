@@ -1,4 +1,4 @@
-//! Where the tags of a run come from: generated ones, every short input behind a header, every cut of good tags.
+//! Where the tags of a run come from: generated ones, every short input after a header, every cut of good tags.
 use crate::tags;
 
 /// A numbered stock of tags.
@@ -7,13 +7,13 @@ pub enum Source {
     Generated { seed: u64, count: u64 },
     /// So many generated tags with a long body.
     Large { seed: u64, count: u64 },
-    /// Every input of at most so many bytes behind each of some headers.
+    /// Every input of at most so many bytes after each of some headers.
     Short(Vec<Short>),
     /// Every cut of good tags: the tags, and how many cuts come before each.
     Cuts { tags: Vec<Vec<u8>>, before: Vec<u64> },
 }
 
-/// A header, which every input is put behind, and what follows the input.
+/// A header, which every input is put after, and what follows the input.
 #[derive(Clone)]
 pub struct Short {
     /// What it is, for the report.
@@ -116,7 +116,7 @@ fn behind(name: &str, head: &[&[u8]], tail: &[u8], most: u32) -> Short {
     Short { name: name.to_string(), head: head.concat(), tail: tail.to_vec(), most }
 }
 
-/// The headers. Inputs behind the first ones have up to `most` bytes, behind the others up to two.
+/// The headers. Inputs after the first ones have up to `most` bytes, after the others up to two.
 pub fn shorts(most: u32) -> Vec<Source> {
     let first = [
         behind(

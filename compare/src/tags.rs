@@ -73,7 +73,7 @@ fn whole(maker: &mut Frames) -> Vec<u8> {
     let mut out = header(rng, edition, flags, region.len());
     out.extend(region);
     if rng.one_in(8) {
-        // behind the tag's end, or inside it where the size says more
+        // after the tag's end, or inside it where the size says more
         let more = maker.frame(1);
         out.extend(more);
     }

@@ -2,7 +2,7 @@
 use crate::answers::{Entry, Frame, Header, Order, Seen, Stop, Written};
 use std::io::{self, Read, Write};
 
-/// Puts numbers and bytes one behind the other.
+/// Puts numbers and bytes one after the other.
 #[derive(Default)]
 pub struct Put(pub Vec<u8>);
 

@@ -15,7 +15,7 @@ const FAR: usize = 1 << 14;
 type Given = (Record, Vec<u8>);
 
 impl Comparison<'_> {
-    /// Has the records written, each refusal being foretold; what was accepted is written by the crate too and compared.
+    /// Has the records written, each refusal worked out beforehand; what was accepted is written by the crate too and compared.
     pub fn list(&mut self, list: &List) {
         let mut given = Vec::new();
         for record in &list.records {
@@ -36,7 +36,7 @@ impl Comparison<'_> {
         }
     }
 
-    // the records that were accepted; each answer must be the foretold one
+    // the records that were accepted; each answer must be the expected one
     fn accepted(&mut self, list: &List, given: Vec<Given>, written: &Written) -> Vec<Given> {
         self.must(written.clean, "bytes or counts are changed that should not be");
         let mut out = Vec::new();

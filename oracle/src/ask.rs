@@ -38,7 +38,7 @@ pub struct Header {
 /// One frame.
 #[derive(Clone, Debug, PartialEq, Eq)]
 pub struct Item {
-    /// Its number among its siblings, behind those of the chapters around it.
+    /// Its number among its siblings, after those of the chapters around it.
     pub path: Vec<usize>,
     /// Its place, counted from the first frame byte (after resynchronising), or from its chapter's first subframe byte.
     pub at: usize,
@@ -128,12 +128,12 @@ pub fn read(tag: &[u8]) -> Reading {
     reading(tag, true, false)
 }
 
-/// The same, but where the crate refuses a body it is noted at the frame and the walk goes on behind it, as if the id were unknown.
+/// The same, but where the crate refuses a body it is noted at the frame and the walk goes on after it, as if the id were unknown.
 pub fn read_past(tag: &[u8]) -> Reading {
     reading(tag, true, true)
 }
 
-/// Reads without the cut, so that frames behind the tag's end may be taken.
+/// Reads without the cut, so that frames after the tag's end may be taken.
 pub fn read_uncut(tag: &[u8]) -> Reading {
     reading(tag, false, false)
 }
@@ -405,12 +405,12 @@ pub fn run_of<'a>(id: &[u8], body: &'a [u8]) -> Option<&'a [u8]> {
     }
 }
 
-/// Where the crate ends a text of an encoding, in bytes behind the encoding byte.
+/// Where the crate ends a text of an encoding, in bytes after the encoding byte.
 pub fn text_end(version: Version, encoding: u8, data: &[u8]) -> Option<usize> {
     encoding_of(encoding).map(|encoding| inner::text_end(version, encoding, data))
 }
 
-/// Behind a name and its zero.
+/// After a name and its zero.
 fn behind_name(bytes: &[u8]) -> Option<&[u8]> {
     bytes.get(inner::text_end(Version::Id3v23, Encoding::Latin1, bytes) + 1..)
 }

@@ -33,7 +33,7 @@ pub struct Ending {
 }
 
 impl Ending {
-    /// Whether every popularimeter of the top level was shown, if the meter has no more. What stands behind the end of
+    /// Whether every popularimeter of the top level was shown, if the meter has no more. What stands after the end of
     /// the frames is none; [`Meter::rest`] lends it.
     pub fn is_whole(&self) -> bool {
         self.refusal.is_none() && !self.short && !self.compressed && !self.missing
@@ -115,10 +115,10 @@ impl<'t, W: Work> Meter<'t, W> {
         }
     }
 
-    /// The bytes of the tag behind the end of its frames, once the meter has no more: padding as a rule. Before that, and
+    /// The bytes of the tag after the end of its frames, once the meter has no more: padding as a rule. Before that, and
     /// after a refusal, it is empty.
     ///
-    /// Frames end before a zero byte, or where fewer bytes are left than a frame header has. What stands behind that is no
+    /// Frames end before a zero byte, or where fewer bytes are left than a frame header has. What stands after that is no
     /// frame, and neither a reader nor a meter looks at it. A tag that something else wrote wrongly can still have a
     /// popularimeter there.
     ///

@@ -13,7 +13,7 @@ pub struct Header {
     pub version: Version,
     /// The flag byte.
     pub flags: u8,
-    /// Bytes of the tag behind its ten header bytes.
+    /// Bytes of the tag after its ten header bytes.
     pub size: u32,
     /// The size of the extended header, 0 without one.
     pub ext: u32,

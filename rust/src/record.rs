@@ -11,7 +11,7 @@ use std::hash::{Hash, Hasher};
 /// them. A [`Writer`](crate::Writer) takes either.
 ///
 /// Contents are equal where their fields are. The references of tables are equal where their deviations are: bits that
-/// are left over behind the last whole reference say nothing, and are not written either.
+/// are left over after the last whole reference say nothing, and are not written either.
 ///
 /// More kinds may come, so that a `match` outside this crate needs an arm for others.
 ///
@@ -60,7 +60,7 @@ pub enum Content<B> {
         end_time: u32,
         /// The offset of its first byte.
         start_offset: u32,
-        /// The offset behind its last byte.
+        /// The offset after its last byte.
         end_offset: u32,
         /// Its subframes, one run of encoded frames.
         run: B,
@@ -355,7 +355,7 @@ struct Bits<'a> {
     count: usize,
     /// The bytes that they fill.
     bytes: &'a [u8],
-    /// The byte behind those, with zeros in place of other bits.
+    /// The byte after those, with zeros in place of other bits.
     last: u8,
 }
 

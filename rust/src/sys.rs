@@ -187,7 +187,7 @@ pub const SV_HEADER_WORDS: usize = 4;
 pub const SV_HEADER_VERSION: usize = 0;
 /// The flag byte.
 pub const SV_HEADER_FLAGS: usize = 1;
-/// Bytes of the tag behind its ten header bytes.
+/// Bytes of the tag after its ten header bytes.
 pub const SV_HEADER_SIZE: usize = 2;
 /// The extended header's size, 0 without one.
 pub const SV_HEADER_EXT: usize = 3;
@@ -204,7 +204,7 @@ pub const SV_READER_IN_WORK: usize = 1;
 pub const SV_READER_BEGIN: usize = 2;
 /// The place of the next frame.
 pub const SV_READER_AT: usize = 3;
-/// The place behind the last frame byte.
+/// The place after the last frame byte.
 pub const SV_READER_END: usize = 4;
 /// One of `SV_STOP_..`.
 pub const SV_READER_STOP: usize = 5;
@@ -331,7 +331,7 @@ pub const SV_CHAPTER_START_TIME: usize = 4;
 pub const SV_CHAPTER_END_TIME: usize = 5;
 /// A chapter: offset of its first byte.
 pub const SV_CHAPTER_START_OFFSET: usize = 6;
-/// A chapter: offset behind its last byte.
+/// A chapter: offset after its last byte.
 pub const SV_CHAPTER_END_OFFSET: usize = 7;
 /// A table of contents: 1 at the top level.
 pub const SV_CONTENTS_TOP_LEVEL: usize = 4;

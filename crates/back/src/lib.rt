@@ -12,7 +12,7 @@ ghost use lib.ListN.{length};
 ghost use Rattle.format.specs.Record.{recOf};
 ghost use Rattle.back.specs.Trips.{wroteCount, writeOf, backOf, Kept};
 
-// What came of a record: it was read from a tag of so many bytes, behind it the end; writing it was refused with a
+// What came of a record: it was read from a tag of so many bytes, after it the end; writing it was refused with a
 // number; or reading did not give one record and then the end.
 pub enum Back {
     Read(usize, Record),

@@ -22,7 +22,7 @@ fn second(work: &mut [u8], tag: &[u8], reader: Reader, record: Record) -> Only
     }
 }
 
-// The record that the next step shows, where the step behind it meets the end.
+// The record that the next step shows, where the step after it meets the end.
 fn first(work: &mut [u8], tag: &[u8], reader: Reader) -> Only
     ensures { λ q. ⌜ (let o = stepOf reader (now (tag .entry)) (now (work .entry)) in
         (q, now (work .exit)) ≡ onFirst (now (tag .entry)) (o .0) (o .1)) ⌝ }

@@ -38,7 +38,7 @@ module _ (v : Version) (w : Bool) (tag tag′ : List ℕ) (begin end begin′ en
     abbrev s : List ℕ
     s = slice at end (source w tag work)
 
-    -- what lies behind a frame is the same too
+    -- what lies after a frame is the same too
     behind : (k : ℕ) (left : List ℕ) → slice (at + k) end (source w tag (workThen w work left)) ≡ slice (at′ + k) end′ (source w tag′ (workThen w work′ left))
     behind k left =
         ap (slice (at + k) end) (source-then w tag work left)

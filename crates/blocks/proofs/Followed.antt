@@ -1,4 +1,4 @@
--- A tag that is there whole reads with other bytes behind it as it does alone. Assumes nothing.
+-- A tag that is there whole reads with other bytes after it as it does alone. Assumes nothing.
 use mathlib.Core.Path.{_≡_, refl, sym, ap, _∙_}
 use Prim.Native.Nat.{ℕ, _+_, _%_, _≤_}
 use native.Mathlib.Omega.{arith}

@@ -156,7 +156,7 @@ unfoldable pub withBlocks : List (List ℕ) → List ℕ → List ℕ
 withBlocks bs tag =
     take 10 tag ++ ((joined bs ++ zeros (sizeOf tag - length (joined bs))) ++ drop (sizeOf tag) (drop 10 tag))
 
--- ---- behind the blocks
+-- ---- after the blocks
 
 -- what may follow the frames that are there whole: the end, a refusal, or one short frame and the end
 pub data AtMostShort : Reading → Type 0 where

@@ -50,9 +50,9 @@ StopsAt = (tag work : List ℕ) (bs : List (List ℕ)) (rest : List ℕ) (k : �
     → framesIn tag ≡ joined bs ++ rest → headNumber (headOf (versionIn tag) 1 rest) ≡ suc k
     → readAll tag work ≡ readBlocks (versionIn tag) bs (λ (left : List ℕ). ([], refused (suc k))) (roomIn tag work)
 
--- ---- other bytes behind the tag
+-- ---- other bytes after the tag
 
--- A tag that is there whole, whatever it holds, reads with other bytes behind it as it does alone, with the same work buffer.
+-- A tag that is there whole, whatever it holds, reads with other bytes after it as it does alone, with the same work buffer.
 abbrev pub Followed : Type 0
 Followed = (tag more work : List ℕ) → 10 + sizeOf tag ≤ length tag → readAll (tag ++ more) work ≡ readAll tag work
 

@@ -1,4 +1,4 @@
--- What is stored in words is loaded again, and the words behind stay. Assumes nothing.
+-- What is stored in words is loaded again, and the words after stay. Assumes nothing.
 use mathlib.Core.Path.{_≡_, refl, ap, _∙_}
 use Prim.Native.Nat.{ℕ, suc, _+_, _^_, _≤_, _<_}
 use native.Mathlib.Omega.{arith}
@@ -34,7 +34,7 @@ use Rattle.capi.specs.Meters.{meterList, meterWords, meterOf, meteredWor
 stored : (words l : List ℕ) (i : ℕ) → i < length l → length l ≤ length words → word i (sets words 0 l) ≡ getD l i 0
 stored words l i h fits = ap (λ (m : List ℕ). getD m i 0) (sets-eq l words 0 (omega arith)) ∙ List·getD-append l (drop (0 + length l) words) 0 i h
 
--- the words behind stay
+-- the words after stay
 pub behind : (words : List ℕ) (p : ℕ) (l : List ℕ) (n : ℕ) → p + length l ≤ n → drop n (sets words p l) ≡ drop n words
 behind words p [] n h = refl
 behind words p (x ∷ l) n h = behind (set words p x) (suc p) l n (omega arith) ∙ drop-set-lt n words p x (omega arith)
@@ -189,7 +189,7 @@ heading-back r words h fits =
       fields-back (r .heading .fields) (fits .1),
     )
 
--- ---- the words behind those that are named
+-- ---- the words after those that are named
 
 pub header-behind : (h : Header) (words : List ℕ) → drop 4 (headerWords h words) ≡ drop 4 words
 unfolding headerWords

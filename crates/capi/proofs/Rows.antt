@@ -78,7 +78,7 @@ capped-by false f c n e h =
 capped : {A : Type 0} (f : ℕ → A) (c n : ℕ) → ((m : ℕ) → c ≤ m → f m ≡ f c) → f n ≡ f (min n c)
 capped f c n h = capped-by (leb n c) f c n refl h
 
--- ---- no check of a record changes by that; where a width is beyond, those behind 30 may, which is given before them
+-- ---- no check of a record changes by that; where a width is beyond, those after 30 may, which is given before them
 
 end-over : (v : Version) (n : ℕ) (s : List ℕ) → 255 ≤ n → textEnd v n s ≡ textEnd v 255 s
 end-over Id3v22 n s h = rw (ne-eqb n 1 (λ e. omega arith), ne-eqb n 2 (λ e. omega arith))

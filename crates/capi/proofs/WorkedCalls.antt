@@ -75,7 +75,7 @@ onEach f (x ∷ l) = f x ∷ onEach f l
 listed : List ℕ
 listed = ascii "ID3" ++ (4 ∷ 0 ∷ 0 ∷ 0 ∷ 0 ∷ 0 ∷ 18 ∷ ascii "POPM" ++ (0 ∷ 0 ∷ 0 ∷ 8 ∷ 0 ∷ 0 ∷ 0x61 ∷ 0 ∷ 5 ∷ 1 ∷ 0 ∷ 0 ∷ 0 ∷ 0 ∷ []))
 
--- the words behind stay
+-- the words after stay
 header-words : onHeader listed (9 ∷ 9 ∷ 9 ∷ 9 ∷ 9 ∷ []) ≡ (0, 4 ∷ 0 ∷ 18 ∷ 0 ∷ 9 ∷ [])
 unfolding onHeader listed
 header-words = refl

@@ -220,7 +220,7 @@ pub extern "C" fn sv_begin_plain(version: u64, writer: &mut [u64]) -> u32
     store_begun(writer, begun)
 }
 
-// Adds a record behind the frames that the collecting buffer holds. The count is how many bytes it took there.
+// Adds a record after the frames that the collecting buffer holds. The count is how many bytes it took there.
 #[no_mangle]
 pub extern "C" fn sv_add(
     record: &[u64],

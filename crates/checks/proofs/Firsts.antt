@@ -27,7 +27,7 @@ in-front (k ∷ a) b = by-first (eqb k 0) refl (in-front a b)
     by-first true e i = i
     by-first false e i = rw e
 
--- what stands behind a check counts as what it gives
+-- what stands after a check counts as what it gives
 pub behind : (k : ℕ) (a b : List ℕ) → first a ≡ first b → first (k ∷ a) ≡ first (k ∷ b)
 unfolding first
 behind k a b e = rw e

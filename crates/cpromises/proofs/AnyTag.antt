@@ -94,7 +94,7 @@ of-four (x ∷ y ∷ z ∷ w ∷ v ∷ s) h b = absurd (omega arith)
 four-onto : (a x y z w : ℕ) → a < 2 ^ 32 → x < 2 ^ 8 → y < 2 ^ 8 → z < 2 ^ 8 → w < 2 ^ 8 → (((a * 256 + x) * 256 + y) * 256 + z) * 256 + w < 2 ^ 64
 four-onto a x y z w h i j k l = omega arith
 
--- behind four bytes at most four more
+-- after four bytes at most four more
 onto-four : (a : ℕ) (s : List ℕ) → a < 2 ^ 32 → length s ≤ 4 → AllBytes s → onto 256 a s < 2 ^ 64
 unfolding onto
 onto-four a [] h l b = omega arith

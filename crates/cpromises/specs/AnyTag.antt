@@ -27,7 +27,7 @@ abbrev pub SvReads : Type 0
 SvReads = (tag work reader words numbers count : List ℕ) → AllBytes tag → Lent (readAll tag work .0) reader words numbers count
     → svReading tag work reader words numbers count ≡ (readAll tag work .0, endNumber (readAll tag work .1))
 
--- A tag that is there whole, whatever it holds, reads with other bytes behind it as it does alone, with the same work buffer.
+-- A tag that is there whole, whatever it holds, reads with other bytes after it as it does alone, with the same work buffer.
 abbrev pub SvAnyFollowed : Type 0
 SvAnyFollowed = (tag more work reader words numbers count : List ℕ) → AllBytes (tag ++ more) → 10 + sizeOf tag ≤ length tag
     → Lent (readAll tag work .0) reader words numbers count

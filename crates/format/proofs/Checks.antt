@@ -64,7 +64,7 @@ first-append (k ∷ a) b e =
     let t = first-append a b (h .1) in
     (rw (h .0) (t .0), t .1)
 
--- those before decide where one of them fails, those behind where all of them pass
+-- those before decide where one of them fails, those after where all of them pass
 pub first-stops : (a b : List ℕ) → (first a ≡ 0 → ⊥) → first (a ++ b) ≡ first a
 unfolding first
 first-stops [] b ne = absurd (ne refl)

@@ -37,7 +37,7 @@ sizeLimit Id3v22 = 2 ^ 24
 sizeLimit Id3v23 = 2 ^ 28
 sizeLimit Id3v24 = 2 ^ 28
 
--- ---- the bytes of a header, and more behind them
+-- ---- the bytes of a header, and more after them
 
 pub head-length : (v : Version) (m : Mode) (id size : ℕ) → length (headBytes v m id size) ≡ headLen v
 unfolding digits

@@ -58,7 +58,7 @@ head-some Id3v22 = omega arith
 head-some Id3v23 = omega arith
 head-some Id3v24 = omega arith
 
--- a frame takes at least six bytes, its body begins behind its header and lies in what is there
+-- a frame takes at least six bytes, its body begins after its header and lies in what is there
 pub record Lies (v : Version) (s : List ℕ) (start len : ℕ) : Type 0 where
   pub six : 6 ≤ start
   pub head : headLen v ≤ start

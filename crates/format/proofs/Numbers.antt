@@ -28,7 +28,7 @@ module _ (base : ℕ) (pos : 0 < base) where
   digit-below (suc k) n zero = mod-lt (n / base ^ k) pos
   digit-below (suc k) n (suc i) = digit-below k n i
 
-  -- digits read back, behind what was read before
+  -- digits read back, after what was read before
   pub onto-digits : (a k n : ℕ) → onto base a (digits base k n) ≡ a * base ^ k + n % base ^ k
   unfolding onto digits
   onto-digits a zero n = rw pow-zero (omega (arith, mod-one n))

@@ -307,7 +307,7 @@ inside : reading Id3v24 (frame24 (ascii "CHAP") 0 (chap (frame24 (ascii "TIT2") 
 unfolding reading refused frame24 chap
 inside = refl
 
--- A resynchronised chapter stands at the front of the room; its subframes' bodies go behind it, siblings at one place: FF 00 05, then 03 04 over it.
+-- A resynchronised chapter stands at the front of the room; its subframes' bodies go after it, siblings at one place: FF 00 05, then 03 04 over it.
 siblings : List ℕ
 unfolding frame24
 siblings = frame24 (ascii "XABC") 2 (0xFF ∷ 0x00 ∷ 0x00 ∷ 5 ∷ []) ++ frame24 (ascii "XABC") 2 (3 ∷ 4 ∷ [])

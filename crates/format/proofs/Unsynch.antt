@@ -32,7 +32,7 @@ module _ (guard : ℕ → Bool) (zero-guarded : guard 0 ≡ true) where
       byte-back prev (guard x) (eqb x 0) x (unsync guard (eqb x 255) s) more refl refl
       ∙ ap {B = List ℕ} (λ (l : List ℕ). x ∷ l) (unsynced (eqb x 255) s more)
 
--- Resynchronising what was unsynchronised gives the bytes back, with more bytes behind them.
+-- Resynchronising what was unsynchronised gives the bytes back, with more bytes after them.
 pub back-with-more : (m : Mode) → isOn m ≡ true → (prev : Bool) (s more : List ℕ)
     → resync prev (unsync (guards m) prev s ++ more) ≡ s ++ resync (endsFF prev s) more
 back-with-more Off on prev s more = absurd (false-not-true on)
@@ -137,7 +137,7 @@ unfolding Quiet
 quiet-low prev [] low = tt
 quiet-low prev (x ∷ s) low = ((λ e. low .0), quiet-low (eqb x 255) s (low .1))
 
--- what comes before low bytes does not matter for what comes behind them
+-- what comes before low bytes does not matter for what comes after them
 pub quiet-behind-low : (prev : Bool) (a b : List ℕ) → 0 < length a → Low a → Quiet false b → Quiet prev (a ++ b)
 unfolding Quiet
 quiet-behind-low prev [] b some low q = absurd (omega arith)

@@ -33,7 +33,7 @@ module _ (name z : List ℕ) (none : zeroAt name ≡ length name) where
   pub take-name : take (zeroAt (name ++ (0 ∷ z))) (name ++ (0 ∷ z)) ≡ name
   take-name = rw zero-at (take-append-seam name (0 ∷ z))
 
-  -- what lies behind the zero
+  -- what lies after the zero
   pub drop-name : (k : ℕ) → drop (zeroAt (name ++ (0 ∷ z)) + (1 + k)) (name ++ (0 ∷ z)) ≡ drop k z
   drop-name k = rw (zero-at, drop-append-add, one-add)
 

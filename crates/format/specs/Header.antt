@@ -56,7 +56,7 @@ headerChecks tag =
 unfoldable pub headerRefusal : List ℕ → ℕ
 headerRefusal tag = first (headerChecks tag)
 
--- ---- the region of the frames: from behind both headers, or from the end if fewer bytes remain, to the tag's end
+-- ---- the region of the frames: from after both headers, or from the end if fewer bytes remain, to the tag's end
 
 abbrev pub regionEnd : List ℕ → ℕ
 regionEnd tag = length (cutOf tag)

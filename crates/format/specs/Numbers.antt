@@ -11,7 +11,7 @@ unfoldable pub digits : ℕ → ℕ → ℕ → List ℕ
 digits base zero n = []
 digits base (suc k) n = n / base ^ k % base ∷ digits base k n
 
--- the number that digits make behind what was read before, a
+-- the number that digits make after what was read before, a
 unfoldable pub onto : ℕ → ℕ → List ℕ → ℕ
 onto base a [] = a
 onto base a (x ∷ s) = onto base (a * base + x) s

@@ -24,7 +24,7 @@ counterBytes counter = stripped (bytesOf 8 counter)
 
 -- ---- the body: user, zero, rating, counter
 
--- no zero, or no rating behind it
+-- no zero, or no rating after it
 abbrev pub popularimeterRefusal : List ℕ → ℕ
 popularimeterRefusal b = pick (ltb (zeroAt b + 1) (length b)) 0 11
 

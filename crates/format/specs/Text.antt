@@ -16,12 +16,12 @@ zeroPairAt [] = 0
 zeroPairAt (x ∷ []) = 1
 zeroPairAt (x ∷ y ∷ s) = pick (eqb x 0 && eqb y 0) 0 (suc (suc (zeroPairAt s)))
 
--- behind the last byte that is not zero
+-- after the last byte that is not zero
 unfoldable pub trimmed : List ℕ → ℕ
 trimmed [] = 0
 trimmed (x ∷ s) = let n = trimmed s in pick (eqb x 0 && eqb n 0) 0 (suc n)
 
--- behind the last pair that is not zero; a last odd byte is in no pair
+-- after the last pair that is not zero; a last odd byte is in no pair
 unfoldable pub trimmedPairs : List ℕ → ℕ
 trimmedPairs [] = 0
 trimmedPairs (x ∷ []) = 0

@@ -24,7 +24,7 @@ Out = ℕ × List ℕ
 abbrev pub andThen : Out → (List ℕ → Out) → Out
 andThen o k = let on = k (o .1) in pick (eqb (o .0) 0) on o
 
--- what was done in the part of a room behind u, which stands at the room's front
+-- what was done in the part of a room after u, which stands at the room's front
 abbrev pub behind : List ℕ → Out → Out
 behind u o = (o .0, u ++ o .1)
 
@@ -37,7 +37,7 @@ shownKind v id compressed = pick compressed Kind.Raw (kindOf v id)
 unfoldable pub insideOf : (List ℕ → List ℕ → Out) → Kind → List ℕ → List ℕ → Out
 insideOf go kind b room = let on = go (runOf kind b) room in pick (eqb (bodyRefusal kind b) 0) on (bodyRefusal kind b, room)
 
--- resynchronised to the front of the room, and what goes on inside it has the part behind
+-- resynchronised to the front of the room, and what goes on inside it has the part after
 unfoldable pub resyncedOf : (List ℕ → List ℕ → Out) → Kind → List ℕ → List ℕ → Out
 resyncedOf go kind u room =
     let on = behind u (insideOf go kind u (drop (length u) room)) in

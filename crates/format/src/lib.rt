@@ -106,7 +106,7 @@ pub enum Head {
     },
 }
 
-// One frame as a record, with the place behind it.
+// One frame as a record, with the place after it.
 pub enum Shown {
     Nothing,
     Refused(u8),

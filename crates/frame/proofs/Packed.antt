@@ -107,7 +107,7 @@ bits-masked s k r w x d hr hw inside e =
 
 -- ---- the numbers of two widths by turns
 
--- the next number, and those behind it
+-- the next number, and those after it
 pub gathered-next : (n v w : ℕ) (l : List ℕ) → 0 < n → gathered n v w l ≡ onto 2 0 (take v l) ∷ gathered (n - 1) w v (drop v l)
 unfolding gathered
 gathered-next zero v w l h = absurd (omega arith)

@@ -12,7 +12,7 @@ use Rattle.format.specs.Ids.{classOf, tailsOf, lowOf, highOf, utf8From, isUtf8}
 
 -- ---- where no tail is due
 
--- what may come behind a byte of a class
+-- what may come after a byte of a class
 abbrev pub behind : ℕ → List ℕ → Bool
 behind k s = not (eqb k 1 || eqb k 9) && utf8From (tailsOf k) (lowOf k) (highOf k) s
 

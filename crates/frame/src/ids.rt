@@ -12,7 +12,7 @@ enum Due {
     Nothing,
 }
 
-// Behind a byte that no tail was due at: the rows of RFC 3629, section 4. No form is longer than it has to be, none
+// After a byte that no tail was due at: the rows of RFC 3629, section 4. No form is longer than it has to be, none
 // is a surrogate, and none lies above U+10FFFF.
 fn lead(b: u8) -> Due
     ensures { λ r. ⌜ ((s : List ℕ) → goesOn r s ≡ isUtf8 (b ∷ s)) ⌝ }
@@ -31,7 +31,7 @@ fn lead(b: u8) -> Due
     }
 }
 
-// Behind one more byte.
+// After one more byte.
 fn next(due: Due, b: u8) -> Due
     ensures { λ r. ⌜ ((s : List ℕ) → goesOn r s ≡ goesOn due (b ∷ s)) ⌝ }
 {

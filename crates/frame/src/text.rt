@@ -46,7 +46,7 @@ fn zero_pair_at(s: &[u8]) -> usize
     s.len()
 }
 
-// Behind the last byte that is not zero, or at the end; index 0 is never tested.
+// After the last byte that is not zero, or at the end; index 0 is never tested.
 fn closing_at(s: &[u8]) -> usize
     ensures { λ r. ⌜ r ≡ closing (now (s .entry)) ⌝ }
 {
@@ -60,7 +60,7 @@ fn closing_at(s: &[u8]) -> usize
     s.len()
 }
 
-// Behind the last pair that is not zero, or at the end; the first pair is never tested.
+// After the last pair that is not zero, or at the end; the first pair is never tested.
 fn closing_pair_at(s: &[u8]) -> usize
     ensures { λ r. ⌜ r ≡ closingPairs (now (s .entry)) ⌝ }
 {

@@ -6,7 +6,7 @@ use mathlib.Core.List.{List, [], _∷_}
 use lib.ListN.{length}
 use lib.Seq.{sets, set-out}
 
--- behind the end nothing is stored
+-- after the end nothing is stored
 pub sets-out : (o : List ℕ) (p : ℕ) (l : List ℕ) → length o ≤ p → sets o p l ≡ o
 sets-out o p [] h = refl
 sets-out o p (x ∷ l) h =

@@ -4,7 +4,7 @@ use mathlib.Core.List.{List, [], _∷_, _++_}
 use lib.ListN.{take, drop, getD, replicate}
 
 module _ {A : Type 0} (P : A → Type 0) (d : A) where
-  -- it holds at each place; d stands behind the end
+  -- it holds at each place; d stands after the end
   abbrev pub Each : List A → Type 0
   Each l = (i : ℕ) → P (getD l i d)
 

@@ -58,7 +58,7 @@ blocks f [] rest = rest
 blocks f (x ∷ l) rest = f x ++ blocks f l rest
 
 module _ (f : ℕ → List ℕ) (width : ℕ) (wide : (x : ℕ) → length (f x) ≡ width) where
-  -- behind the first block
+  -- after the first block
   drop-block : (x k : ℕ) (l rest : List ℕ) → drop (width * suc k) (blocks f (x ∷ l) rest) ≡ drop (width * k) (blocks f l rest)
   drop-block x k l rest =
       let e : width * suc k ≡ width + width * k = omega (arith, mul-suc width k) in
@@ -88,7 +88,7 @@ take-drop-take m (suc n) zero l h = absurd (omega arith)
 take-drop-take m (suc n) (suc e) [] h = refl
 take-drop-take m (suc n) (suc e) (x ∷ l) h = take-drop-take m n e l (omega arith)
 
--- a part that begins behind the slice's start
+-- a part that begins after the slice's start
 pub slice-drop : (at n stop : ℕ) (l : List ℕ) → slice (at + n) stop l ≡ drop n (slice at stop l)
 slice-drop at n stop l = sym (drop-drop n at (take stop l))
 

@@ -10,7 +10,7 @@ use Rattle.laws.proofs.Slices.{slice-none, slice-next}
 
 -- ---- a list that is stored
 
--- two lists, one behind the other
+-- two lists, one after the other
 pub sets-append : (o : List ℕ) (p : ℕ) (l m : List ℕ) → sets o p (l ++ m) ≡ sets (sets o p l) (p + length l) m
 sets-append o p [] m = let e : p ≡ p + 0 = omega arith in ap (λ (k : ℕ). sets o k m) e
 sets-append o p (x ∷ l) m =
@@ -95,11 +95,11 @@ module _ {o₀ : List ℕ} {p₀ : ℕ} {l₀ o : List ℕ} {p : ℕ} where
   pub over : {x : ℕ} {l : List ℕ} (y : ℕ) → Storing o₀ p₀ l₀ o p (x ∷ l) → Storing o₀ p₀ l₀ (set (set o p y) p x) (p + 1) l
   over {x} y s = same-buffer (sym (set-set o p y x)) (put s)
 
-  -- what is left is stored at once: the place behind the whole, and the buffer with it
+  -- what is left is stored at once: the place after the whole, and the buffer with it
   pub rest : {l : List ℕ} → Storing o₀ p₀ l₀ o p l → _≡_ {A = ℕ × List ℕ} (p + length l, sets o p l) (p₀ + length l₀, sets o₀ p₀ l₀)
   rest s = λ i. (s .ends i, s .same i)
 
-  -- nothing is left: the place behind the whole, and the buffer with it
+  -- nothing is left: the place after the whole, and the buffer with it
   pub done : {l : List ℕ} → l ≡ [] → Storing o₀ p₀ l₀ o p l → _≡_ {A = ℕ × List ℕ} (p, o) (p₀ + length l₀, sets o₀ p₀ l₀)
   done e s =
       let t : Storing o₀ p₀ l₀ o p [] = same-list e s in

@@ -85,7 +85,7 @@ pub refused-length : (k : ℕ) → length (refusedLine k) ≤ 29
 unfolding refusedLine
 refused-length k = simp length-append (omega (arith, twenty k))
 
--- how many bytes a body with a user of n bytes has at least: a popularimeter has a zero and a rating behind it
+-- how many bytes a body with a user of n bytes has at least: a popularimeter has a zero and a rating after it
 abbrev pub bodyLeast : Fields → ℕ → ℕ
 bodyLeast (Fields.Text e) n = 0
 bodyLeast (Fields.Popularimeter r c) n = n + 2

@@ -18,7 +18,7 @@ module _ {o : List ℕ} {p : ℕ} {l o′ : List ℕ} {q : ℕ} (w : Wrote o p l
   pub in-words : {l′ : List ℕ} → l ≡ l′ → Wrote o p l′ o′ q
   in-words e = subst (λ (m : List ℕ). Wrote o p m o′ q) e w
 
-  -- more bytes behind them
+  -- more bytes after them
   pub andthen : {m o″ : List ℕ} {r : ℕ} → Wrote o′ q m o″ r → Wrote o p (l ++ m) o″ r
   andthen {m} v = record {
     next = omega (arith, w .next, v .next, length-append l m);

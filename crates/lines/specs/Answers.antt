@@ -7,7 +7,7 @@ abbrev pub placedNumber : Placed → ℕ
 placedNumber (Placed.Upto n) = 0
 placedNumber Placed.Full = 20
 
--- none or one place behind what was put
+-- none or one place after what was put
 abbrev pub placedUpto : Placed → List ℕ
 placedUpto (Placed.Upto n) = n ∷ []
 placedUpto Placed.Full = []

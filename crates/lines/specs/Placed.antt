@@ -15,11 +15,11 @@ use Rattle.lines.specs.declared.Placed.{Placed}
 unfoldable pub placedOf : List ℕ → ℕ → List ℕ → Placed × List ℕ
 placedOf line at out = pick (leb (at + length line) (length out)) (Placed.Upto (at + length line), sets out at line) (Placed.Full, out)
 
--- the place behind bytes l, put at p, has a number of 64 bits
+-- the place after bytes l, put at p, has a number of 64 bits
 pub record Room (p : ℕ) (l : List ℕ) : Type 0 where
   pub below : p + length l < 2 ^ 64
 
--- bytes l were put into o from p on, as far as o goes, which gave o′; q is the place behind them
+-- bytes l were put into o from p on, as far as o goes, which gave o′; q is the place after them
 pub record Wrote (o : List ℕ) (p : ℕ) (l o′ : List ℕ) (q : ℕ) : Type 0 where
   pub next : q ≡ p + length l
   pub bytes : o′ ≡ sets o p l

@@ -14,13 +14,13 @@ ghost use Rattle.lines.specs.Placed.{placedOf, Room, Wrote, shown, bodyP
 // With ten added to it the letter A, the first hexadecimal digit that is none of 0-9.
 const A_LESS_10: u8 = b'A' - 10;
 
-// The place behind a line that was put; or there was no room for all of it, and nothing is written.
+// The place after a line that was put; or there was no room for all of it, and nothing is written.
 pub enum Placed {
     Upto(usize),
     Full,
 }
 
-// ---- bytes: each function puts bytes from a place on, as far as out goes, and answers the place behind them
+// ---- bytes: each function puts bytes from a place on, as far as out goes, and answers the place after them
 
 // One byte.
 fn put_byte(out: &mut [u8], at: usize, byte: u8) -> usize

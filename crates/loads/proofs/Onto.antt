@@ -1,4 +1,4 @@
--- Big-endian numbers: a byte at a time, two one behind the other, and the last bytes alone. Assumes nothing.
+-- Big-endian numbers: a byte at a time, two one after the other, and the last bytes alone. Assumes nothing.
 use mathlib.Core.Path.{_≡_, refl, sym, ap, _∙_}
 use Prim.Native.Nat.{ℕ, zero, suc, _+_, _-_, _*_, _/_, _%_, _^_, _≤_, _<_, min}
 use native.Mathlib.Nat.{zero-mul, add-mul, mul-assoc, pow-zero, pow-succ', lt-of-lt-of-le, pow-le-pow-right}
@@ -45,7 +45,7 @@ ended most k i to a s whole small is none =
     let le : most - k ≤ most = omega arith in
     (sym (onto-end a (take k (slice i to s)) e) ∙ is, lt-of-lt-of-le small (pow-le-pow-right {n = 256} (omega arith) le))
 
--- ---- digits one behind the other
+-- ---- digits one after the other
 
 pub onto-append : (base a : ℕ) (s t : List ℕ) → onto base a (s ++ t) ≡ onto base (onto base a s) t
 unfolding onto
@@ -60,14 +60,14 @@ onto-sum base a (x ∷ s) =
     rw (onto-sum base (a * base + x) s, onto-sum base (0 * base + x) s, pow-succ')
     (omega (arith, add-mul (a * base) x p, add-mul (0 * base) x p, mul-assoc a base p, zero-mul base, zero-mul p))
 
--- digits behind others, by themselves
+-- digits after others, by themselves
 pub onto-low : (base : ℕ) → 0 < base → (a : ℕ) (s : List ℕ) → Digits base s → onto base a s % base ^ length s ≡ onto base 0 s
 onto-low base pos a s d =
     let z : 0 * base ^ length s ≡ 0 = zero-mul (base ^ length s) in
     let e = onto-digits base pos 0 (length s) (onto base a s) in
     omega (arith, z, e) ∙ ap (onto base 0) (digits-onto base pos a s d)
 
--- ---- parts one behind the other
+-- ---- parts one after the other
 
 module _ (at m n : ℕ) (l : List ℕ) (h : at + (m + n) ≤ length l) where
   same-end : at + m + n ≡ at + (m + n)

@@ -384,6 +384,6 @@ says-none v at last s h =
     let none : length (slice at last s) ≡ 0 = length-cut at last s ∙ omega arith in
     sym (ends-short v 1 (slice at last s) (omega (arith, some-head v)))
 
--- the same bytes, with the bytes behind a header counted from its place
+-- the same bytes, with the bytes after a header counted from its place
 pub says-from : (v : Version) (at n left last : ℕ) (s : List ℕ) (g : Glance) → at + n + left ≡ last → Says v (slice at (at + n + left) s) g → Says v (slice at last s) g
 says-from v at n left last s g e p = rw e at p

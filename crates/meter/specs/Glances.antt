@@ -60,7 +60,7 @@ withFlag (Glance.Plain n) = Glance.Flagged n
 withFlag (Glance.Flagged n) = Glance.Unclear
 withFlag (Glance.Meter n) = Glance.Unclear
 
--- a whole frame that is not compressed, with a body of n bytes directly behind its header, of the bytes s
+-- a whole frame that is not compressed, with a body of n bytes directly after its header, of the bytes s
 pub record Whole (v : Version) (flagged : Bool) (n : ℕ) (s : List ℕ) : Type 0 where
   pub id : ℕ
   pub is-id : id ≡ number (take (idLen v) s)

@@ -38,7 +38,7 @@ openedAs missing (Opened.Refused k) = MeterOpened.Refused k
 unfoldable pub meterOpenOf : List ℕ → List ℕ → MeterOpened × List ℕ
 meterOpenOf tag work = (openedAs (isMissing tag) (openOf tag work .0), openOf tag work .1)
 
--- ---- behind a frame
+-- ---- after a frame
 
 -- one more, as a number of 64 bits
 abbrev pub oneMore : ℕ → ℕ
@@ -51,7 +51,7 @@ isPacked v h = h .compressed && isMeterId v (h .id)
 abbrev pub withReader : Reader → Meter → Meter
 withReader r m = record { reader = r; frames = m .frames; short = m .short; compressed = m .compressed; missing = m .missing }
 
--- the meter behind a frame, with the moved reader
+-- the meter after a frame, with the moved reader
 abbrev pub passedOver : Heading → Reader → Meter → Meter
 passedOver h r m = record {
   reader = r;
@@ -79,7 +79,7 @@ meteredIn n rec = pick (rec .heading .short) [] (meteredAs (rec .heading .fields
 abbrev pub Nexted : Type 0
 Nexted = Next × List ℕ
 
--- answers the popularimeter, or goes on behind a frame that is none
+-- answers the popularimeter, or goes on after a frame that is none
 abbrev pub orOn : (Meter → List ℕ → Nexted) → List Metered → Meter → List ℕ → Nexted
 orOn go [] m work = go m work
 orOn go (p ∷ _) m work = (Next.Found p m, work)

@@ -74,7 +74,7 @@ fn size_of(word: u32, v4: bool) -> usize
     }
 }
 
-// A header of ten bytes at `at`, with `left` bytes behind it: an ASCII id, and no flag but that for unsynchronised bytes.
+// A header of ten bytes at `at`, with `left` bytes after it: an ASCII id, and no flag but that for unsynchronised bytes.
 fn glance10(s: &[u8], at: usize, left: usize, v4: bool) -> Glance
     requires { ⌜ at + 10 + left ≤ length (now s) ⌝ }
     ensures { λ r. ⌜ Says (tenOf v4) (slice at (at + 10 + left) (now (s .entry))) r ⌝ }
@@ -102,7 +102,7 @@ fn glance10(s: &[u8], at: usize, left: usize, v4: bool) -> Glance
     Glance::Unclear
 }
 
-// A header of six bytes at `at`, with `left` bytes behind it: an ASCII id.
+// A header of six bytes at `at`, with `left` bytes after it: an ASCII id.
 fn glance6(s: &[u8], at: usize, left: usize) -> Glance
     requires { ⌜ at + 6 + left ≤ length (now s) ⌝ }
     ensures { λ r. ⌜ Says Version.Id3v22 (slice at (at + 6 + left) (now (s .entry))) r ⌝ }

@@ -26,7 +26,7 @@ ghost use Rattle.walk.specs.Passing.{passIn};
 ghost use Rattle.meter.specs.Meter.{oneMore, nextOf};
 ghost use Rattle.meter.specs.Meets.{flaggedOf, movedAs};
 
-// One more, or 0 behind the largest.
+// One more, or 0 after the largest.
 fn one_more(n: u64) -> u64
     ensures { λ r. ⌜ r ≡ oneMore n ⌝ }
 {

@@ -25,7 +25,7 @@ const ID3_3: u32 = 0x4944_3303;
 
 const ID3_4: u32 = 0x4944_3304;
 
-// Bytes of a tag behind its ten header bytes, as the header says.
+// Bytes of a tag after its ten header bytes, as the header says.
 fn size_of(tag: &[u8]) -> usize
     requires { ⌜ 10 ≤ length (now tag) ⌝ }
     ensures { λ r. ⌜ (r ≡ sizeOf (now (tag .entry))) × (r < 2 ^ 32) ⌝ }

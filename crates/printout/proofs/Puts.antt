@@ -1,4 +1,4 @@
--- Lines put one behind the other, step by step. Assumes nothing.
+-- Lines put one after the other, step by step. Assumes nothing.
 use mathlib.Core.Path.{_≡_, refl, sym, ap, _∙_}
 use Prim.Native.Nat.{ℕ, suc, _+_, _-_, _≤_, _<_, min}
 use native.Mathlib.Omega.{arith}

@@ -15,7 +15,7 @@ use Rattle.lines.specs.declared.Placed.{Placed}
 use Rattle.printout.specs.Lines.{Line, textOf}
 use Rattle.printout.specs.Turns.{Outcome, onPlaced, putLines}
 
--- bytes t were put at a place and behind them lies q
+-- bytes t were put at a place and after them lies q
 pub record Holds (t : List ℕ) (at : ℕ) (out : List ℕ) (q : ℕ) (o : List ℕ) : Type 0 where
   pub behind : q ≡ at + length t
   pub bytes : o ≡ sets out at t

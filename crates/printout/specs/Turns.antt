@@ -1,4 +1,4 @@
--- Lines put into a lent buffer, one behind the other. Assumes nothing.
+-- Lines put into a lent buffer, one after the other. Assumes nothing.
 use Prim.Native.Nat.{ℕ}
 use mathlib.Core.List.{List, [], _∷_}
 use Rattle.format.specs.Listing.{endLine, refusedLine}
@@ -14,7 +14,7 @@ use Rattle.printout.specs.declared.Turn.{Turn}
 abbrev pub Outcome : Type 0
 Outcome = Placed × (List ℕ × List ℕ)
 
--- goes on behind a line that was put; where one has no room, no more are put
+-- goes on after a line that was put; where one has no room, no more are put
 abbrev pub onPlaced : (ℕ → List ℕ → Outcome) → List ℕ → Placed → List ℕ → Outcome
 onPlaced go work (Placed.Upto at) out = go at out
 onPlaced go work Placed.Full out = (Placed.Full, (work, out))

@@ -1,4 +1,4 @@
-// The listing of a tag, line behind line in a lent buffer. What the lines are stands in specs/Lines.antt.
+// The listing of a tag, line after line in a lent buffer. What the lines are stands in specs/Lines.antt.
 use format::Record;
 use format::Version;
 use format::numbered::version_number;
@@ -23,7 +23,7 @@ ghost use Rattle.reader.specs.Reader.{headerOf};
 ghost use Rattle.printout.specs.Lines.{recordLine, recordIn, openedLines, frameLines, linesOf};
 ghost use Rattle.printout.specs.Turns.{putLines, turnOf};
 
-// A listing goes on behind a frame's line, with the moved reader, or is done.
+// A listing goes on after a frame's line, with the moved reader, or is done.
 enum Turn {
     Done(Placed),
     On(usize, Reader),
@@ -124,7 +124,7 @@ fn put_frames(work: &mut [u8], out: &mut [u8], tag: &[u8], at: usize, reader: Re
     Placed::Upto(behind)
 }
 
-// Opens the tag and puts the lines behind its header's.
+// Opens the tag and puts the lines after its header's.
 fn put_opened(work: &mut [u8], out: &mut [u8], tag: &[u8], at: usize) -> Placed
     requires { ⌜ 0 < length (now tag) ⌝ }
     ensures { λ r. ⌜ (let lines = openedLines (now (tag .entry)) (now (work .entry)) in
@@ -150,7 +150,7 @@ fn put_tag(work: &mut [u8], out: &mut [u8], tag: &[u8], h: Header) -> Placed
 }
 
 // Lists a tag: the header's line, one for each frame of the top level, and the last line, with the end or a refusal. They
-// are put one behind the other from the front of `out` on; where one has no room, the listing stops there.
+// are put one after the other from the front of `out` on; where one has no room, the listing stops there.
 pub fn list(work: &mut [u8], out: &mut [u8], tag: &[u8]) -> Placed
     ensures { λ r. ⌜ (let lines = linesOf (now (tag .entry)) (now (work .entry)) in
         (r, (now (work .exit), now (out .exit))) ≡ putLines lines 0 (now (work .entry)) (now (out .entry))) ⌝ }

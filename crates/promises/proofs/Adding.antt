@@ -52,7 +52,7 @@ pub declined-keeps : (w : Writer) (b : List ℕ) (k : ℕ) (o : Adding) → Keep
 declined-keeps w b k (Added.Accepted n w′, b′) h z = absurd (omega arith)
 declined-keeps w b k (Added.Refused j w′, b′) h z = h .1
 
--- an accepted call passed the checks: it lost the record and left both as they were, or it had the room and put the frame behind those there
+-- an accepted call passed the checks: it lost the record and left both as they were, or it had the room and put the frame after those there
 data Took (w : Writer) (r : Rec) (b : List ℕ) : Writer → List ℕ → Type 0 where
   lost : isLost (w .version) (w .altered) (r .id) ≡ true → Took w r b w b
   put : isLost (w .version) (w .altered) (r .id) ≡ false → refusalOf (w .version) (w .mode) false r ≡ 0

@@ -50,7 +50,7 @@ same n rec tag work = by-fields (rec .heading .short) (rec .heading .fields)
 
 -- ---- what a meter makes of what is read from its place on
 
--- the number of the frame behind these
+-- the number of the frame after these
 abbrev pub framesFrom : ℕ → List Rec → ℕ
 framesFrom n [] = n
 framesFrom n (r ∷ rs) = framesFrom (oneMore n) rs
@@ -81,7 +81,7 @@ stops v m r e = record {
 abbrev withCounted : List Counted → Metering → Metering
 withCounted cs o = record { counted = cs ++ o .counted; ending = o .ending; last = o .last }
 
--- behind a frame
+-- after a frame
 turn : (v : Version) (m : Meter) (rec : Record) (r : Reader) (tag work : List ℕ) (read : Reading) (o : Metering) → r .version ≡ v
     → Meters v (passedOver (rec .heading) r m) read o
     → Meters v m (andRecord (viewOf rec tag work) read) (withCounted (countedIn (m .frames) (viewOf rec tag work)) o)
@@ -100,7 +100,7 @@ turn v m rec r tag work read o kept b = record {
 module _ (v : Version) (n k : ℕ) (tag : List ℕ)
     (go : (j : ℕ) (m : Meter) (work : List ℕ) → k ≤ j → m .reader .version ≡ v → (readFrom n tag (m .reader) work .1 ≡ unfinished → ⊥)
     → Meters v m (readFrom n tag (m .reader) work) (meterFrom j tag m work)) where
-  -- the call goes on from the meter behind the frame, or ends there
+  -- the call goes on from the meter after the frame, or ends there
   frame-meters : {m m′ : Meter} {read read′ : Reading} {l : List Metered} {c : List Counted} (work : List ℕ) → Same tag work l c
       → ((o : Metering) → Meters v m′ read′ o → Meters v m read (withCounted c o))
       → Meters v m′ read′ (meterFrom k tag m′ work) → Meters v m′ read′ (meterFrom (suc k) tag m′ work)

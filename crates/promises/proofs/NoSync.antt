@@ -49,7 +49,7 @@ head-low id size is =
     let both = and-true (ltb id (256 ^ 4)) (allIdBytes (bytesOf 4 id)) is in
     omega (arith, id-bytes-low (bytesOf 4 id) (both .1))
 
--- behind it an unsynchronised body, which may end in FF
+-- after it an unsynchronised body, which may end in FF
 frame-quiet : (prev : Bool) (r : Rec) (more : List ℕ) → isId Id3v24 (r .id) ≡ true → ((p : Bool) → Quiet p more) → Quiet prev (encode Id3v24 Standard r ++ more)
 unfolding encode
 frame-quiet prev r more is q =

@@ -37,7 +37,7 @@ plain-whole Id3v23 Crate f e = absurd (false-not-true (sym e))
 plain-whole Id3v23 Standard f e = absurd (false-not-true (sym e))
 plain-whole Id3v24 m f e = refl
 
--- others come back, with padding behind them
+-- others come back, with padding after them
 whole-back : (v : Version) (m : Mode) (f z : List ℕ) → wholeBy v m ≡ true → resynchronised (wholeOf v m f ++ z) ≡ f ++ resync (endsFF false f) z
 whole-back Id3v22 m f z e = back-with-more m e false f z
 whole-back Id3v23 m f z e = back-with-more m e false f z

@@ -76,7 +76,7 @@ AllFit (r ∷ rs) = Fits (r .content) × AllFit rs
 abbrev Accepts : List Rec → Writer → List ℕ → Type 0
 Accepts rs w buffer = addAll rs w buffer .0 ≡ true → Adds w buffer rs (addAll rs w buffer .1) (addAll rs w buffer .2)
 
--- one call, and those behind it
+-- one call, and those after it
 one-more : (w : Writer) (b : List ℕ) (r : Rec) (rs : List Rec) (k : ℕ) → Fits (r .content) → addedNumber (addOf w r b .0) ≡ k →
     let o = addOf w r b in
     let on = onAdded (addAll rs) k (addedWriter (o .0)) (o .1) in

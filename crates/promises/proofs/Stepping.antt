@@ -87,7 +87,7 @@ module _ (v : Version) (m : Mode) (begin at end : ℕ) (tag work : List ℕ) (r 
   rest-follows : (s : List ℕ) → slice at end s ≡ encode v m r ++ rest → slice (at + (headLen v + length stored)) end s ≡ rest
   rest-follows s e = slice-drop at (headLen v + length stored) end s ∙ ap (drop (headLen v + length stored)) e ∙ rest-there v m r rest
 
-  -- the stored body lies behind the frame's header
+  -- the stored body lies after the frame's header
   stored-lies : (s : List ℕ) → slice at end s ≡ encode v m r ++ rest → take (length stored) (drop (at + headLen v) s) ≡ stored
   stored-lies s e =
       let long : headLen v + length stored ≤ length (slice at end s) = rw e (omega (arith, length-append (encode v m r) rest, encode-length v m r)) in

@@ -136,7 +136,7 @@ small-ext : sees 1 (tag 4 0x40 6 (0 ∷ 0 ∷ 0 ∷ 5 ∷ 0 ∷ 0 ∷ [])) [] �
 unfolding sees tag
 small-ext = refl
 
--- frames begin behind the extended header, or at the end if fewer bytes remain
+-- frames begin after the extended header, or at the end if fewer bytes remain
 ext-6 : sees 2 (tag 3 0x40 17 (0 ∷ 0 ∷ 0 ∷ 6 ∷ 0 ∷ 0 ∷ frame4 (ascii "XABC") 0 (9 ∷ []))) [] ≡ frame (plain (named "XABC") (raw (9 ∷ []))) ∷ end ∷ []
 unfolding sees tag frame4 plain
 ext-6 = refl
@@ -147,7 +147,7 @@ ext-long = refl
 
 -- ---- the region
 
--- nothing behind the tag's end is read
+-- nothing after the tag's end is read
 cut : sees 2 (tag 4 0 11 (frame4 (ascii "XABC") 0 (9 ∷ []) ++ frame4 (ascii "XABC") 0 (8 ∷ []))) [] ≡ frame (plain (named "XABC") (raw (9 ∷ []))) ∷ end ∷ []
 unfolding sees tag frame4 plain
 cut = refl

@@ -13,7 +13,7 @@ use Rattle.format.specs.declared.Version.the-variants.{Id3v22, Id3v23, Id3v24}
 abbrev pub isTag : List ℕ → Bool
 isTag tag = leb 10 (length tag) && eqb (number (take 3 tag)) (named "ID3")
 
--- all bytes behind the headers are unsynchronised (2.2 and 2.3), by edition and flags
+-- all bytes after the headers are unsynchronised (2.2 and 2.3), by edition and flags
 abbrev pub isWholeIn : Version → ℕ → Bool
 isWholeIn Id3v22 flags = has 0x80 flags
 isWholeIn Id3v23 flags = has 0x80 flags

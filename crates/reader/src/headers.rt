@@ -44,7 +44,7 @@ fn begins(tag: &[u8]) -> bool
     read32(tag, 0) / 256 == ID3
 }
 
-// Where a tag of `size` bytes behind its header ends: there, or where the slice does.
+// Where a tag of `size` bytes after its header ends: there, or where the slice does.
 fn end_of(tag: &[u8], size: u32) -> usize
     ensures { λ r. ⌜ r ≡ min (10 + size) (length (now (tag .entry))) ⌝ }
 {
@@ -118,7 +118,7 @@ pub(crate) struct Region {
     pub(crate) end: usize,
 }
 
-// Where the frames of the tag lie whose header is h: behind both headers, or from the end if fewer bytes remain.
+// Where the frames of the tag lie whose header is h: after both headers, or from the end if fewer bytes remain.
 pub(crate) fn region_of(tag: &[u8], h: Header) -> Region
     requires { ⌜ headerOf (now tag) ≡ Headed.Found h ⌝ }
     ensures { λ r. ⌜ (r .start ≡ regionStart (now (tag .entry))) × (r .end ≡ regionEnd (now (tag .entry))) ⌝ }

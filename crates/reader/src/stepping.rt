@@ -23,7 +23,7 @@ impl Reader {
         }
     }
 
-    // The same reader, behind the frame that it was at.
+    // The same reader, after the frame that it was at.
     fn moved(self, next: usize) -> Reader
         ensures { λ r. ⌜ r ≡ movedTo next self ⌝ }
     {

@@ -43,7 +43,7 @@ one-fewer n r e (ends m records) =
     rw more (ends n (r ∷ records))
 one-fewer n r e (refuses m records k) = refuses n (r ∷ records) k
 
--- behind a frame
+-- after a frame
 one-more : {read : Reading} {ls : List Line} (n : ℕ) (r : Rec) (l : Line) → ClosedFrom (n + 1) ls read → ClosedFrom n (l ∷ ls) (andRecord r read)
 one-more n r l c = record {
   before = l ∷ c .before;

@@ -66,14 +66,14 @@ fn heading(h: Heading) {
     either(h.compressed, b" compressed", b" plain");
 }
 
-// A span behind its name.
+// A span after its name.
 fn span(word: &[u8], s: Span) {
     say(word);
     decimal(s.start as u64);
     decimal(s.len as u64);
 }
 
-// A record and the place behind it.
+// A record and the place after it.
 pub fn frame(r: Record, next: usize) {
     let h = r.heading;
     heading(h);

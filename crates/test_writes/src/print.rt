@@ -1,4 +1,4 @@
-// What is printed of a call behind its words, and whether a buffer was left as it was.
+// What is printed of a call after its words, and whether a buffer was left as it was.
 use test_prints::decimal;
 use test_prints::either;
 use test_prints::say;

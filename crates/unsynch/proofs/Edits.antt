@@ -115,7 +115,7 @@ module _ (how : How) where
   -- ---- place by place
 
   module _ (s : List ℕ) where
-    -- behind the last place
+    -- after the last place
     module _ (i to : ℕ) (h : to ≤ i + 1) where
       nothing : slice (i + 1) to s ≡ []
       nothing = slice-none (i + 1) to s h
@@ -131,7 +131,7 @@ module _ (how : How) where
     pub few-after : (from to : ℕ) → from < to → to ≤ length s → from + 1 + hitsAfter how s from to ≤ to
     few-after from to lt le = omega (arith, hits-at-most (eqb (getD s from 0) 255) (slice (from + 1) to s), length-slice (from + 1) to s le)
 
-    -- the first byte, then the bytes behind it
+    -- the first byte, then the bytes after it
     module _ (from to : ℕ) (lt : from < to) (le : to ≤ length s) where
       pub plain-first : edited how false (slice from to s) ≡ getD s from 0 ∷ editedAfter how s from to
       unfolding edited
@@ -219,7 +219,7 @@ module _ (how : How) where
         let f : Bool = eqb (getD s i 0) 255 && concerns how (getD s (i + 1) 0) in
         omega (arith, counts i to (omega arith) le f refl, hits-parted n (i + 1) m to (omega arith) lt le, counts i (m + 1) (omega arith) (omega arith) f refl)
 
-    -- behind bytes of which none is FF nothing is edited
+    -- after bytes of which none is FF nothing is edited
     pub no-ff : (n i m : ℕ) → m ≡ i + n → m < length s → anyFF (slice i m s) ≡ false → hitsAfter how s i (m + 1) ≡ 0
     unfolding anyFF
     no-ff zero i m e lt q = hits-end i (m + 1) (omega arith)

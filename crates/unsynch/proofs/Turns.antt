@@ -1,4 +1,4 @@
--- One turn of the loops that store: x is the byte, behind which l is left. Assumes nothing.
+-- One turn of the loops that store: x is the byte, after which l is left. Assumes nothing.
 use mathlib.Core.Path.{_≡_, refl, sym, ap, _∙_}
 use Prim.Native.Nat.{ℕ, suc, _+_, _-_, _≤_, _<_}
 use native.Mathlib.Omega.{arith}
@@ -31,7 +31,7 @@ module _ {o₀ : List ℕ} {p₀ : ℕ} {l₀ o : List ℕ} {p : ℕ} {m : List 
       let u = same-list (e ∙ next refl) s in
       (omega (arith, lies u), same-place z (same-list (sym (next refl)) (under x u)))
 
-  -- a 00 is stored, and the byte behind it, where f says that it is concerned; or the byte over it
+  -- a 00 is stored, and the byte after it, where f says that it is concerned; or the byte over it
   pub insert-turn : (f : Bool) (q : ℕ) → m ≡ pick f (0 ∷ x ∷ l) (x ∷ l) → q ≡ p + cond f 1 0
       → (p ≤ q) × (q < length o) × Storing o₀ p₀ l₀ (set (set o p 0) q x) (q + 1) l
   insert-turn true q e is = (
@@ -43,7 +43,7 @@ module _ {o₀ : List ℕ} {p₀ : ℕ} {l₀ o : List ℕ} {p : ℕ} {m : List 
       let z : p ≡ q = omega arith in
       (omega arith, omega (arith, lies (same-list e s)), same-buffer (ap (λ (k : ℕ). set (set o p 0) k x) z) (same-place (ap (λ (k : ℕ). k + 1) z) (over 0 (same-list e s))))
 
--- what the edit makes of the bytes behind place i, up to place m, is stored by another function
+-- what the edit makes of the bytes after place i, up to place m, is stored by another function
 module _ (how : How) (s : List ℕ) (i m to : ℕ) (after : i ≤ m) (lt : m < to) (le : to ≤ length s) where
   pub piece : {o₀ : List ℕ} {p₀ : ℕ} {l₀ o : List ℕ} {p : ℕ} → Storing o₀ p₀ l₀ o p (editedAfter how s i to)
       → (p + length (editedAfter how s i (m + 1)) ≤ length o)
@@ -57,7 +57,7 @@ module _ (how : How) (s : List ℕ) (i m to : ℕ) (after : i ≤ m) (lt : m < t
             (omega arith, same-place (sym f) (same-buffer (sym (ap (λ (z : ℕ × List ℕ). z .1) e)) (puts l u))),
       )
 
-  -- the same behind place n of the area that is edited
+  -- the same after place n of the area that is edited
   module _ (n : ℕ) (before : to ≤ n) {o₀ : List ℕ} {p₀ : ℕ} {l₀ o : List ℕ} {p : ℕ} (fits : n ≤ length s) (behind : n ≤ p) where
     pub piece-in : length o ≡ length s → take n o ≡ take n s → Storing o₀ p₀ l₀ o p (editedAfter how s i to)
         → (p + length (editedAfter how o i (m + 1)) ≤ length o)

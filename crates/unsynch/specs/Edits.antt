@@ -50,13 +50,13 @@ unfoldable pub anyFF : List ℕ → Bool
 anyFF [] = false
 anyFF (x ∷ l) = eqb x 255 || anyFF l
 
--- edited, and how many it concerns, behind place from up to place to
+-- edited, and how many it concerns, after place from up to place to
 abbrev pub editedAfter : How → List ℕ → ℕ → ℕ → List ℕ
 editedAfter how s from to = edited how (eqb (getD s from 0) 255) (slice (from + 1) to s)
 
 abbrev pub hitsAfter : How → List ℕ → ℕ → ℕ → ℕ
 hitsAfter how s from to = hits how (eqb (getD s from 0) 255) (slice (from + 1) to s)
 
--- the place behind u, stored from a place on, and the buffer then
+-- the place after u, stored from a place on, and the buffer then
 abbrev pub stored : List ℕ → ℕ → List ℕ → ℕ × List ℕ
 stored u at buffer = (at + length u, sets buffer at u)

@@ -21,7 +21,7 @@ pub(crate) fn any_ff(s: &[u8], i: usize, n: usize) -> bool
     any
 }
 
-// How many of the 64 bytes of s behind place i the edit concerns.
+// How many of the 64 bytes of s after place i the edit concerns.
 fn count(s: &[u8], i: usize, how: How) -> u8
     requires { ⌜ i + 64 < length (now s) ⌝ }
     ensures { λ r. ⌜ r ≡ hitsAfter how (now (s .entry)) i (i + 64 + 1) ⌝ }
@@ -46,8 +46,8 @@ pub(crate) fn hits(s: &[u8], i: usize, how: How) -> usize
     0
 }
 
-// Stores the n bytes of s behind place i, at most 64, from `at` on, by way of an array, which lies apart from both.
-// The answer is the place behind them.
+// Stores the n bytes of s after place i, at most 64, from `at` on, by way of an array, which lies apart from both.
+// The answer is the place after them.
 pub(crate) fn copy_behind(buf: &mut [u8], at: usize, s: &[u8], i: usize, n: usize) -> usize
     requires { ⌜ (n ≤ 64) × (i + n < length (now s)) × (at + n ≤ length (now buf)) ⌝ }
     ensures { λ r. ⌜ (r, now (buf .exit)) ≡ stored (slice (i + 1) (i + n + 1) (now (s .entry))) at (now (buf .entry)) ⌝ }

@@ -1,4 +1,4 @@
-// The loops behind resynchronising and unsynchronising: both are one edit of the bytes directly after an FF.
+// The loops of resynchronising and unsynchronising: both are one edit of the bytes directly after an FF.
 use crate::blocks;
 use format::Mode;
 use format::small::least;
@@ -88,7 +88,7 @@ fn guarded(last: u8, b: u8, top: u8) -> bool
     (last == 0xFF) & ((b == 0) | (b > top))
 }
 
-// How many bytes of s behind place from, up to place to, the edit concerns.
+// How many bytes of s after place from, up to place to, the edit concerns.
 fn hits_after(s: &[u8], from: usize, to: usize, how: How) -> usize
     requires { ⌜ (from < to) × (to ≤ length (now s)) ⌝ }
     ensures { λ r. ⌜ r ≡ hitsAfter how (now (s .entry)) from to ⌝ }
@@ -149,8 +149,8 @@ fn most(n: usize, how: How) -> usize
     if how.insert & how.zero { n + n } else { n }
 }
 
-// Stores what resynchronising makes of the bytes of s behind place from, up to place to. Each turn stores: where a byte goes,
-// the next one stays and takes its place. The answer is the place behind what is stored.
+// Stores what resynchronising makes of the bytes of s after place from, up to place to. Each turn stores: where a byte goes,
+// the next one stays and takes its place. The answer is the place after what is stored.
 fn drop_bytes(buf: &mut [u8], at: usize, s: &[u8], from: usize, to: usize) -> usize
     requires { ⌜ (from < to) × (to ≤ length (now s)) ⌝ }
     requires { ⌜ at + length (editedAfter resyncBy (now s) from to) ≤ length (now buf) ⌝ }
@@ -184,7 +184,7 @@ fn drop_last(buf: &mut [u8], at: usize, s: &[u8], from: usize, to: usize) -> usi
     at
 }
 
-// As drop_bytes, eight bytes at once: those behind eight bytes of which none is FF all stay, and are copied. The others go byte by byte.
+// As drop_bytes, eight bytes at once: those after eight bytes of which none is FF all stay, and are copied. The others go byte by byte.
 fn drop_words(buf: &mut [u8], at: usize, s: &[u8], from: usize, to: usize) -> usize
     requires { ⌜ (from < to) × (to ≤ length (now s)) ⌝ }
     requires { ⌜ at + length (editedAfter resyncBy (now s) from to) ≤ length (now buf) ⌝ }
@@ -204,8 +204,8 @@ fn drop_words(buf: &mut [u8], at: usize, s: &[u8], from: usize, to: usize) -> us
     drop_bytes(buf, o, s, i, to)
 }
 
-// Stores what the edit makes of the bytes of s behind place from, up to place to, where 00, and E0 to FF with `high`, get a 00 before them.
-// Each turn stores a 00 and then the byte, over it or behind it. The answer is the place behind what is stored.
+// Stores what the edit makes of the bytes of s after place from, up to place to, where 00, and E0 to FF with `high`, get a 00 before them.
+// Each turn stores a 00 and then the byte, over it or after it. The answer is the place after what is stored.
 fn insert_bytes(buf: &mut [u8], at: usize, s: &[u8], from: usize, to: usize, how: How) -> usize
     requires { ⌜ (from < to) × (to ≤ length (now s)) × (how .insert ≡ true) × (how .zero ≡ true) ⌝ }
     requires { ⌜ at + length (editedAfter how (now s) from to) ≤ length (now buf) ⌝ }
@@ -225,7 +225,7 @@ fn insert_bytes(buf: &mut [u8], at: usize, s: &[u8], from: usize, to: usize, how
     o
 }
 
-// Stores what the edit makes of the bytes of s behind place from, up to place to. The answer is the place behind what is stored.
+// Stores what the edit makes of the bytes of s after place from, up to place to. The answer is the place after what is stored.
 // A block that the edit leaves alone is copied. From one that it changes on, bytes are edited one by one, twice as many each time in a row.
 fn edit_after(buf: &mut [u8], at: usize, s: &[u8], from: usize, to: usize, how: How) -> usize
     requires { ⌜ (from < to) × (to ≤ length (now s)) ⌝ }
@@ -269,7 +269,7 @@ fn edit_by_byte(buf: &mut [u8], at: usize, s: &[u8], from: usize, to: usize, how
 }
 
 // Stores s[from..to], edited, from `at` on; prev says that the byte before them was FF, which only an edit that inserts is asked.
-// The answer is the place behind what is stored. An edit that concerns no byte is one copy.
+// The answer is the place after what is stored. An edit that concerns no byte is one copy.
 pub(crate) fn edit(
     buf: &mut [u8],
     at: usize,
@@ -295,7 +295,7 @@ pub(crate) fn edit(
     edit_by_byte(buf, behind, s, from, to, how)
 }
 
-// The same in one area: area[from..to], edited, is stored from `at` on, behind it.
+// The same in one area: area[from..to], edited, is stored from `at` on, after it.
 pub(crate) fn edit_in(area: &mut [u8], at: usize, from: usize, to: usize, how: How) -> usize
     requires { ⌜ (from < to) × (to ≤ at) ⌝ }
     requires { ⌜ at + length (edited how false (slice from to (now area))) ≤ length (now area) ⌝ }
@@ -323,7 +323,7 @@ fn edit_in_after(area: &mut [u8], at: usize, from: usize, to: usize, how: How) -
     o
 }
 
-// Stores what the edit makes of the bytes of an area behind place from, up to place to, by way of a copy of them.
+// Stores what the edit makes of the bytes of an area after place from, up to place to, by way of a copy of them.
 fn edit_chunk(area: &mut [u8], at: usize, from: usize, to: usize, how: How) -> usize
     requires { ⌜ (from < to) × (to ≤ from + 1025) × (to ≤ length (now area)) ⌝ }
     requires { ⌜ at + length (editedAfter how (now area) from to) ≤ length (now area) ⌝ }

@@ -98,7 +98,7 @@ module _ (u room : List ℕ) where
         by-room true h = let z : 14 ≡ k = cc in ap {B = Out} (λ (j : ℕ). (j, room)) z
         by-room false h = absurd (let z : _≡_ {A = ℕ} 0 1 = cc in omega arith)
 
-    -- what goes on inside it has the part behind
+    -- what goes on inside it has the part after
     pub put-inside : (n : ℕ) (p : List ℕ) → Fitted u room p n → insideIn go kind (slice 0 n p) n p ≡ resyncedOf go kind u room
     unfolding resyncedOf
     put-inside n p f =
@@ -122,7 +122,7 @@ part-back a₁ a u p′ split hs e =
 pub before-split : (from to split : ℕ) (a : List ℕ) → to ≤ split → slice from to (take split a) ≡ slice from to a
 before-split from to split a h = ap (drop from) (take-take to split a h)
 
--- a body of an area that was put behind split, or was to be
+-- a body of an area that was put after split, or was to be
 pub in-area : (from to split : ℕ) (a : List ℕ) → to ≤ split → (p : Put) (a₁ : List ℕ) → _≡_ {A = Put × List ℕ} (p, a₁) (inAreaOf from to split a)
     → (p ≡ intoOf (resynchronised (slice from to a)) (drop split a) .0) × (a₁ ≡ take split a ++ intoOf (resynchronised (slice from to a)) (drop split a) .1)
 in-area from to split a h p a₁ e =

@@ -91,7 +91,7 @@ module _ (strict : Bool) (v : Version) (depth at : ℕ) (b : List ℕ) where
 stop-not : (k start stop : ℕ) (kind : Kind) (t : Bool) → Way.Stop k ≡ Way.Body kind t start stop → ⊥
 stop-not k start stop kind t e = let z : _≡_ {A = ℕ} 0 1 = cc in omega arith
 
--- the walk goes into a body and then on behind it
+-- the walk goes into a body and then on after it
 pub record Onward (strict : Bool) (v : Version) (depth at end : ℕ) (s : List ℕ) (kind : Kind) (resynced : Bool) (start stop : ℕ) : Type 0 where
   pub shallow : depth < 9
   pub begins : at + 6 ≤ start

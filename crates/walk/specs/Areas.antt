@@ -1,4 +1,4 @@
--- The walk in an area: what lies from split on is the room, and stays behind what lies before it. Assumes nothing.
+-- The walk in an area: what lies from split on is the room, and stays after what lies before it. Assumes nothing.
 use Prim.Native.Nat.{ℕ}
 use mathlib.Core.Bool.{Bool}
 use mathlib.Core.List.{List}

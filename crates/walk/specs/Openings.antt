@@ -41,7 +41,7 @@ unfoldable pub readyOf : Bool → Bool → ℕ → ℕ → List ℕ → List ℕ
 readyOf inWork true from to tag work = (liesAs (frontOf inWork from to tag work .0), frontOf inWork from to tag work .1)
 readyOf inWork false from to tag work = (Lies.At from to, work)
 
--- what go does with the room of a body that ends at `to`: where that was resynchronised, the room is what lies behind it
+-- what go does with the room of a body that ends at `to`: where that was resynchronised, the room is what lies after it
 unfoldable pub lent : Bool → Bool → ℕ → List ℕ → (List ℕ → Out) → Out
 lent true resynced to work go = (go [] .0, work)
 lent false true to work go = behind (take to work) (go (drop to work))

@@ -36,7 +36,7 @@ fn shown_in(
     }
 }
 
-// A body area[from..to] as it is stored: one that is resynchronised lies at the front of the room then, and the rest of the room is behind it.
+// A body area[from..to] as it is stored: one that is resynchronised lies at the front of the room then, and the rest of the room is after it.
 fn body_in(
     area: &mut [u8],
     from: usize,
@@ -105,7 +105,7 @@ pub(crate) fn walk_in(
     }
 }
 
-// A body s[from..to] as it is stored: one that is resynchronised lies at the front of the room then, and the rest of the room is behind it.
+// A body s[from..to] as it is stored: one that is resynchronised lies at the front of the room then, and the rest of the room is after it.
 pub(crate) fn body(
     room: &mut [u8],
     s: &[u8],

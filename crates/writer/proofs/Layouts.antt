@@ -99,7 +99,7 @@ used-parts (Fields.Contents t o) name names rest ds = record {
 }
 used-parts Fields.Raw name names rest ds = record { name-is = refl; names-are = refl; rest-is = rw (take-length, append-nil) }
 
--- the bytes made of the numbers stand behind the name
+-- the bytes made of the numbers stand after the name
 pub parts-body : {fields : Fields} {name names rest ds : List ℕ} {u : Used} (small : List ℕ) → Parts fields name names rest ds u
     → small ≡ layoutOf (contentOf fields name names rest ds) .small
     → bodyBytes (contentOf fields name names rest ds) ≡ (take (u .name) name ++ (small ++ (take (u .names) names ++ take (u .rest) rest))) ++ packedOf fields ds

@@ -49,7 +49,7 @@ low-bits h j y =
     let f : y ≡ q * 2 ^ j * 2 ^ h + y % 2 ^ (j + h) = omega (arith, e, div-add-mod' y (2 ^ (j + h))) in
     sym (ap (digits 2 h) f ∙ digits-high 2 two h (q * 2 ^ j) (y % 2 ^ (j + h)))
 
--- x put behind the h bits that wait in y
+-- x put after the h bits that wait in y
 pub joined : (h a y x : ℕ) → x < 2 ^ a → h + a ≤ 64 → digits 2 (h + a) (bitOr (y * 2 ^ a % 2 ^ 64) x) ≡ digits 2 h y ++ digits 2 a x
 joined h a y x lt le =
     let j : ℕ = 64 - a - h in

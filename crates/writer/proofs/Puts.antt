@@ -74,7 +74,7 @@ off-bytes e prev s = rw e (unsync-off prev s)
 
 -- ---- bytes that were put
 
--- by the place behind them and the buffer, and whether the last of them is FF
+-- by the place after them and the buffer, and whether the last of them is FF
 pub pen-put : (m : Mode) (pen : Pen) (s o : List ℕ) {n : ℕ} {p : Bool} {o′ : List ℕ}
     → _≡_ {A = ℕ × List ℕ} (n, o′) (pen .at + length (unsync (guards m) (pen .prev) s), sets o (pen .at) (unsync (guards m) (pen .prev) s))
     → p ≡ endsFF (pen .prev) s → _≡_ {A = Putting} (record { at = n; prev = p }, o′) (putOf m pen s o)

@@ -59,7 +59,7 @@ mode-3 = refl
 
 -- ---- adding
 
--- behind the frames there, and no other byte
+-- after the frames there, and no other byte
 added : adding (writer Id3v22 Standard false 2) (rawly (named "XAB") (0xFF ∷ 0xE0 ∷ [])) (replicate 11 7)
     ≡ (Added.Accepted 8 (writer Id3v22 Standard false 10), 7 ∷ 7 ∷ ascii "XAB" ++ (0 ∷ 0 ∷ 2 ∷ 0xFF ∷ 0xE0 ∷ 7 ∷ []))
 unfolding adding writer rawly

@@ -1,4 +1,4 @@
--- What the functions behind finishing a tag answer (document 01, "Writing"). Assumes nothing.
+-- What the functions after finishing a tag answer (document 01, "Writing"). Assumes nothing.
 use Prim.Native.Nat.{ℕ, _+_}
 use mathlib.Core.List.{List, _∷_, _++_}
 use lib.ListN.{length}
@@ -24,7 +24,7 @@ wholeMode Id3v24 m = Off
 abbrev pub headerBytes : Version → Mode → ℕ → List ℕ
 headerBytes v m size = ascii "ID3" ++ (editionByte v ∷ 0 ∷ flagsByte m ∷ synchsafe size)
 
--- frames behind the place of the header, or 20 and the output as it was, where that leaves no room for the padding
+-- frames after the place of the header, or 20 and the output as it was, where that leaves no room for the padding
 abbrev pub framesPut : List ℕ → ℕ → List ℕ → Out
 framesPut u padding output =
     pick (ltb (length output) (10 + (length u + padding))) (Put.Refused 20, output) (Put.Bytes (length u), sets output 10 u)

@@ -9,14 +9,14 @@ use Rattle.format.specs.Unsynch.{guards, unsync, endsFF}
 use Rattle.format.specs.declared.Mode.{Mode}
 use Rattle.writer.specs.declared.pens.Pen.{Pen}
 
--- the pen behind the bytes s
+-- the pen after the bytes s
 abbrev pub penAfter : Mode → Pen → List ℕ → Pen
 penAfter m pen s = record { at = pen .at + length (unsync (guards m) (pen .prev) s); prev = endsFF (pen .prev) s }
 
 abbrev pub Putting : Type 0
 Putting = Pen × List ℕ
 
--- the bytes s are put at a pen: the pen behind them, and the buffer
+-- the bytes s are put at a pen: the pen after them, and the buffer
 abbrev pub putOf : Mode → Pen → List ℕ → List ℕ → Putting
 putOf m pen s buffer = (penAfter m pen s, sets buffer (pen .at) (unsync (guards m) (pen .prev) s))
 

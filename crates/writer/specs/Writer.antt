@@ -30,7 +30,7 @@ beginOf version mode altered =
 abbrev pub beginPlainOf : ℕ → Begun
 beginPlainOf version = beginOf version 0 false
 
--- ---- adding: the checks, the frames that an altered file loses, the room, the frame behind those there
+-- ---- adding: the checks, the frames that an altered file loses, the room, the frame after those there
 
 abbrev pub Adding : Type 0
 Adding = Added × List ℕ

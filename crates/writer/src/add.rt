@@ -1,4 +1,4 @@
-// Adding a record: its frame behind those that the collecting buffer has.
+// Adding a record: its frame after those that the collecting buffer has.
 use crate::Added;
 use crate::Writer;
 use crate::frames::measure_frame;
@@ -18,14 +18,14 @@ ghost use Rattle.format.specs.Encode.{bodyBytes, storedOf, encode};
 ghost use Rattle.writer.specs.Layouts.{Puttable};
 ghost use Rattle.writer.specs.Writer.{appendOf, addOf};
 
-// Whether a buffer is too short for n bytes behind those used.
+// Whether a buffer is too short for n bytes after those used.
 fn is_full(len: usize, used: usize, n: usize) -> bool
     ensures { λ r. ⌜ r ≡ ltb len (used + n) ⌝ }
 {
     if used <= len { len - used < n } else { true }
 }
 
-// Puts a record's frame, whose stored body is `size` bytes, behind those there, or 20 where the room is not there.
+// Puts a record's frame, whose stored body is `size` bytes, after those there, or 20 where the room is not there.
 fn append(
     buffer: &mut [u8],
     writer: Writer,
@@ -71,7 +71,7 @@ fn append(
 }
 
 impl Writer {
-    // Adds a record as a frame: refused with nothing changed, skipped where an altered file loses it, or put behind the frames there.
+    // Adds a record as a frame: refused with nothing changed, skipped where an altered file loses it, or put after the frames there.
     // It also tells that the heading's numbers are of their types, which a caller cannot see inside an enum.
     pub fn add(
         self,

@@ -113,7 +113,7 @@ fn put_references(
     }
 }
 
-// The place behind them, which are not put.
+// The place after them, which are not put.
 fn measure_references(pen: Pen, mode: Mode, fields: Fields, deviations: &[u32]) -> usize
     requires { ⌜ Puttable (contentOf fields [] [] [] (now deviations)) ⌝ }
     ensures { λ r. ⌜ Sized (penAfter mode pen (packedOf fields (now (deviations .entry))) .at) r ⌝ }
@@ -177,7 +177,7 @@ fn put_pieces(
     put_bytes(buffer, third, mode, d)
 }
 
-// The pen behind four pieces, which are not put.
+// The pen after four pieces, which are not put.
 fn measure_pieces(pen: Pen, mode: Mode, a: &[u8], b: &[u8], c: &[u8], d: &[u8]) -> Pen
     ensures { λ r. ⌜ Paced (penAfter mode pen (now (a .entry) ++ (now (b .entry) ++ (now (c .entry) ++ now (d .entry))))) r ⌝ }
 {
@@ -221,7 +221,7 @@ pub(crate) fn put_body(
     put_references(buffer, next, mode, fields, deviations)
 }
 
-// The place behind the body, which is not put.
+// The place after the body, which is not put.
 pub(crate) fn measure_body(
     pen: Pen,
     mode: Mode,

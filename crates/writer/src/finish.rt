@@ -62,7 +62,7 @@ fn is_too_long(buffer: &[u8], used: usize, version: Version, mode: Mode, padding
     unsync_len(buffer, 0, used, false, whole_mode(version, mode)) >= left
 }
 
-// Puts the frames behind the place of the header, where that leaves room for the padding.
+// Puts the frames after the place of the header, where that leaves room for the padding.
 fn put_frames(
     output: &mut [u8],
     buffer: &[u8],

@@ -62,7 +62,7 @@ fn put_short(buffer: &mut [u8], at: usize, id: u32, size: usize)
     put_digits(buffer, at + 3, 3, size as u64);
 }
 
-// Puts a frame's header, and answers the place behind it.
+// Puts a frame's header, and answers the place after it.
 fn put_head(
     buffer: &mut [u8],
     at: usize,
@@ -117,7 +117,7 @@ pub(crate) fn measure_frame(
     )
 }
 
-// Puts a record's frame from `at` on, its stored body being `size` bytes, and answers the place behind it.
+// Puts a record's frame from `at` on, its stored body being `size` bytes, and answers the place after it.
 pub(crate) fn put_frame(
     buffer: &mut [u8],
     at: usize,

@@ -14,7 +14,7 @@ ghost use Rattle.format.specs.Table.{pack, fit};
 ghost use Rattle.writer.specs.Pens.{penAfter, putOf, Paced, Sized};
 ghost use Rattle.writer.specs.Packs.{left, Ready, Packable};
 
-// Bits that wait: the lowest `have` of acc, and behind them the deviations from `i` on, of a and b bits by turns.
+// Bits that wait: the lowest `have` of acc, and after them the deviations from `i` on, of a and b bits by turns.
 struct Bits {
     acc: u64,
     have: u64,
@@ -23,7 +23,7 @@ struct Bits {
     b: u64,
 }
 
-// A byte, and the bits behind it.
+// A byte, and the bits after it.
 struct Next {
     byte: u8,
     bits: Bits,
@@ -119,7 +119,7 @@ pub(crate) fn put_packed(buffer: &mut [u8], pen: Pen, mode: Mode, ds: &[u32], v:
     next
 }
 
-// The pen behind the n bytes of the references, which are not put.
+// The pen after the n bytes of the references, which are not put.
 fn pace_packed(pen: Pen, mode: Mode, ds: &[u32], v: u8, w: u8, n: usize) -> Pen
     requires { ⌜ Packable v w (now ds) × (n ≡ length (pack v w (now ds))) ⌝ }
     ensures { λ r. ⌜ Paced (penAfter mode pen (pack v w (now (ds .entry)))) r ⌝ }
@@ -142,7 +142,7 @@ fn pace_packed(pen: Pen, mode: Mode, ds: &[u32], v: u8, w: u8, n: usize) -> Pen
     next
 }
 
-// The place behind the references, which are not put.
+// The place after the references, which are not put.
 pub(crate) fn measure_packed(pen: Pen, mode: Mode, ds: &[u32], v: u8, w: u8) -> usize
     requires { ⌜ Packable v w (now ds) ⌝ }
     ensures { λ r. ⌜ Sized (penAfter mode pen (pack v w (now (ds .entry))) .at) r ⌝ }

@@ -67,7 +67,7 @@ pub(crate) fn put_bytes(buffer: &mut [u8], pen: Pen, mode: Mode, s: &[u8]) -> Pe
 // A size from which on it does not matter how large it is: no body is that long.
 pub(crate) const LIMIT: usize = 0x1000_0000;
 
-// The pen behind s, which is not put.
+// The pen after s, which is not put.
 pub(crate) fn measure_bytes(pen: Pen, mode: Mode, s: &[u8]) -> Pen
     ensures { λ r. ⌜ Paced (penAfter mode pen (now (s .entry))) r ⌝ }
 {
@@ -92,7 +92,7 @@ pub(crate) fn measure_bytes(pen: Pen, mode: Mode, s: &[u8]) -> Pen
     }
 }
 
-// The pen behind b, which is not put.
+// The pen after b, which is not put.
 pub(crate) fn measure_byte(pen: Pen, mode: Mode, b: u8) -> Pen
     ensures { λ r. ⌜ Paced (penAfter mode pen (b ∷ [])) r ⌝ }
 {

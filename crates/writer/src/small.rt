@@ -32,7 +32,7 @@ fn text(encoding: u8) -> Small
     }
 }
 
-// The zero behind the user, rating and counter.
+// The zero after the user, rating and counter.
 fn popularimeter(rating: u8, counter: u64) -> Small
     ensures { λ r. ⌜ Holds r (0 ∷ rating ∷ counterBytes counter) ⌝ }
 {
@@ -61,7 +61,7 @@ fn table(frames: u16, step: u32, millis: u32, v: u8, w: u8) -> Small
     }
 }
 
-// The zero behind the element id and the four numbers.
+// The zero after the element id and the four numbers.
 fn chapter(start_time: u32, end_time: u32, start_offset: u32, end_offset: u32) -> Small
     ensures { λ r. ⌜ Holds r (0 ∷ bytesOf 4 «start_time» ++ (bytesOf 4 «end_time» ++ (bytesOf 4 «start_offset» ++ bytesOf 4 «end_offset»))) ⌝ }
 {
@@ -87,7 +87,7 @@ fn flags(top_level: bool, ordered: bool) -> u8
     }
 }
 
-// The zero behind the element id, flags and child count.
+// The zero after the element id, flags and child count.
 fn contents(top_level: bool, ordered: bool, children: usize) -> Small
     requires { ⌜ children ≤ 255 ⌝ }
     ensures { λ r. ⌜ Holds r (0 ∷ flagByte «top_level» ordered ∷ children ∷ []) ⌝ }

@@ -153,7 +153,7 @@ fn with_further_tags() -> Result<Named, Refusal> {
     ])
 }
 
-/// A 2.4 tag with a footer behind it: its header again, in other letters.
+/// A 2.4 tag with a footer after it: its header again, in other letters.
 fn with_footer(mut tag: Vec<u8>) -> Vec<u8> {
     tag[5] |= 0x10;
     let header = tag[3..10].to_vec();

@@ -10,10 +10,10 @@ use std::path::{Path, PathBuf};
 use std::{fs, io};
 use streamvault::{Content, Encoding, Id, Mode, Refusal, Version, Writer};
 
-/// What stands for the sound behind a tag: the head of an MPEG frame, and silence.
+/// What stands for the sound after a tag: the head of an MPEG frame, and silence.
 const SOUND: [u8; 16] = [0xFF, 0xFB, 0x90, 0x64, 0, 0, 0, 0, 0, 0, 0, 0, 0, 0, 0, 0];
 
-/// Zeros behind the frames of a tag.
+/// Zeros after the frames of a tag.
 const PADDING: usize = 8;
 
 fn main() -> Result<(), Box<dyn std::error::Error>> {
@@ -84,7 +84,7 @@ fn add_popularimeter(writer: &mut Writer, user: &[u8], counter: u64) -> Result<u
     writer.add(id(writer.version(), b"POP", b"POPM"), &Content::Popularimeter { user, rating: 0, counter })
 }
 
-/// A tag with sound behind it.
+/// A tag with sound after it.
 fn file(tag: &[u8]) -> Vec<u8> {
     [tag, &SOUND].concat()
 }

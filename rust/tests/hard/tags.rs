@@ -287,7 +287,7 @@ pub fn there_and_back(numbers: &mut Numbers) {
     }
 }
 
-/// A record with its references unpacked: bits behind the last one are not written.
+/// A record with its references unpacked: bits after the last one are not written.
 fn compared(record: &Record) -> (Record, Vec<streamvault::Reference>) {
     let mut record = record.clone();
     let mut unpacked = Vec::new();

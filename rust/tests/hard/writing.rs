@@ -149,7 +149,7 @@ impl Buffers {
         self.count.put(some_words(numbers, SV_COUNT_WORDS), numbers.once_in(2));
     }
 
-    /// A finished tag begins with its name, ends in its padding, and nothing behind it changed.
+    /// A finished tag begins with its name, ends in its padding, and nothing after it changed.
     fn finished(&self, padding: usize) {
         let len = self.count.now()[0] as usize;
         let (was, now) = (self.output.was(), self.output.now());

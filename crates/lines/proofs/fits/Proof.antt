@@ -8,7 +8,7 @@ use borrow.Author.Tests.{leb-true, leb-false, le-leb, lt-leb}
 use Rattle.lines.proofs.fits.Statement.{statement}
 use Rattle.lines.proofs.fits.Tie as tie
 
--- what lies behind a place that is there
+-- what lies after a place that is there
 beyond : (at len end : ℕ) → at ≤ end → leb len (end - at) ≡ leb (at + len) end
 beyond at len end h = by-test (leb len (end - at)) refl
   where

@@ -1,4 +1,4 @@
--- `loads::read_some` meets its contract: what the rest gives behind n is what the whole gives. Assumes nothing.
+-- `loads::read_some` meets its contract: what the rest gives after n is what the whole gives. Assumes nothing.
 use mathlib.Core.Path.{_≡_, refl, sym, ap, _∙_}
 use Prim.Native.Nat.{ℕ, _+_, _-_, _*_, _^_, _≤_, _<_, min}
 use native.Mathlib.Nat.{one-le-pow}

@@ -27,9 +27,6 @@ returns c =
     let a = at-start .args in
     refused-place (a .k) (whole at-start) (a .at) (a .buf .now) (c .if1 .taken)
 
-least-requires : tie.Need-least-requires
-least-requires c κs = search needs
-
 returns-2 : tie.Need-returns-2
 unfolding edited
 returns-2 c =
@@ -45,21 +42,6 @@ start c = c .before .before .before .before
 
 cut : (c : tie.After-least) → let a = start c .args in edited (a .how) (a .prev) (slice (a .from) (c .least .result) (a .s .now)) ≡ whole (start c)
 cut c = let a = start c .args in ap (edited (a .how) (a .prev)) (slice-cut (a .from) (a .to) _ (a .s .now) (c .least .ensures))
-
-shared-slice-read-hit : tie.Need-shared-slice-read-hit
-shared-slice-read-hit c = search needs
-
-hit-requires : tie.Need-hit-requires
-hit-requires c κs = search needs
-
-bit-requires : tie.Need-bit-requires
-bit-requires c κs = search needs
-
-sub-beyond : tie.Need-sub-beyond
-sub-beyond c = search needs
-
-beyond-requires : tie.Need-beyond-requires
-beyond-requires c κs = search needs
 
 -- where the first byte was looked at: the end
 abbrev ends : tie.After-hit → tie.After-least
@@ -113,9 +95,6 @@ stored-all c =
 sub-t21 : tie.Need-sub-t21
 sub-t21 c = stored-all c .0
 
-same-length : tie.Need-same-length
-same-length c = search needs
-
 returns-3 : tie.Need-returns-3
 returns-3 c = stored-all c .1
 
@@ -132,16 +111,16 @@ put-part-spec =
     tie.close
     (tie.spec
     returns
-    least-requires
+    (λ c κs. search needs)
     returns-2
-    shared-slice-read-hit
-    hit-requires
-    bit-requires
-    sub-beyond
-    beyond-requires
+    (λ c. search needs)
+    (λ c κs. search needs)
+    (λ c κs. search needs)
+    (λ c. search needs)
+    (λ c κs. search needs)
     fits-requires
     edit-requires
     sub-t21
-    same-length
+    (λ c. search needs)
     returns-3
     returns-4)

@@ -16,12 +16,6 @@ use native.Mathlib.Omega.{arith}
 use Rattle.unsynch.proofs.unsync_len.Statement.{statement}
 use Rattle.unsynch.proofs.unsync_len.Tie as tie
 
-unsync-by-requires : tie.Need-unsync-by-requires
-unsync-by-requires c κs = search needs
-
-least-requires : tie.Need-least-requires
-least-requires c κs = search needs
-
 returns : tie.Need-returns
 unfolding unsync
 returns c =
@@ -43,9 +37,6 @@ same-length c =
     ∙ ap length (unsyncs (a .mode) (a .prev) (part c))
     ∙ ap (λ (l : List ℕ). length (unsync (guards (a .mode)) (a .prev) l)) (slice-cut (a .from) (a .to) _ (a .s .now) (c .before .least .ensures))
 
-sub-result : tie.Need-sub-result
-sub-result c = search needs
-
 returns-2 : tie.Need-returns-2
 returns-2 c =
     let at-some = c .before .before in
@@ -55,18 +46,6 @@ returns-2 c =
     let how = at-how .unsync-by in
     let alone = untouched (how .result) off (known-unsync (how .result) (a .mode) (how .ensures) .inserts off) (a .prev) (part at-some) in
     omega (arith, ap length alone, same-length at-some, length-slice (a .from) (at-some .before .least .result) (a .s .now) (omega arith))
-
-shared-slice-read-hit : tie.Need-shared-slice-read-hit
-shared-slice-read-hit c = search needs
-
-hit-requires : tie.Need-hit-requires
-hit-requires c κs = search needs
-
-bit-requires : tie.Need-bit-requires
-bit-requires c κs = search needs
-
-edited-len-requires : tie.Need-edited-len-requires
-edited-len-requires c κs = search needs
 
 add-result : tie.Need-add-result
 add-result c =
@@ -90,14 +69,14 @@ pub unsync-len-spec : {M : Type 1} → statement M
 unsync-len-spec =
     tie.close
     (tie.spec
-    unsync-by-requires
-    least-requires
+    (λ c κs. search needs)
+    (λ c κs. search needs)
     returns
-    sub-result
+    (λ c. search needs)
     returns-2
-    shared-slice-read-hit
-    hit-requires
-    bit-requires
-    edited-len-requires
+    (λ c. search needs)
+    (λ c κs. search needs)
+    (λ c κs. search needs)
+    (λ c κs. search needs)
     add-result
     returns-3)

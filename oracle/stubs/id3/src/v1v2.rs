@@ -6,7 +6,7 @@ use std::io::Read;
 
 pub use crate::stream::tag::Opened;
 
-/// `Header::decode`; the reader stands behind the extended header then.
+/// `Header::decode`; the reader stands after the extended header then.
 pub fn open(reader: &mut &[u8]) -> crate::Result<Opened> {
     tag::open(reader)
 }

@@ -1,8 +1,8 @@
-//! What is left of a tag behind the end of its frames. No counter is read there, but one may stand there.
+//! What is left of a tag after the end of its frames. No counter is read there, but one may stand there.
 
 use streamvault::{Meter, Version, Work};
 
-/// What a popularimeter that is not read may have left behind the frames, and its place in the file.
+/// What a popularimeter that is not read may have left after the frames, and its place in the file.
 #[derive(Clone, Copy, Debug, PartialEq, Eq)]
 pub enum Left {
     /// A frame header that the end of the tag cuts.
@@ -11,7 +11,7 @@ pub enum Left {
     Id(&'static str, usize),
 }
 
-/// What is found behind the frames of a tag, by the meter that went through it.
+/// What is found after the frames of a tag, by the meter that went through it.
 ///
 /// Where bytes of the tag are missing a header that is cut is no news: the tag itself is.
 pub fn left<W: Work>(tag: &[u8], meter: &Meter<'_, W>) -> impl Iterator<Item = Left> {
@@ -47,7 +47,7 @@ fn place(tag: &[u8], back: usize) -> usize {
 mod tests {
     use super::*;
 
-    /// A tag of one frame, a title, with these flags, and these bytes behind it.
+    /// A tag of one frame, a title, with these flags, and these bytes after it.
     fn tag(version: u8, flags: u8, rest: &[u8]) -> Vec<u8> {
         let frame = if version == 2 { &b"TT2\0\0\x02\0A"[..] } else { b"TIT2\0\0\0\x02\0\0\0A" };
         let size = frame.len() + rest.len();
@@ -77,7 +77,7 @@ mod tests {
             for len in 1..=most {
                 let tag = tag(version, 0, &b"TCOPYRIGHT"[..len]);
                 assert_eq!(found(&tag), [Left::CutHeader(at)], "2.{version}, {len} bytes");
-                // the same behind a zero is padding
+                // the same after a zero is padding
                 let tag = [&tag[..at], b"\0", &tag[at + 1..]].concat();
                 assert_eq!(found(&tag), []);
             }

@@ -1,4 +1,4 @@
-//! The parts of a file that are read: the tag at its front, the bytes behind that, and the file's last bytes.
+//! The parts of a file that are read: the tag at its front, the bytes after that, and the file's last bytes.
 
 use std::io::{self, Read, Seek, SeekFrom};
 use streamvault::{Header, Version};
@@ -15,7 +15,7 @@ const HAS_FOOTER: u8 = 0x10;
 const OLD_TAG: &[u8] = b"TAG";
 const OLD_TAG_LEN: usize = 128;
 
-/// Bytes behind a tag that are read: its footer, and the first letters of another tag.
+/// Bytes after a tag that are read: its footer, and the first letters of another tag.
 const BEHIND: usize = FOOTER_LEN + TAG.len();
 
 /// Bytes of a file's end that are read: a footer, and an ID3v1 tag.
@@ -24,7 +24,7 @@ const END: usize = FOOTER_LEN + OLD_TAG_LEN;
 /// Bytes of a buffer that stay reserved from file to file.
 pub const KEPT: usize = 1 << 20;
 
-/// Reads the tag at the front of a file, with so many bytes behind it, and not the sound. Gives its header. Where that is
+/// Reads the tag at the front of a file, with so many bytes after it, and not the sound. Gives its header. Where that is
 /// refused up to [`Header::PEEK`] bytes are read, which are refused in the same way.
 pub fn read_front(mut input: impl Read, behind: usize, front: &mut Vec<u8>) -> io::Result<Option<Header>> {
     front.clear();
@@ -41,7 +41,7 @@ pub fn read_front(mut input: impl Read, behind: usize, front: &mut Vec<u8>) -> i
 /// A tag that was found and is not read, and its place in the file.
 #[derive(Clone, Copy, Debug, PartialEq, Eq)]
 pub enum Further {
-    /// Directly behind the tag at the front.
+    /// Directly after the tag at the front.
     Second(u64),
     /// At the file's end: the place is that of its footer.
     AtEnd(u64),
@@ -50,7 +50,7 @@ pub enum Further {
 /// What is read of a file.
 #[derive(Debug, Default)]
 pub struct Parts {
-    /// The tag and some bytes behind it; of a file without one its first bytes.
+    /// The tag and some bytes after it; of a file without one its first bytes.
     front: Vec<u8>,
     /// The header of the tag, if it is accepted.
     header: Option<Header>,
@@ -92,7 +92,7 @@ impl Parts {
         [self.second(), self.at_end()].into_iter().flatten()
     }
 
-    /// A tag directly behind the one at the front.
+    /// A tag directly after the one at the front.
     fn second(&self) -> Option<Further> {
         let behind = self.behind();
         let found = self.front.get(behind..).is_some_and(|rest| !rest.is_empty() && begins(rest));
@@ -112,7 +112,7 @@ impl Parts {
         found.then_some(Further::AtEnd(place))
     }
 
-    /// The place behind the tag at the front and its footer, if it has one; 0 where there is none.
+    /// The place after the tag at the front and its footer, if it has one; 0 where there is none.
     fn behind(&self) -> usize {
         let Some(header) = self.header else { return 0 };
         let end = header.tag_len();

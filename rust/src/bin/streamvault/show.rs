@@ -15,7 +15,7 @@ pub fn hex(bytes: &[u8]) -> String {
     })
 }
 
-/// The same behind `hex:`.
+/// The same after `hex:`.
 fn marked_hex(bytes: &[u8]) -> String {
     format!("{HEX}{}", hex(bytes))
 }

@@ -76,7 +76,7 @@ pub enum Lack {
     },
     /// It has a compressed popularimeter.
     Compressed,
-    /// Something stands behind the frames of its tag.
+    /// Something stands after the frames of its tag.
     Left(Left),
     /// It has a further tag.
     Further(Further),

@@ -13,7 +13,7 @@ use borrow.Author.Needs.{needs}
 use Rattle.checks.proofs.ids.id_check.Statement.{statement}
 use Rattle.checks.proofs.ids.id_check.Tie as tie
 
--- behind the kinds' refusal
+-- after the kinds' refusal
 kinds : (c : tie.After-kinds-refusal) (name names rest deviations : List ℕ) →
     let at-fields = c .before .before .before in
     let a = at-fields .before .before .before .args in

@@ -1,4 +1,4 @@
--- `checks::ids::is_among` meets its contract: whether the id stands behind is whether it stands in the whole. Assumes nothing.
+-- `checks::ids::is_among` meets its contract: whether the id stands after is whether it stands in the whole. Assumes nothing.
 use mathlib.Core.Path.{_≡_, refl, sym, _∙_}
 use Prim.Native.Nat.{_-_, _≤_}
 use native.Mathlib.Omega.{arith}

@@ -1,4 +1,4 @@
--- `frame::parts::zero_at` meets its contract: the bytes passed, and what comes before the first zero behind them, come before the first zero. Assumes nothing.
+-- `frame::parts::zero_at` meets its contract: the bytes passed, and what comes before the first zero after them, come before the first zero. Assumes nothing.
 use mathlib.Core.Path.{_≡_}
 use Prim.Native.Nat.{_+_, _-_, _≤_}
 use native.Mathlib.Omega.{arith}

@@ -1,4 +1,4 @@
--- `frame::text::zero_pair_at` meets its contract: the pairs passed, and what comes before the first zero pair behind them, come before the first zero pair. Assumes nothing.
+-- `frame::text::zero_pair_at` meets its contract: the pairs passed, and what comes before the first zero pair after them, come before the first zero pair. Assumes nothing.
 use mathlib.Core.Path.{_≡_}
 use Prim.Native.Nat.{_+_, _-_, _≤_}
 use native.Mathlib.Omega.{arith}

@@ -24,7 +24,7 @@ loop-holds c =
     let start = c .before .before .before in
     (refl, begins (start .args .self) (start .args .tag .now) (start .args .work .now) (start .pre))
 
--- ---- behind a look at the place: it was `met` that stood there
+-- ---- after a look at the place: it was `met` that stood there
 
 abbrev at-loop : tie.After-meet Inv-loop μ-loop → tie.At-loop Inv-loop μ-loop
 at-loop c = c .before .before

@@ -15,7 +15,7 @@ use Rattle.meter.proofs.Meets.{says-here, meets-end, meets-plain, meets
 use Rattle.meter.proofs.going.meet.Statement.{statement}
 use Rattle.meter.proofs.going.meet.Tie as tie
 
--- ---- behind the glance
+-- ---- after the glance
 
 abbrev at-source : tie.After-glance-at → tie.After-source
 at-source c = c .before .before

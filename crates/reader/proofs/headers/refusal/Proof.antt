@@ -23,7 +23,7 @@ is-tag c = sym (c .before .begins .ensures) ∙ not-false _ (c .if1 .left)
 is-long : (c : tie.Else1) → 10 ≤ length (tag c)
 is-long c = long (tag c) (is-tag c)
 
--- earlier states: behind the test for "ID3", and behind the test of the flags
+-- earlier states: after the test for "ID3", and after the test of the flags
 abbrev at-tag : tie.After-is-version → tie.Else1
 at-tag c = c .before .before .before .before
 

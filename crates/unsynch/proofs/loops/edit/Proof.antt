@@ -16,7 +16,7 @@ use Rattle.unsynch.proofs.loops.edit.Tie as tie
 abbrev start : tie.After-bit → tie.Start
 start c = let at-hit = c .before in at-hit .before .before .before .before
 
--- the stores lie in the buffer, and leave the bytes behind it
+-- the stores lie in the buffer, and leave the bytes after it
 first-put : (c : tie.After-bit)
     → let a = start c .args in
     let first = a .at + c .bit .result in

@@ -13,27 +13,12 @@ Inv-loop s from to how n₀ i₀ n i = (from ≤ i) × (i < to) × (n ≤ i - fr
 abbrev μ-loop : tie.MeasureT-loop
 μ-loop s from to how n₀ i₀ n i = to - i
 
-loop-holds : tie.Need-loop-holds Inv-loop μ-loop
-loop-holds c = omega arith
-
-add-loop : tie.Need-add-loop Inv-loop μ-loop
-add-loop c = omega arith
-
-hits-requires : tie.Need-hits-requires Inv-loop μ-loop
-hits-requires c κs = omega arith
-
 add-n : tie.Need-add-n Inv-loop μ-loop
 add-n c =
     let at-loop = c .before .before in
     let a = at-loop .before .before .args in
     let L = at-loop .loop in
     omega (arith, few-after (a .how) (a .s .now) (L .i) (L .i + 64 + 1) (omega arith) (omega arith))
-
-add-i : tie.Need-add-i Inv-loop μ-loop
-add-i c = omega arith
-
-loop-less : tie.Need-loop-less Inv-loop μ-loop
-loop-less c = omega arith
 
 loop-again : tie.Need-loop-again Inv-loop μ-loop
 loop-again c =
@@ -44,9 +29,6 @@ loop-again c =
     let both = hits-parted (a .how) (a .s .now) 64 (L .i) (L .i + 64) (a .to) (omega arith) (omega arith) (omega arith) in
     (omega arith, omega arith, omega (arith, few), omega (arith, both))
 
-hits-by-byte-requires : tie.Need-hits-by-byte-requires Inv-loop μ-loop
-hits-by-byte-requires c κs = omega arith
-
 add-result : tie.Need-add-result Inv-loop μ-loop
 add-result c =
     let at-loop = c .before .before in
@@ -54,22 +36,19 @@ add-result c =
     let L = at-loop .loop in
     omega (arith, few-after (a .how) (a .s .now) (L .i) (a .to) (omega arith) (omega arith))
 
-returns : tie.Need-returns Inv-loop μ-loop
-returns c = omega arith
-
 pub hits-after-spec : {M : Type 1} → statement M
 hits-after-spec =
     tie.close
     (tie.spec
     Inv-loop
     μ-loop
-    loop-holds
-    add-loop
-    hits-requires
+    (λ c. omega arith)
+    (λ c. omega arith)
+    (λ c κs. omega arith)
     add-n
-    add-i
-    loop-less
+    (λ c. omega arith)
+    (λ c. omega arith)
     loop-again
-    hits-by-byte-requires
+    (λ c κs. omega arith)
     add-result
-    returns)
+    (λ c. omega arith))

@@ -35,7 +35,7 @@ all-left c =
     let a = s .args in
     same-list (c .plan-of .ensures .body (a .deviations .now)) (begin (a .mode) (a .pen) (body s) (a .buffer .now) (s .pre .1))
 
--- and behind them
+-- and after them
 abbrev planned : tie.After-put-pieces → tie.After-plan-of
 planned c = let at-slices = c .before .before .before in at-slices .before .before .before .before
 

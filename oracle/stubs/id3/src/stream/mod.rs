@@ -23,7 +23,7 @@ pub mod tag {
         pub frame_bytes: u64,
     }
 
-    /// `Header::decode`; the reader stands behind the extended header then.
+    /// `Header::decode`; the reader stands after the extended header then.
     pub fn open(reader: &mut &[u8]) -> crate::Result<Opened> {
         let header = Header::decode(reader)?;
         Ok(Opened {
@@ -41,7 +41,7 @@ pub mod tag {
 pub mod ends {
     include!("frame/content.rs");
 
-    /// Where `Decoder::text_content` ends a text, in bytes behind the encoding byte.
+    /// Where `Decoder::text_content` ends a text, in bytes after the encoding byte.
     pub fn text_end(version: Version, encoding: Encoding, data: &[u8]) -> usize {
         match version {
             Version::Id3v24 => find_closing_delim(encoding, data),
