@@ -5,7 +5,7 @@ use native.Mathlib.Numerals.{add-one}
 use native.Mathlib.Omega.{arith}
 use mathlib.Core.List.{List, [], _∷_, _++_, append-assoc}
 use lib.ListN.{length, set, getD, take, drop, length-set, length-append}
-use lib.Seq.{slice, length-slice, sets, sets-eq, length-sets, length-take-le, take-at, drop-at, drop-drop, take-set-le, set-set}
+use lib.Seq.{slice, length-slice, sets, sets-eq, length-sets, length-take-le, take-at, drop-at, drop-drop, take-set-le, set-set, set-comm}
 use Rattle.laws.proofs.Slices.{slice-none, slice-next}
 
 -- ---- a list that is stored
@@ -28,6 +28,13 @@ sets-in o p l h =
     sets-eq l o p h
     ∙ append-assoc (take p o) l (drop (p + length l) o)
     ∙ ap (λ (m : List ℕ). take p o ++ (l ++ m)) (sym (drop-drop (length l) p o))
+
+-- an element before it is stored first or last
+pub set-sets : (o : List ℕ) (p q x : ℕ) (l : List ℕ) → p < q → set (sets o q l) p x ≡ sets (set o p x) q l
+set-sets o p q x [] h = refl
+set-sets o p q x (y ∷ l) h =
+    let apart : q ≡ p → ⊥ = λ e. omega (arith, e) in
+    set-sets (set o q y) p (suc q) x l (omega arith) ∙ ap (λ (m : List ℕ). sets m (suc q) l) (set-comm o q p y x apart)
 
 -- it is a part of the whole then
 pub slice-sets : (o : List ℕ) (p : ℕ) (l : List ℕ) → p + length l ≤ length o → slice p (p + length l) (sets o p l) ≡ l

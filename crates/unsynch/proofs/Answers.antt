@@ -1,18 +1,20 @@
 -- What is answered and left in the buffers, from what fits and what is stored. Assumes nothing.
 use mathlib.Core.Path.{_≡_, refl, sym, ap, _∙_}
-use Prim.Native.Nat.{ℕ, _+_, _-_, _≤_, _<_, min}
+use Prim.Native.Nat.{ℕ, suc, _+_, _-_, _≤_, _<_, min}
+use native.Mathlib.Numerals.{add-one}
 use native.Mathlib.Omega.{arith}
 use mathlib.Core.Bool.{Bool, true, false}
-use mathlib.Core.List.{List, [], _++_}
-use lib.ListN.{length, take, drop, length-drop, take-append-drop}
+use mathlib.Core.List.{List, [], _∷_, _++_}
+use lib.ListN.{length, set, take, drop, length-drop, take-append-drop}
 use lib.Seq.{slice, sets}
 use lib.Dec.{leb, ltb}
 use borrow.Author.Tests.{leb-true, leb-false, ltb-true, ltb-false, lt-ltb, le-ltb}
 use Rattle.format.specs.Bytes.{pick}
 use Rattle.laws.proofs.Slices.{take-cut, drop-cut}
-use Rattle.laws.proofs.Stores.{sets-in}
+use Rattle.laws.proofs.Bools.{false-not-true}
+use Rattle.laws.proofs.Stores.{sets-in, set-sets}
 use Rattle.unsynch.specs.declared.Put.{Put}
-use Rattle.unsynch.specs.Puts.{Out, putOf, intoOf}
+use Rattle.unsynch.specs.Puts.{Out, putOf, intoOf, putCount}
 use Rattle.unsynch.specs.Edits.{stored}
 
 -- u at place at of a buffer o
@@ -49,6 +51,43 @@ module _ (k : ℕ) (u : List ℕ) (at : ℕ) (o : List ℕ) where
                 ∙ sym (ap {B = Out} (λ (b : Bool). pick b (Put.Refused k, o) (Put.Bytes (length v), sets o at v)) (le-ltb (length o) (at + length v) long))
                 ∙ ap (λ (w : List ℕ). putOf k w at o) e,
           )
+
+-- a 00, then u: u was put after it, with the answer r and the buffer o′
+abbrev isBytes : Put → Bool
+isBytes (Put.Bytes n) = true
+isBytes (Put.Refused k) = false
+
+module _ (k : ℕ) (u : List ℕ) (at : ℕ) (o : List ℕ) where
+  pub led-place : length o ≤ at → _≡_ {A = Out} (Put.Refused k, o) (putOf k (0 ∷ u) at o)
+  led-place h = rw (lt-ltb (length o) (at + suc (length u)) (omega arith))
+
+  same-end : at + suc (length u) ≡ at + 1 + length u
+  same-end = omega arith
+
+  pub led-refused : (j : ℕ) (o′ : List ℕ) → _≡_ {A = Out} (Put.Refused j, o′) (putOf k u (at + 1) o)
+      → _≡_ {A = Out} (Put.Refused j, o′) (putOf k (0 ∷ u) at o)
+  led-refused j o′ = rw same-end (by-room (ltb (length o) (at + 1 + length u)))
+    where
+      by-room : (t : Bool) → _≡_ {A = Out} (Put.Refused j, o′) (pick t (Put.Refused k, o) (Put.Bytes (length u), sets o (at + 1) u))
+          → _≡_ {A = Out} (Put.Refused j, o′) (pick t (Put.Refused k, o) (Put.Bytes (suc (length u)), sets o at (0 ∷ u)))
+      by-room true e = e
+      by-room false e = absurd (false-not-true (ap (λ (z : Out). isBytes (z .0)) e))
+
+  pub led-put : (n : ℕ) (o′ : List ℕ) → _≡_ {A = Out} (Put.Bytes n, o′) (putOf k u (at + 1) o)
+      → (n ≡ length u) × (at + 1 + length u ≤ length o) × _≡_ {A = Out} (Put.Bytes (n + 1), set o′ at 0) (putOf k (0 ∷ u) at o)
+  led-put n o′ = rw same-end (by-room (ltb (length o) (at + 1 + length u)) refl)
+    where
+      by-room : (t : Bool) → ltb (length o) (at + 1 + length u) ≡ t
+          → _≡_ {A = Out} (Put.Bytes n, o′) (pick t (Put.Refused k, o) (Put.Bytes (length u), sets o (at + 1) u))
+          → (n ≡ length u) × (at + 1 + length u ≤ length o)
+          × _≡_ {A = Out} (Put.Bytes (n + 1), set o′ at 0) (pick t (Put.Refused k, o) (Put.Bytes (suc (length u)), sets o at (0 ∷ u)))
+      by-room true h e = absurd (false-not-true (sym (ap (λ (z : Out). isBytes (z .0)) e)))
+      by-room false h e =
+          let is : n ≡ length u = ap (λ (z : Out). putCount (z .0)) e in
+          let m : n + 1 ≡ suc (length u) = omega arith in
+          let f : set o′ at 0 ≡ sets o at (0 ∷ u) =
+          ap (λ (z : Out). set (z .1) at 0) e ∙ set-sets o at (at + 1) 0 u (omega arith) ∙ ap (λ (q : ℕ). sets (set o at 0) q u) (add-one at) in
+          (is, ltb-false (length o) (at + 1 + length u) h, λ i. (Put.Bytes (m i), f i))
 
 -- a room that starts at place mid of an area: what lies before it stays
 pub in-room : (u : List ℕ) (split mid : ℕ) (a : List ℕ) → mid ≡ min split (length a)

@@ -7,7 +7,7 @@ use mathlib.Core.List.{List, [], _∷_, _++_}
 use lib.ListN.{length, take, getD}
 use lib.Seq.{slice, length-slice, sets, length-sets}
 use lib.Dec.{eqb, leb, ltb}
-use borrow.Author.Tests.{eqb-true, not-false, le-ltb, le-leb, lt-leb, leb-true, leb-false}
+use borrow.Author.Tests.{eqb-true, not-false, le-ltb}
 use Rattle.laws.proofs.Bools.{or-false as both-false, false-not-true, and-true, and-false}
 use Rattle.laws.proofs.Slices.{slice-none, slice-next, slice-front}
 use Rattle.laws.proofs.Stores.{slice-copy}
@@ -165,18 +165,6 @@ module _ (how : How) where
                 ≡ cond f 1 0 + length (getD s from 0 ∷ editedAfter how s from to)
             cases true = omega arith
             cases false = omega arith
-
-        -- whether all fits, by the room that it leaves
-        pub first-fits : (room : ℕ) → leb (length (edited how false (slice from to s))) (room - cond f 1 0) ≡ leb (length (edited how prev (slice from to s))) room
-        first-fits room = cases (cond f 1 0) first-length (leb (length (edited how prev (slice from to s))) room) refl
-          where
-            some : 1 ≤ length (edited how false (slice from to s))
-            some = omega (arith, ap length plain-first)
-
-            cases : (k : ℕ) → length (edited how prev (slice from to s)) ≡ k + length (edited how false (slice from to s))
-                → (t : Bool) → leb (length (edited how prev (slice from to s))) room ≡ t → leb (length (edited how false (slice from to s))) (room - k) ≡ t
-            cases k n true e = le-leb (length (edited how false (slice from to s))) (room - k) (omega (arith, leb-true (length (edited how prev (slice from to s))) room e))
-            cases k n false e = lt-leb (length (edited how false (slice from to s))) (room - k) (omega (arith, some, leb-false (length (edited how prev (slice from to s))) room e))
 
     -- one place further: f says that the edit concerns the byte there
     module _ (i to : ℕ) (lt : i + 1 < to) (le : to ≤ length s) where

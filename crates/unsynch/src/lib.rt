@@ -6,7 +6,6 @@ use format::Mode;
 use format::refusals::NO_ROOM;
 use format::refusals::TOO_LONG;
 use format::refusals::WORK_TOO_SMALL;
-use format::small::beyond;
 use format::small::least;
 use loops::How;
 ghost use mathlib.Core.Path.{_≡_};
@@ -16,7 +15,9 @@ ghost use Rattle.format.specs.Numbers.{bytesOf, fromSynchsafe};
 ghost use Rattle.format.specs.Unsynch.{resynchronised, guards, unsync};
 ghost use Rattle.unsynch.specs.Puts.{encodedOf, putOf, intoOf, inAreaOf, placedOf};
 ghost use Rattle.unsynch.specs.Edits.{Known, edited};
-ghost use mathlib.Core.Bool.{true, _&&_};
+ghost use mathlib.Core.Bool.{true, false, _&&_};
+ghost use mathlib.Core.List.{_∷_};
+ghost use Rattle.format.specs.Bytes.{pick};
 
 // A synchsafe number as one word, or a refusal.
 pub enum Encoded {
@@ -76,16 +77,7 @@ pub fn unsync_len(s: &[u8], from: usize, to: usize, prev: bool, mode: Mode) -> u
 pub fn resync_into(room: &mut [u8], s: &[u8], from: usize, to: usize) -> Put
     ensures { λ r. ⌜ (r, now (room .exit)) ≡ intoOf (resynchronised (slice from to (now (s .entry)))) (now (room .entry)) ⌝ }
 {
-    put_part(
-        room,
-        0,
-        s,
-        from,
-        to,
-        false,
-        loops::resync_by(),
-        WORK_TOO_SMALL,
-    )
+    put_part(room, 0, s, from, to, loops::resync_by(), WORK_TOO_SMALL)
 }
 
 // Unsynchronises s[from..to] to the place `at` of a buffer; prev says that the byte before it was FF. A buffer that is too small is left as it was.
@@ -100,7 +92,11 @@ pub fn unsync_into(
 ) -> Put
     ensures { λ r. ⌜ (r, now (out .exit)) ≡ placedOf (unsync (guards mode) prev (slice from to (now (s .entry)))) at (now (out .entry)) ⌝ }
 {
-    put_part(out, at, s, from, to, prev, loops::unsync_by(mode), NO_ROOM)
+    let how = loops::unsync_by(mode);
+    if is_led(s, from, to, prev, how) {
+        return put_led(out, at, s, from, to, how);
+    }
+    put_part(out, at, s, from, to, how, NO_ROOM)
 }
 
 // Resynchronises area[from..to], of what lies before split, to the front of what lies from split on.
@@ -120,20 +116,39 @@ pub fn resync_in(area: &mut [u8], from: usize, to: usize, split: usize) -> Put
     Put::Refused(WORK_TOO_SMALL)
 }
 
-// Puts s[from..to], edited, at the place `at` of a buffer; prev says that the byte before it was FF, which only an edit that inserts is asked.
-// A buffer that is too small is left as it was, and the answer is the refusal k.
-fn put_part(
-    buf: &mut [u8],
-    at: usize,
-    s: &[u8],
-    from: usize,
-    to: usize,
-    prev: bool,
-    how: How,
-    k: u8,
-) -> Put
-    requires { ⌜ Known how × (prev ≡ true → how .insert ≡ true) ⌝ }
-    ensures { λ r. ⌜ (r, now (buf .exit)) ≡ putOf k (edited how prev (slice from to (now (s .entry)))) at (now (buf .entry)) ⌝ }
+// Whether a 00 goes in before s[from..to] when it is edited; prev says that the byte before it was FF.
+fn is_led(s: &[u8], from: usize, to: usize, prev: bool, how: How) -> bool
+    requires { ⌜ how .insert ≡ true ⌝ }
+    ensures { λ r. ⌜ (let u = edited how false (slice from to (now (s .entry))) in edited how «prev» (slice from to (now (s .entry))) ≡ pick r (0 ∷ u) u) ⌝ }
+{
+    let end = least(to, s.len());
+    if end <= from {
+        return false;
+    }
+    loops::hit(how, prev, s[from])
+}
+
+// Puts a 00 and s[from..to], edited, at the place `at` of a buffer. One that is too small is left as it was.
+fn put_led(out: &mut [u8], at: usize, s: &[u8], from: usize, to: usize, how: How) -> Put
+    requires { ⌜ Known how ⌝ }
+    ensures { λ r. ⌜ (r, now (out .exit)) ≡ placedOf (0 ∷ edited how false (slice from to (now (s .entry)))) at (now (out .entry)) ⌝ }
+{
+    if out.len() <= at {
+        return Put::Refused(NO_ROOM);
+    }
+    match put_part(out, at + 1, s, from, to, how, NO_ROOM) {
+        Put::Refused(k) => Put::Refused(k),
+        Put::Bytes(n) => {
+            out[at] = 0;
+            Put::Bytes(n + 1)
+        }
+    }
+}
+
+// Puts s[from..to], edited, at the place `at` of a buffer. One that is too small is left as it was, and the answer is the refusal k.
+fn put_part(buf: &mut [u8], at: usize, s: &[u8], from: usize, to: usize, how: How, k: u8) -> Put
+    requires { ⌜ Known how ⌝ }
+    ensures { λ r. ⌜ (r, now (buf .exit)) ≡ putOf k (edited how false (slice from to (now (s .entry)))) at (now (buf .entry)) ⌝ }
 {
     if buf.len() < at {
         return Put::Refused(k);
@@ -142,9 +157,8 @@ fn put_part(
     if end <= from {
         return Put::Bytes(0);
     }
-    let extra = loops::bit(loops::hit(how, prev, s[from]));
-    if loops::fits(s, from, end, how, beyond(buf.len() - at, extra)) {
-        return Put::Bytes(loops::edit(buf, at, s, from, end, prev, how) - at);
+    if loops::fits(s, from, end, how, buf.len() - at) {
+        return Put::Bytes(loops::edit(buf, at, s, from, end, how) - at);
     }
     Put::Refused(k)
 }

@@ -268,31 +268,19 @@ fn edit_by_byte(buf: &mut [u8], at: usize, s: &[u8], from: usize, to: usize, how
     drop_words(buf, at, s, from, to)
 }
 
-// Stores s[from..to], edited, from `at` on; prev says that the byte before them was FF, which only an edit that inserts is asked.
-// The answer is the place after what is stored. An edit that concerns no byte is one copy.
-pub(crate) fn edit(
-    buf: &mut [u8],
-    at: usize,
-    s: &[u8],
-    from: usize,
-    to: usize,
-    prev: bool,
-    how: How,
-) -> usize
+// Stores s[from..to], edited, from `at` on. The answer is the place after what is stored. An edit that concerns no byte is one copy.
+pub(crate) fn edit(buf: &mut [u8], at: usize, s: &[u8], from: usize, to: usize, how: How) -> usize
     requires { ⌜ (from < to) × (to ≤ length (now s)) ⌝ }
-    requires { ⌜ at + length (edited how prev (slice from to (now s))) ≤ length (now buf) ⌝ }
-    requires { ⌜ Known how × (prev ≡ true → how .insert ≡ true) ⌝ }
-    ensures { λ r. ⌜ (r, now (buf .exit)) ≡ stored (edited how prev (slice from to (now (s .entry)))) at (now (buf .entry)) ⌝ }
+    requires { ⌜ at + length (edited how false (slice from to (now s))) ≤ length (now buf) ⌝ }
+    requires { ⌜ Known how ⌝ }
+    ensures { λ r. ⌜ (r, now (buf .exit)) ≡ stored (edited how false (slice from to (now (s .entry)))) at (now (buf .entry)) ⌝ }
 {
-    let b = s[from];
-    let first = at + bit(hit(how, prev, b));
-    buf[at] = 0;
-    buf[first] = b;
-    let behind = first + 1;
+    buf[at] = s[from];
+    let next = at + 1;
     if how.zero {
-        return edit_after(buf, behind, s, from, to, how);
+        return edit_after(buf, next, s, from, to, how);
     }
-    edit_by_byte(buf, behind, s, from, to, how)
+    edit_by_byte(buf, next, s, from, to, how)
 }
 
 // The same in one area: area[from..to], edited, is stored from `at` on, after it.

@@ -5,7 +5,6 @@ use mathlib.Core.Bool.{false}
 use mathlib.Core.List.{List}
 use lib.ListN.{length}
 use lib.Seq.{slice}
-use Rattle.laws.proofs.Bools.{false-not-true}
 use Rattle.format.specs.Unsynch.{resynchronised}
 use Rattle.unsynch.specs.declared.loops.How.{How}
 use Rattle.unsynch.specs.Puts.{putOf}
@@ -18,7 +17,7 @@ use Rattle.unsynch.proofs.resync_into.Statement.{statement}
 use Rattle.unsynch.proofs.resync_into.Tie as tie
 
 put-part-requires : tie.Need-put-part-requires
-put-part-requires c κs = (known-resync _ (c .resync-by .ensures), λ e. absurd (false-not-true e))
+put-part-requires c κs = known-resync _ (c .resync-by .ensures)
 
 returns : tie.Need-returns
 returns c =
