@@ -1,4 +1,5 @@
-//! Compiles the C examples against the header and the archive, and runs them; runs the Rust ones beside them.
+//! Compiles the C examples and the hard use of the C interface against the header and the archive, and runs them; runs the
+//! Rust examples beside them.
 
 mod common;
 #[allow(dead_code)]
@@ -74,7 +75,8 @@ fn minutes_says_what_may_be_missing() {
 
 #[test]
 fn hard_use_in_c_has_known_answers() {
-    let program = compiled("hard", &folder("hard"));
+    let program = folder("hard").join("hard");
+    compile(Language::C99, &[root().join("tests/hard.c")], &program);
     let want = "2000 cases, every answer known\n";
     assert_eq!(said(&command(&program).arg("2000").output().unwrap()), (want.to_string(), 0));
 }
