@@ -16,7 +16,7 @@
  *   changed.
  * - No call trusts what it is lent. Words that no call leaves are refused: those of a reader, of a meter or of a writer
  *   with SV_UNKNOWN_VERSION, those of a record with the refusal that speaks of the field, and with SV_WRONG_ID where none
- *   does. A mark that is not 0 is a mark.
+ *   does. A mark that is not 0 is a mark. The places in a reader are not judged: bytes outside the buffer are not there.
  *
  * Reading: sv_open, then sv_step with the same tag, work buffer and reader until it answers something other than 0.
  * Counters alone: sv_meter_open, then sv_meter_next in the same way; the meter's marks then say whether some may be missing.
