@@ -5,9 +5,7 @@ use crate::places;
 use crate::words::flag;
 use crate::words::is_reader;
 use format::Version;
-use format::numbered::is_version;
 use format::numbered::version_number;
-use format::numbered::version_of;
 use meter::Meter;
 use meter::Metered;
 use meter::Next;
@@ -60,14 +58,15 @@ pub(crate) fn is_running(words: &[u64]) -> bool
                 & ((words[places::METER_COMPRESSED] <= 1) & (words[places::METER_MISSING] <= 1))))
 }
 
-// The edition that a number says.
+// The edition that a number says, by one choice among its numbers, since every call of a meter asks it.
 pub(crate) fn version_in(n: u64) -> GivenVersion
     ensures { λ r. ⌜ r ≡ versionIn n ⌝ }
 {
-    if is_version(n) {
-        GivenVersion::Good(version_of(n))
-    } else {
-        GivenVersion::Bad
+    match n {
+        2 => GivenVersion::Good(Version::Id3v22),
+        3 => GivenVersion::Good(Version::Id3v23),
+        4 => GivenVersion::Good(Version::Id3v24),
+        _ => GivenVersion::Bad,
     }
 }
 
