@@ -1,4 +1,4 @@
-"""Hand-made frames for the program `frames`: writes crates/test_frames/stdin (the cases) and crates/test_frames/stdout (the answers).
+"""Hand-made frames for the program `test_frames`: writes crates/test_frames/stdin (the cases) and crates/test_frames/stdout (the answers).
 
 Each case is a line of a table below: a name, the edition, the bytes, and the answer stated by hand: a refusal, nothing, or the
 kind with its numbers, names, bytes and marks. A case that does not say `left` states that the room stays untouched. The model is
@@ -592,7 +592,7 @@ def main():
         found, work = answered(c)
         agree(c, found, work)
         lines.append("%d %s %s\n" % (i, answer_words(found), room_words(work)))
-    folder = Path(__file__).resolve().parent.parent / "crates" / "frames"
+    folder = Path(__file__).resolve().parent.parent / "crates" / "test_frames"
     folder.mkdir(exist_ok=True)
     (folder / "stdin").write_bytes(b"".join(map(packed, CASES)))
     (folder / "stdout").write_text("".join(lines))

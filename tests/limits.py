@@ -1,10 +1,10 @@
 #!/usr/bin/env python3
 """Writes what the programs of the listing read: document 01's example, and the inputs at its limits.
 
-    listing         the tag of document 01, "The listing program"
-    listing_full    65,536 bytes, all that the input area holds: a tag whose padding fills it
-    listing_over    one byte more
-    listing_empty   no byte
+    listing              the tag of document 01, "The listing program"
+    test_listing_full    65,536 bytes, all that the input area holds: a tag whose padding fills it
+    test_listing_over    one byte more
+    test_listing_empty   no byte
 
 What each must write stands beside it in `stdout`, by hand.
 """
@@ -33,9 +33,9 @@ def padded(length):
 
 INPUTS = {
     "listing": tag(18, frame(b"POPM", b"a\0\5\1\0\0\0\0")),
-    "listing_full": padded(AREA),
-    "listing_over": padded(AREA + 1),
-    "listing_empty": b"",
+    "test_listing_full": padded(AREA),
+    "test_listing_over": padded(AREA + 1),
+    "test_listing_empty": b"",
 }
 
 for name, data in INPUTS.items():

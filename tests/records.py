@@ -1,4 +1,4 @@
-"""Records to be written and cases of writing, as the programs `writes` and `trips` read them.
+"""Records to be written and cases of writing, as the programs `test_writes` and `test_trips` read them.
 
 A case in stdin, numbers big-endian:
   version (1 byte), begun with mode and mark (1 byte: 0 by the version alone, 1 with both), mode (1: 0 off, 1 crate, 2 standard), altered (1),

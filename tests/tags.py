@@ -1,4 +1,4 @@
-"""Whole tags for the program `tags`: writes crates/test_tags/stdin (the cases) and crates/test_tags/stdout (the listings).
+"""Whole tags for the program `test_tags`: writes crates/test_tags/stdin (the cases) and crates/test_tags/stdout (the listings).
 
 Each case is an entry of the table below: a name, the bytes, and the lines of the listing, all of them stated by hand. The model is asked
 too and must agree.
@@ -425,7 +425,7 @@ def main():
         assert listed == lines_of(lines), (name, listed, lines)
         given += number(work) + number(len(tag)) + tag
         wanted += b"case %d\n" % i + listed
-    folder = Path(__file__).resolve().parent.parent / "crates" / "tags"
+    folder = Path(__file__).resolve().parent.parent / "crates" / "test_tags"
     folder.mkdir(exist_ok=True)
     (folder / "stdin").write_bytes(given)
     (folder / "stdout").write_bytes(wanted)

@@ -1,4 +1,4 @@
-"""Records there and back for the program `trips`: writes crates/test_trips/stdin (the cases) and crates/test_trips/stdout (the answers).
+"""Records there and back for the program `test_trips`: writes crates/test_trips/stdin (the cases) and crates/test_trips/stdout (the answers).
 
 Each case is one record, written to a tag of its own and read from it. What comes of it is stated by hand in the table below: it comes back
 the same, it is refused with a number, or it is lost, which takes a work buffer that is too short. The model is asked too and must agree;
@@ -191,7 +191,7 @@ def main():
     tried = {(c[1], c[2], c[3].kind, c[5] > 0) for c in CASES if c[4] == SAME}
     assert len(tried) == (4 + 6 + 6) * 3 * 2, "each kind of each edition in each mode, padded and not"
     lines = "".join("case %d %s\n" % (i, line(c)) for i, c in enumerate(CASES, 1))
-    folder = Path(__file__).resolve().parent.parent / "crates" / "trips"
+    folder = Path(__file__).resolve().parent.parent / "crates" / "test_trips"
     (folder / "stdin").write_bytes(b"".join(map(packed, CASES)))
     (folder / "stdout").write_text(lines)
     print(len(CASES), "records there and back", file=sys.stderr)

@@ -1,4 +1,4 @@
-"""Cases of writing for the program `writes`: writes crates/test_writes/stdin (the cases) and crates/test_writes/stdout (the answers).
+"""Cases of writing for the program `test_writes`: writes crates/test_writes/stdin (the cases) and crates/test_writes/stdout (the answers).
 
 Each case is an entry of the table below: how a writer is begun, the records that are added, each with its answer stated by hand (the
 frame's bytes or a refusal), and the answer to finishing (the tag's bytes or a refusal). The model is asked too and must agree.
@@ -506,7 +506,7 @@ def main():
     names = [c[0] for c in CASES]
     assert len(names) == len(set(names)), [n for n in names if names.count(n) > 1]
     lines = "".join("case %d\n" % i + answers(c) for i, c in enumerate(CASES, 1))
-    folder = Path(__file__).resolve().parent.parent / "crates" / "writes"
+    folder = Path(__file__).resolve().parent.parent / "crates" / "test_writes"
     folder.mkdir(exist_ok=True)
     (folder / "stdin").write_bytes(b"".join(map(packed, CASES)))
     (folder / "stdout").write_text(lines)
