@@ -46,7 +46,7 @@ fn cut_header(at: u32) -> String {
 }
 
 fn behind_frames(id: &str, at: u32) -> String {
-    format!("the id {id} at byte {at}, behind the frames, not read")
+    format!("the id {id} at byte {at}, after the frames, not read")
 }
 
 fn second(at: u32) -> String {

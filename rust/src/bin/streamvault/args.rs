@@ -30,10 +30,10 @@ streamvault sum [--csv | --json] [--jobs N] PATH...
     - A cut tag: one with fewer bytes than its header says, or with a frame that
       its end cuts short. The list says how many bytes there should be and are.
     - A tag with a compressed popularimeter.
-    - What stands behind the frames of a tag, which end at the first padding byte
+    - What stands after the frames of a tag, which end at the first padding byte
       or where no whole frame header is left: a frame header that the end of the
       tag cuts, and the first id of a popularimeter (POPM, in 2.2 POP) up to there.
-    - A further tag, which is not summed: directly behind the first one, or at the
+    - A further tag, which is not summed: directly after the first one, or at the
       end of the file, where the footer of a 2.4 tag stands last or before an
       ID3v1 tag. Nothing is looked for elsewhere.
     - A link to a folder that is not summed under another name. It can be named as
@@ -115,7 +115,7 @@ pub fn parse(words: &[OsString]) -> Result<Command, String> {
         Some("--version" | "-V") => Ok(Command::Version),
         Some("sum") => sum(rest),
         Some("list") => list(rest),
-        _ => Err(format!("{} is no command", shown(first))),
+        _ => Err(format!("unknown command: {}", shown(first))),
     }
 }
 
@@ -212,7 +212,7 @@ fn list(words: &[OsString]) -> Result<Command, String> {
 }
 
 fn no_option(option: &OsStr) -> String {
-    format!("{} is no option", shown(option))
+    format!("unknown option: {}", shown(option))
 }
 
 /// A word for people: it may be the name of a file.
@@ -256,7 +256,7 @@ mod tests {
     }
 
     #[test]
-    fn help_is_found_behind_a_command() {
+    fn help_is_found_after_a_command() {
         assert_eq!(parsed(&["sum", "--help"]), Ok(Command::Help));
         assert_eq!(parsed(&["list", "-h"]), Ok(Command::Help));
     }
@@ -264,8 +264,8 @@ mod tests {
     #[test]
     fn what_makes_no_command_says_why() {
         assert_eq!(parsed(&["sum", "--csv", "--json", "a"]), Err("--csv and --json exclude each other".to_string()));
-        assert_eq!(parsed(&["list", "--all", "a"]), Err("--all is no option".to_string()));
+        assert_eq!(parsed(&["list", "--all", "a"]), Err("unknown option: --all".to_string()));
         assert_eq!(parsed(&["sum", "--csv"]), Err("sum needs a path".to_string()));
-        assert_eq!(parsed(&["sum", "-\x1b[2J"]), Err("-\\u{1b}[2J is no option".to_string()));
+        assert_eq!(parsed(&["sum", "-\x1b[2J"]), Err("unknown option: -\\u{1b}[2J".to_string()));
     }
 }

@@ -230,7 +230,7 @@ mod tests {
     }
 
     #[test]
-    fn a_second_tag_directly_behind_the_first() {
+    fn a_second_tag_directly_after_the_first() {
         assert_eq!(further(&[&tag(0), &tag(0), SOUND]), [Further::Second(12)]);
         assert_eq!(further(&[&tag(0x10), FOOT, &tag(0), SOUND]), [Further::Second(22)]);
         assert_eq!(further(&[&tag(0x10), &tag(0), SOUND]), [Further::Second(12)]);

@@ -67,7 +67,7 @@ pub fn what(lack: &Lack) -> String {
         }
         Lack::Compressed => "a compressed popularimeter, not read".to_string(),
         Lack::Left(Left::CutHeader(at)) => format!("a frame header at byte {at}, cut by the end of the tag, not read"),
-        Lack::Left(Left::Id(id, at)) => format!("the id {id} at byte {at}, behind the frames, not read"),
+        Lack::Left(Left::Id(id, at)) => format!("the id {id} at byte {at}, after the frames, not read"),
         Lack::Further(Further::Second(at)) => format!("a second tag at byte {at}, not read"),
         Lack::Further(Further::AtEnd(at)) => format!("a tag at the end, its footer at byte {at}, not read"),
         Lack::Elsewhere => "a link to a folder elsewhere, not followed".to_string(),
@@ -186,7 +186,7 @@ r.mp3: cut: 62 bytes of a tag of 70 are there (popularimeters counted before it:
 s.mp3: cut: 70 bytes of a tag of 70 are there, a frame is short (popularimeters counted before it: 0)
 s.mp3: a compressed popularimeter, not counted
 s.mp3: a frame header at byte 66, cut by the end of the tag, not read
-s.mp3: the id POPM at byte 67, behind the frames, not read
+s.mp3: the id POPM at byte 67, after the frames, not read
 t.mp3: a second tag at byte 70, not read
 t.mp3: a tag at the end, its footer at byte 700, not read
 folder: a link to a folder elsewhere, not followed

@@ -122,7 +122,7 @@ impl Sum {
         let queue = Mutex::new(Queue { files: files.enumerate(), progress });
         let share = || Worker::default().sum(&queue);
         thread::scope(|scope| {
-            // where no more threads are to be had, those that there are do all
+            // where no more threads can be started, those that there are do all
             let spawn = |_| thread::Builder::new().spawn_scoped(scope, share).ok();
             let others: Vec<_> = (1..jobs).map_while(spawn).collect();
             let mut sum = share()?;
@@ -409,7 +409,7 @@ mod tests {
     }
 
     #[test]
-    fn what_stands_behind_the_frames_is_told_and_does_not_count() {
+    fn what_stands_after_the_frames_is_told_and_does_not_count() {
         let whole = tag(Version::Id3v24, &[(b"a", 3), (b"b", 5)]);
         // the size is too small: the tag ends two bytes into the second frame
         let mut small = whole.clone();
