@@ -11,7 +11,7 @@ use Rattle.reader.proofs as reader
 use Rattle.meter.proofs as meter
 use Rattle.checks.proofs as checks
 use Rattle.writer.proofs as writer
-use Rattle.printout.proofs as listed
+use Rattle.printout.proofs as printout
 use Rattle.back.proofs as back
 use Rattle.capi.proofs as capi
 use Rattle.answers.specs.OneAnswer.{OneAnswer}
@@ -208,9 +208,9 @@ add-one κs a x y v w p q = alike (p .0) (q .0) λ o. (o .0, (v .0, (o .1, v .1 
 pub finish-one : OneAnswer writer.Writer.finish.ended writer.Writer.finish.Reads.Learnt
 finish-one κs a x y v w p q = alike p q λ o. (o .0, (v .0, (o .1, v .1 .1)))
 
--- ---- listed
+-- ---- printout
 
-pub list-one : OneAnswer listed.list.ended listed.list.Reads.Learnt
+pub list-one : OneAnswer printout.list.ended printout.list.Reads.Learnt
 list-one κs a x y v w p q = alike p q λ o. (o .0, (o .1 .0, (o .1 .1, v .1 .1)))
 
 -- ---- back
