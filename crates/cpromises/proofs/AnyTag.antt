@@ -24,6 +24,7 @@ use Rattle.format.specs.declared.Kind.{Kind}
 use Rattle.format.specs.declared.Head.{Head}
 use Rattle.format.proofs.Checks.{of-picked, first-none, none-else}
 use Rattle.format.proofs.Heads.{stands}
+use Rattle.format.proofs.Popularimeter.{taken-counted}
 use Rattle.reader.specs.Reader.{openWhole, openOf}
 use Rattle.reader.specs.declared.Opened.{Opened}
 use Rattle.promises.specs.Reading.{Reading, readFrom, onOpen, readFor, readAll}
@@ -91,29 +92,6 @@ of-four (x ∷ y ∷ z ∷ []) h b = omega arith
 of-four (x ∷ y ∷ z ∷ w ∷ []) h b = omega arith
 of-four (x ∷ y ∷ z ∷ w ∷ v ∷ s) h b = absurd (omega arith)
 
-four-onto : (a x y z w : ℕ) → a < 2 ^ 32 → x < 2 ^ 8 → y < 2 ^ 8 → z < 2 ^ 8 → w < 2 ^ 8 → (((a * 256 + x) * 256 + y) * 256 + z) * 256 + w < 2 ^ 64
-four-onto a x y z w h i j k l = omega arith
-
--- after four bytes at most four more
-onto-four : (a : ℕ) (s : List ℕ) → a < 2 ^ 32 → length s ≤ 4 → AllBytes s → onto 256 a s < 2 ^ 64
-unfolding onto
-onto-four a [] h l b = omega arith
-onto-four a (x ∷ []) h l b = omega arith
-onto-four a (x ∷ y ∷ []) h l b = omega arith
-onto-four a (x ∷ y ∷ z ∷ []) h l b = omega arith
-onto-four a (x ∷ y ∷ z ∷ w ∷ []) h l b = four-onto a x y z w h (b .0) (b .1 .0) (b .1 .1 .0) (b .1 .1 .1 .0)
-onto-four a (x ∷ y ∷ z ∷ w ∷ v ∷ s) h l b = absurd (omega arith)
-
-of-eight : (s : List ℕ) → length s ≤ 8 → AllBytes s → number s < 2 ^ 64
-unfolding onto
-of-eight [] h b = omega arith
-of-eight (x ∷ []) h b = omega arith
-of-eight (x ∷ y ∷ []) h b = omega arith
-of-eight (x ∷ y ∷ z ∷ []) h b = omega arith
-of-eight (x ∷ y ∷ z ∷ w ∷ s) h b =
-    let front : number (x ∷ y ∷ z ∷ w ∷ []) < 2 ^ 32 = of-four (x ∷ y ∷ z ∷ w ∷ []) (omega arith) (bytes-take 4 (x ∷ y ∷ z ∷ w ∷ s) b) in
-    onto-four (number (x ∷ y ∷ z ∷ w ∷ [])) s front (omega arith) (bytes-drop 4 (x ∷ y ∷ z ∷ w ∷ s) b)
-
 part-bytes : (from n : ℕ) (s : List ℕ) → AllBytes s → AllBytes (take n (drop from s))
 part-bytes from n s b = bytes-take n (drop from s) (bytes-drop from s b)
 
@@ -126,9 +104,7 @@ content-shows : (v : Version) (b : List ℕ) (kind : Kind) (n : ℕ) → AllByte
     → ContentFits (contentIn v b kind) × Given n (contentIn v b kind)
 unfolding bodyRefusal
 content-shows v b Kind.Text n h e d = (byte-at 0 b h, tt)
-content-shows v b Kind.Popularimeter n h e d =
-    let s = drop (zeroAt b + 2) b in
-    ((byte-at (zeroAt b + 1) b h, of-eight (take 8 s) (omega (arith, length-take 8 s)) (part-bytes (zeroAt b + 2) 8 b h)), tt)
+content-shows v b Kind.Popularimeter n h e d = ((byte-at (zeroAt b + 1) b h, taken-counted b e .fits), tt)
 content-shows v b Kind.Table n h e d =
     let cut : (from to : ℕ) → to ≤ from + 4 → number (slice from to b) < 2 ^ 32 =
     λ from to l. of-four (slice from to b) (omega (arith, length-drop from (take to b), length-take to b)) (slice-bytes from to b h) in (

@@ -1,7 +1,7 @@
 -- Laws of numbers as digits, over any base. Assumes nothing.
 use mathlib.Core.Path.{_≡_, refl, sym, ap, _∙_}
 use Prim.Native.Nat.{ℕ, zero, suc, _+_, _*_, _/_, _%_, _^_, _≤_, _<_}
-use native.Mathlib.Nat.{zero-mul, add-mul, mul-assoc, pow-zero, pow-succ', mod-lt, mod-one, mod-eq-of-lt, one-le-pow, pow-suc, div-one, div-div-eq-div-mul}
+use native.Mathlib.Nat.{zero-mul, add-mul, mul-assoc, pow-zero, pow-succ', mod-lt, mod-one, mod-eq-of-lt, one-le-pow, pow-suc, pow-le-pow-right, mul-le-mul-right, div-one, div-div-eq-div-mul}
 use native.Mathlib.Omega.{arith}
 use mathlib.Core.List.{List, [], _∷_}
 use lib.Arith.{mod-mul, digits-div, digits-mod}
@@ -20,6 +20,15 @@ length-digits base (suc k) n = ap suc (length-digits base k n)
 -- each is below the base
 abbrev pub Digits : ℕ → List ℕ → Type 0
 Digits base s = Each (λ (x : ℕ). x < base) 0 s
+
+-- the number before digits counts as often as their places have values
+pub onto-sum : (base a : ℕ) (s : List ℕ) → onto base a s ≡ a * base ^ length s + onto base 0 s
+unfolding onto
+onto-sum base a [] = rw pow-zero (omega arith)
+onto-sum base a (x ∷ s) =
+    let p : ℕ = base ^ length s in
+    rw (onto-sum base (a * base + x) s, onto-sum base (0 * base + x) s, pow-succ')
+    (omega (arith, add-mul (a * base) x p, add-mul (0 * base) x p, mul-assoc a base p, zero-mul base, zero-mul p))
 
 module _ (base : ℕ) (pos : 0 < base) where
   pub digit-below : (k n : ℕ) → Digits base (digits base k n)
@@ -63,6 +72,15 @@ module _ (base : ℕ) (pos : 0 < base) where
 -- a plain number of k bytes
 pub number-back : (k n : ℕ) → n < 256 ^ k → number (bytesOf k n) ≡ n
 number-back k n h = digits-back 256 (omega arith) k n h
+
+-- a byte other than 0 before k others
+pub number-large : (k x : ℕ) (s : List ℕ) → (x ≡ 0 → ⊥) → k ≤ length s → 256 ^ k ≤ number (x ∷ s)
+unfolding onto
+number-large k x s some long =
+    let p : ℕ = 256 ^ length s in
+    let grows : 256 ^ k ≤ p = pow-le-pow-right {n = 256} (omega arith) long in
+    let once : 1 * p ≤ x * p = mul-le-mul-right p (omega arith) in
+    rw (onto-sum 256 (0 * 256 + x) s) (omega arith)
 
 -- ---- synchsafe numbers
 

@@ -1,6 +1,6 @@
--- Worked cases of reading, by computation: frames of document 01, of the ID3v2 texts, and the smallest for each refusal 5 and 7 to 14. Assumes nothing.
+-- Worked cases of reading, by computation: frames of document 01, of the ID3v2 texts, and the smallest for each refusal 5, 7 to 14 and 35. Assumes nothing.
 use mathlib.Core.Path.{_≡_, refl}
-use Prim.Native.Nat.{ℕ, zero, suc, _*_, _^_}
+use Prim.Native.Nat.{ℕ, zero, suc, _-_, _^_}
 use mathlib.Core.Bool.{Bool, true, false}
 use mathlib.Core.List.{List, [], _∷_, _++_}
 use lib.ListN.{length, replicate}
@@ -107,15 +107,48 @@ owed : reading Id3v22 (ascii "POP" ++ (0 ∷ 0 ∷ 4 ∷ 0 ∷ 9 ∷ 0xFF ∷ 0x
 unfolding reading shows plain
 owed = refl
 
--- no counter is 0; of a longer one the first eight bytes count
+-- no counter is 0
 none-counted : reading Id3v23 (frame23 (ascii "POPM") 0 (0 ∷ 9 ∷ [])) [] ≡ shows (plain (named "POPM") (popularimeter [] 9 0)) []
 unfolding reading shows plain frame23
 none-counted = refl
 
-nine-counted : reading Id3v23 (frame23 (ascii "POPM") 0 (0 ∷ 9 ∷ 1 ∷ 0 ∷ 0 ∷ 0 ∷ 0 ∷ 0 ∷ 0 ∷ 0 ∷ 9 ∷ [])) []
-    ≡ shows (plain (named "POPM") (popularimeter [] 9 (2 ^ 56))) []
+-- a longer one counts whole: nine bytes, and a box's twelve, an hour
+nine-counted : reading Id3v23 (frame23 (ascii "POPM") 0 (0 ∷ 9 ∷ zeros 8 ++ (7 ∷ []))) [] ≡ shows (plain (named "POPM") (popularimeter [] 9 7)) []
 unfolding reading shows plain frame23
 nine-counted = refl
+
+twelve-counted : reading Id3v22 (ascii "POP" ++ (0 ∷ 0 ∷ 14 ∷ 0 ∷ 9 ∷ zeros 8 ++ (0x00 ∷ 0x36 ∷ 0xEE ∷ 0x80 ∷ []))) []
+    ≡ shows (plain (named "POP") (popularimeter [] 9 3600000)) []
+unfolding reading shows plain
+twelve-counted = refl
+
+-- the largest that fits 64 bits, and the next
+largest : reading Id3v24 (frame24 (ascii "POPM") 0 (0 ∷ 9 ∷ 0 ∷ replicate 8 0xFF)) [] ≡ shows (plain (named "POPM") (popularimeter [] 9 (2 ^ 64 - 1))) []
+unfolding reading shows plain frame24
+largest = refl
+
+over-24 : reading Id3v24 (frame24 (ascii "POPM") 0 (0 ∷ 9 ∷ 1 ∷ zeros 8)) [] ≡ refused 35 []
+unfolding reading refused frame24
+over-24 = refl
+
+over-23 : reading Id3v23 (frame23 (ascii "POPM") 0 (0 ∷ 9 ∷ 0 ∷ 1 ∷ zeros 8)) [] ≡ refused 35 []
+unfolding reading refused frame23
+over-23 = refl
+
+-- of the bytes that are there: one of nine is missing, then one of ten
+short-counted : reading Id3v22 (ascii "POP" ++ (0 ∷ 0 ∷ 11 ∷ 0 ∷ 9 ∷ 1 ∷ zeros 7)) []
+    ≡ shows (record { id = named "POP"; short = true; compressed = false; content = popularimeter [] 9 (2 ^ 56) }) []
+unfolding reading shows
+short-counted = refl
+
+short-over : reading Id3v22 (ascii "POP" ++ (0 ∷ 0 ∷ 12 ∷ 0 ∷ 9 ∷ 1 ∷ zeros 8)) [] ≡ refused 35 []
+unfolding reading refused
+short-over = refl
+
+-- 11 comes first
+no-zero : reading Id3v24 (frame24 (ascii "POPM") 0 (replicate 12 0xFF)) [] ≡ refused 11 []
+unfolding reading refused frame24
+no-zero = refl
 
 no-rating : reading Id3v24 (frame24 (ascii "POPM") 0 (0x61 ∷ 0x00 ∷ [])) [] ≡ refused 11 []
 unfolding reading refused frame24
@@ -276,6 +309,11 @@ resynced : reading Id3v24 (frame24 (ascii "POPM") 2 (0 ∷ 9 ∷ 0xFF ∷ 0x00 �
 unfolding reading shows plain frame24
 resynced = refl
 
+-- a counter that does not fit, once it is resynchronised: FF 00 and seven more
+resynced-over : reading Id3v24 (frame24 (ascii "POPM") 2 (0 ∷ 9 ∷ 0xFF ∷ 0x00 ∷ 0x00 ∷ zeros 7)) (replicate 12 7) ≡ refused 35 (0 ∷ 9 ∷ 0xFF ∷ zeros 8 ++ (7 ∷ []))
+unfolding reading refused frame24
+resynced-over = refl
+
 -- no room: nothing is written
 no-room : reading Id3v24 (frame24 (ascii "POPM") 2 (0 ∷ 9 ∷ 0xFF ∷ 0x00 ∷ 0x00 ∷ [])) (7 ∷ 7 ∷ 7 ∷ []) ≡ refused 14 (7 ∷ 7 ∷ 7 ∷ [])
 unfolding reading refused frame24
@@ -306,6 +344,11 @@ missing-child = refl
 inside : reading Id3v24 (frame24 (ascii "CHAP") 0 (chap (frame24 (ascii "TIT2") 0 (4 ∷ [])))) [] ≡ refused 12 []
 unfolding reading refused frame24 chap
 inside = refl
+
+-- at every depth
+over-inside : reading Id3v23 (frame23 (ascii "CHAP") 0 (chap (frame23 (ascii "CHAP") 0 (chap (frame23 (ascii "POPM") 0 (0 ∷ 9 ∷ 1 ∷ zeros 8)))))) [] ≡ refused 35 []
+unfolding reading refused frame23 chap
+over-inside = refl
 
 -- A resynchronised chapter stands at the front of the room; its subframes' bodies go after it, siblings at one place: FF 00 05, then 03 04 over it.
 siblings : List ℕ

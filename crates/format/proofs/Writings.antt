@@ -140,6 +140,18 @@ flagged-inside : refused Id3v24 (named "CTOC") (contents [] false false [] (writ
 unfolding refused writes run24
 flagged-inside = refl
 
+-- a counter in the run that does not fit 64 bits; a longer one that does
+counter24 : List ℕ → List ℕ
+counter24 counter = ascii "POPM" ++ (0 ∷ 0 ∷ 0 ∷ 11 ∷ 0 ∷ 0 ∷ 0 ∷ 9 ∷ counter)
+
+over-in-run : refused Id3v24 (named "CHAP") (chapter [] 0 0 0 0 (counter24 (1 ∷ zeros 8))) ≡ 29
+unfolding refused counter24
+over-in-run = refl
+
+nine-in-run : refused Id3v24 (named "CHAP") (chapter [] 0 0 0 0 (counter24 (zeros 8 ++ (7 ∷ [])))) ≡ 0
+unfolding refused counter24
+nine-in-run = refl
+
 -- chapters in chapters: the record itself is at depth 1
 nest : ℕ → List ℕ
 unfolding writes

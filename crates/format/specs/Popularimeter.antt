@@ -1,16 +1,20 @@
 -- Popularimeters (document 01, "Five kinds", Popularimeter; 2.4.0 frames, section 4.17). Assumes nothing.
-use Prim.Native.Nat.{ℕ, zero, suc, _+_}
+use Prim.Native.Nat.{ℕ, zero, suc, _+_, _^_}
 use mathlib.Core.List.{List, [], _∷_, _++_}
-use lib.ListN.{length, take, drop, getD}
+use lib.ListN.{length, drop, getD}
 use lib.Dec.{ltb}
-use Rattle.format.specs.Bytes.{pick, zeroAt}
+use Rattle.format.specs.Bytes.{pick, first, zeroAt}
 use Rattle.format.specs.Numbers.{number, bytesOf}
 
 -- ---- the counter
 
--- of a longer field the first eight bytes; none means 0
+-- one number, however many bytes; none means 0
 abbrev pub counterOf : List ℕ → ℕ
-counterOf s = number (take 8 s)
+counterOf s = number s
+
+-- what does not fit 64 bits is refused
+abbrev pub counterRefusal : ℕ → ℕ
+counterRefusal counter = pick (ltb counter (2 ^ 64)) 0 35
 
 -- without zeros in front
 unfoldable pub stripped : List ℕ → List ℕ
@@ -24,15 +28,18 @@ counterBytes counter = stripped (bytesOf 8 counter)
 
 -- ---- the body: user, zero, rating, counter
 
--- no zero, or no rating after it
-abbrev pub popularimeterRefusal : List ℕ → ℕ
-popularimeterRefusal b = pick (ltb (zeroAt b + 1) (length b)) 0 11
-
 abbrev pub ratingIn : List ℕ → ℕ
 ratingIn b = getD b (zeroAt b + 1) 0
 
 abbrev pub counterIn : List ℕ → ℕ
 counterIn b = counterOf (drop (zeroAt b + 2) b)
+
+-- no zero, or no rating after it
+abbrev pub ratingRefusal : List ℕ → ℕ
+ratingRefusal b = pick (ltb (zeroAt b + 1) (length b)) 0 11
+
+abbrev pub popularimeterRefusal : List ℕ → ℕ
+popularimeterRefusal b = first (ratingRefusal b ∷ counterRefusal (counterIn b) ∷ [])
 
 abbrev pub popularimeterBody : List ℕ → ℕ → ℕ → List ℕ
 popularimeterBody user rating counter = user ++ (0 ∷ rating ∷ counterBytes counter)

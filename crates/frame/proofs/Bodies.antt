@@ -1,6 +1,6 @@
 -- The answers of the functions that read a body, a law for each case. Assumes nothing.
 use mathlib.Core.Path.{_≡_, refl, ap}
-use Prim.Native.Nat.{ℕ, suc, _+_, _-_, _/_, _%_, _<_, _≤_, min}
+use Prim.Native.Nat.{ℕ, suc, _+_, _-_, _/_, _%_, _^_, _<_, _≤_, min}
 use native.Mathlib.Nat.{div-one}
 use native.Mathlib.Omega.{arith}
 use mathlib.Core.Bool.{true, false}
@@ -17,6 +17,7 @@ use Rattle.format.specs.Text.{textEnd}
 use Rattle.format.specs.Table.{widthChecks}
 use Rattle.format.specs.Chapter.{namesLen}
 use Rattle.format.specs.Record.{bodyRefusal, partsOf, nowhere}
+use Rattle.format.proofs.Popularimeter.{counted-taken}
 use Rattle.format.specs.declared.Version.{Version}
 use Rattle.format.specs.declared.Kind.{Kind}
 use Rattle.format.specs.declared.Fields.{Fields}
@@ -73,14 +74,19 @@ counter-lies from to len s b same h =
 
 module _ (b : List ℕ) (len : ℕ) (zero : len ≡ zeroAt b) where
   pub popularimeter-cut : length b ≤ len + 1 → bodyRefusal Kind.Popularimeter b ≡ 11
-  unfolding bodyRefusal
+  unfolding bodyRefusal first
   popularimeter-cut h = rw (← zero, le-ltb (len + 1) (length b) h)
 
-  pub popularimeter-whole : len + 1 < length b → bodyRefusal Kind.Popularimeter b ≡ 0
-  unfolding bodyRefusal
-  popularimeter-whole h = rw (← zero, lt-ltb (len + 1) (length b) h)
+  module _ (rated : len + 1 < length b) where
+    pub popularimeter-large : 2 ^ 64 ≤ number (drop (len + 2) b) → bodyRefusal Kind.Popularimeter b ≡ 35
+    unfolding bodyRefusal first
+    popularimeter-large h = rw (← zero, lt-ltb (len + 1) (length b) rated, le-ltb (number (drop (len + 2) b)) (2 ^ 64) h)
 
-  pub popularimeter-parts : (v : Version) (at counter : ℕ) (none : Span) → counter ≡ number (take 8 (drop (len + 2) b)) → none ≡ nowhere
+    pub popularimeter-whole : number (drop (len + 2) b) < 2 ^ 64 → bodyRefusal Kind.Popularimeter b ≡ 0
+    unfolding bodyRefusal
+    popularimeter-whole h = counted-taken (record { rated = rw (← zero) rated; fits = rw (← zero) h })
+
+  pub popularimeter-parts : (v : Version) (at counter : ℕ) (none : Span) → counter ≡ number (drop (len + 2) b) → none ≡ nowhere
       → record { fields = Fields.Popularimeter (getD b (len + 1) 0) counter; name = span at len; names = none; rest = none } ≡ partsOf v Kind.Popularimeter at b
   unfolding partsOf
   popularimeter-parts v at counter none e f = rw (← zero, e, f)

@@ -7,4 +7,5 @@ mod Widths
 mod Packed
 mod Counts
 mod Unpacking
+mod Counters
 pub mod Bodies

@@ -1,8 +1,11 @@
 -- What reading a body answers (document 01, "Five kinds"). Assumes nothing.
-use Prim.Native.Nat.{ℕ}
+use mathlib.Core.Path.{_≡_}
+use Prim.Native.Nat.{ℕ, _-_, _^_, _≤_, _<_}
 use mathlib.Core.List.{List}
+use lib.Seq.{slice}
 use lib.Dec.{eqb, leb}
 use Rattle.format.specs.Bytes.{pick, zerosIn}
+use Rattle.format.specs.Numbers.{number}
 use Rattle.format.specs.Chapter.{namesLen}
 use Rattle.format.specs.Record.{bodyRefusal, partsOf}
 use Rattle.format.specs.declared.Version.{Version}
@@ -17,3 +20,9 @@ parsedOf v kind at b = pick (eqb (bodyRefusal kind b) 0) (Parsed.Parts (partsOf 
 -- how many bytes k names take with their zeros, if there are so many
 unfoldable pub namesOf : ℕ → List ℕ → Names
 namesOf k s = pick (leb k (zerosIn s)) (Names.Whole (namesLen k s)) Names.Cut
+
+-- the counter s[from..to] counts from r on: what comes before is nothing but zeros, and more than eight bytes do not fit 64 bits
+pub record Begins (from to : ℕ) (s : List ℕ) (r : ℕ) : Type 0 where
+  pub within : r ≤ to
+  pub same : number (slice r to s) ≡ number (slice from to s)
+  pub large : 8 < to - r → 2 ^ 64 ≤ number (slice r to s)

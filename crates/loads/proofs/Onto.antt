@@ -1,7 +1,7 @@
 -- Big-endian numbers: a byte at a time, two one after the other, and the last bytes alone. Assumes nothing.
 use mathlib.Core.Path.{_≡_, refl, sym, ap, _∙_}
 use Prim.Native.Nat.{ℕ, zero, suc, _+_, _-_, _*_, _/_, _%_, _^_, _≤_, _<_, min}
-use native.Mathlib.Nat.{zero-mul, add-mul, mul-assoc, pow-zero, pow-succ', lt-of-lt-of-le, pow-le-pow-right}
+use native.Mathlib.Nat.{zero-mul, pow-succ', lt-of-lt-of-le, pow-le-pow-right}
 use native.Mathlib.Numerals.{add-one}
 use native.Mathlib.Omega.{arith}
 use mathlib.Core.List.{List, [], _∷_, _++_}
@@ -12,7 +12,7 @@ use Rattle.laws.proofs.Parts.{each-take, each-drop}
 use Rattle.laws.proofs.Cuts.{drop-next, length-cut, take-drop}
 use Rattle.laws.proofs.Slices.{slice-drop, take-drop-take}
 use Rattle.format.specs.Numbers.{onto, number}
-use Rattle.format.proofs.Numbers.{Digits, onto-digits, digits-onto}
+use Rattle.format.proofs.Numbers.{Digits, onto-sum, onto-digits, digits-onto}
 
 -- ---- a byte at a time
 
@@ -51,14 +51,6 @@ pub onto-append : (base a : ℕ) (s t : List ℕ) → onto base a (s ++ t) ≡ o
 unfolding onto
 onto-append base a [] t = refl
 onto-append base a (x ∷ s) t = onto-append base (a * base + x) s t
-
-onto-sum : (base a : ℕ) (s : List ℕ) → onto base a s ≡ a * base ^ length s + onto base 0 s
-unfolding onto
-onto-sum base a [] = rw pow-zero (omega arith)
-onto-sum base a (x ∷ s) =
-    let p : ℕ = base ^ length s in
-    rw (onto-sum base (a * base + x) s, onto-sum base (0 * base + x) s, pow-succ')
-    (omega (arith, add-mul (a * base) x p, add-mul (0 * base) x p, mul-assoc a base p, zero-mul base, zero-mul p))
 
 -- digits after others, by themselves
 pub onto-low : (base : ℕ) → 0 < base → (a : ℕ) (s : List ℕ) → Digits base s → onto base a s % base ^ length s ≡ onto base 0 s

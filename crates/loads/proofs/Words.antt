@@ -2,20 +2,17 @@
 use mathlib.Core.Path.{_≡_, refl, ap, _∙_}
 use Prim.Native.Nat.{ℕ, zero, suc, _+_, _*_, _/_, _%_, _≤_, _<_}
 use native.Mathlib.Nat.{suc-add}
-use native.Mathlib.Numerals.{add-one}
 use native.Mathlib.Omega.{arith}
 use mathlib.Core.List.{List, [], _∷_}
 use lib.ListN.{length, take, getD}
-use lib.Seq.{slice, slice-cons, slice-empty, length-slice}
+use lib.Seq.{slice, slice-empty, length-slice}
 use Rattle.laws.proofs.Parts.{each-drop, each-take}
+use Rattle.laws.proofs.Slices.{slice-next}
 use Rattle.format.specs.Numbers.{onto, number, bytesOf, fromSynchsafe}
 use Rattle.format.proofs.Numbers.{Digits, digits-onto}
 use Rattle.loads.specs.Loads.{Little}
 
 -- ---- the bytes
-
-slice-next : (f t : ℕ) (l : List ℕ) → f < t → t ≤ length l → slice f t l ≡ getD l f 0 ∷ slice (f + 1) t l
-slice-next f t l h k = rw (add-one, slice-cons f t l 0)
 
 module _ (at : ℕ) (l : List ℕ) where
   two : (t : ℕ) → at + 2 ≤ t → t ≤ length l → slice at t l ≡ getD l at 0 ∷ getD l (at + 1) 0 ∷ slice (at + 2) t l

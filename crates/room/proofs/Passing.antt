@@ -7,9 +7,9 @@ use mathlib.Core.List.{List, []}
 use lib.ListN.{length, take, drop, length-take}
 use lib.Seq.{slice}
 use lib.Dec.{ltb, eqb}
-use borrow.Author.Tests.{eqb-true, ltb-true}
+use borrow.Author.Tests.{eqb-true}
 use Rattle.laws.proofs.Cuts.{length-cut}
-use Rattle.format.specs.Bytes.{pick, zeroAt}
+use Rattle.format.specs.Bytes.{pick}
 use Rattle.format.specs.Unsynch.{resynchronised}
 use Rattle.format.specs.Frame.{headOf}
 use Rattle.format.specs.Record.{bodyRefusal, partsOf}
@@ -19,8 +19,9 @@ use Rattle.format.specs.declared.Kind.{Kind}
 use Rattle.format.specs.declared.Head.{Head}
 use Rattle.format.specs.declared.Record.{Record}
 use Rattle.format.specs.declared.Shown.{Shown}
-use Rattle.format.proofs.Checks.{not-second, none-else}
+use Rattle.format.proofs.Checks.{not-second}
 use Rattle.format.proofs.Heads.{stands, lies}
+use Rattle.format.proofs.Popularimeter.{taken-counted}
 use Rattle.format.proofs.Strict.{inside-passed}
 use Rattle.format.proofs.Unsynch.{resync-shorter}
 use Rattle.lines.proofs.Parts.{bodyLeast}
@@ -37,7 +38,7 @@ has-least : (v : Version) (kind : Kind) (at : ℕ) (b : List ℕ) → bodyRefusa
     → bodyLeast (partsOf v kind at b .fields) (partsOf v kind at b .name .len) ≤ length b
 unfolding bodyRefusal partsOf
 has-least v Kind.Text at b e = omega arith
-has-least v Kind.Popularimeter at b e = omega (arith, ltb-true (zeroAt b + 1) (length b) (none-else (ltb (zeroAt b + 1) (length b)) 10 e))
+has-least v Kind.Popularimeter at b e = omega (arith, taken-counted b e .rated)
 has-least v Kind.Table at b e = omega arith
 has-least v Kind.Chapter at b e = omega arith
 has-least v Kind.Contents at b e = omega arith

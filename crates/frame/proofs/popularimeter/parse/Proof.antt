@@ -1,15 +1,17 @@
 -- `frame::popularimeter::parse` meets its contract. Assumes nothing.
-use mathlib.Core.Path.{ap, _∙_}
-use Prim.Native.Nat.{ℕ}
+use mathlib.Core.Path.{_≡_, sym, ap, _∙_}
+use Prim.Native.Nat.{ℕ, _+_, _^_, _≤_, _<_}
 use native.Mathlib.Omega.{arith}
 use mathlib.Core.List.{List}
 use borrow.Author.Needs.{needs}
-use lib.ListN.{take}
+use lib.ListN.{length, drop}
+use lib.Seq.{slice}
 use Rattle.laws.proofs.Cuts.{cut-lies}
 use Rattle.format.specs.Numbers.{number}
 use Rattle.format.specs.declared.Kind.{Kind}
+use Rattle.frame.proofs.Counters.{counter-read}
 use Rattle.frame.proofs.Ends.{zero-le}
-use Rattle.frame.proofs.Bodies.{refused, accepted, counter-lies, popularimeter-cut, popularimeter-whole, popularimeter-parts}
+use Rattle.frame.proofs.Bodies.{refused, accepted, counter-lies, popularimeter-cut, popularimeter-large, popularimeter-whole, popularimeter-parts}
 use Rattle.frame.proofs.popularimeter.parse.Statement.{statement}
 use Rattle.frame.proofs.popularimeter.parse.Tie as tie
 
@@ -24,44 +26,73 @@ returns c v =
     let z = c .before .zero-at in
     refused v Kind.Popularimeter (a .from) (b .result .now) _ (b .ensures) 10 (popularimeter-cut (b .result .now) (z .result) (z .ensures) (c .if1 .taken))
 
-add-read64 : tie.Need-add-read64
-add-read64 c =
-    let at-part = c .before .before .before in
-    let at-start = at-part .before .before in
-    let a = at-start .args in
+-- the body lies in the buffer
+lies : (c : tie.Else1) →
+    let at-part = c .before .before in
+    at-part .before .before .args .from + length (at-part .part .result .now) ≤ length (at-part .before .before .args .s .now)
+lies c =
+    let at-part = c .before .before in
+    let a = at-part .before .before .args in
     let b = at-part .part in
-    omega (arith, cut-lies (a .from) (a .to) (a .s .now) (b .result .now) (b .ensures) (omega arith))
+    cut-lies (a .from) (a .to) (a .s .now) (b .result .now) (b .ensures) (omega arith)
 
-add-read64-2 : tie.Need-add-read64-2
-add-read64-2 c =
-    let at-part = c .before .before .before in
-    let at-start = at-part .before .before in
-    let a = at-start .args in
+-- and the counter in it
+counter-in : (c : tie.Else1) →
+    let at-part = c .before .before in
+    let a = at-part .before .before .args in
+    let len = c .before .zero-at .result in
+    let b = at-part .part .result .now in
+    number (slice (a .from + len + 2) (a .from + length b) (a .s .now)) ≡ number (drop (len + 2) b)
+counter-in c =
+    let at-part = c .before .before in
+    let a = at-part .before .before .args in
     let b = at-part .part in
-    omega (arith, cut-lies (a .from) (a .to) (a .s .now) (b .result .now) (b .ensures) (omega arith))
+    ap number (counter-lies (a .from) (a .to) (c .before .zero-at .result) (a .s .now) (b .result .now) (b .ensures) (c .if1 .left))
 
-add-read64-3 : tie.Need-add-read64-3
-add-read64-3 c =
-    let at-part = c .before .before .before in
-    let at-start = at-part .before .before in
-    let a = at-start .args in
-    let b = at-part .part in
-    omega (arith, cut-lies (a .from) (a .to) (a .s .now) (b .result .now) (b .ensures) (omega arith))
+add-end : tie.Need-add-end
+add-end c = omega (arith, lies (c .before))
+
+add-after-zeros : tie.Need-add-after-zeros
+add-after-zeros c = omega (arith, lies (c .before))
+
+add-after-zeros-2 : tie.Need-add-after-zeros-2
+add-after-zeros-2 c = omega (arith, lies (c .before))
+
+after-zeros-requires : tie.Need-after-zeros-requires
+after-zeros-requires c κs = (omega arith, lies (c .before))
+
+sub-if2 : tie.Need-sub-if2
+sub-if2 c = c .after-zeros .ensures .within
 
 returns-2 : tie.Need-returns-2
 returns-2 c v =
     let at-if1 = c .before .before .before in
-    let at-zero-at = at-if1 .before in
-    let at-part = at-zero-at .before in
-    let at-start = at-part .before .before in
-    let a = at-start .args in
+    let at-part = at-if1 .before .before in
+    let a = at-part .before .before .args in
     let b = at-part .part in
-    let z = at-zero-at .zero-at in
+    let z = at-if1 .before .zero-at in
+    let begins = c .before .after-zeros .ensures in
+    let large : 2 ^ 64 ≤ number (drop (z .result + 2) (b .result .now)) = omega (arith, begins .large (c .if2 .taken), begins .same, counter-in at-if1) in
+    refused v Kind.Popularimeter (a .from) (b .result .now) _ (b .ensures) 34
+    (popularimeter-large (b .result .now) (z .result) (z .ensures) (at-if1 .if1 .left) large)
+
+returns-3 : tie.Need-returns-3
+returns-3 c v =
+    let at-zeros = c .before .before .before in
+    let at-if1 = at-zeros .before .before in
+    let at-part = at-if1 .before .before in
+    let a = at-part .before .before .args in
+    let b = at-part .part in
+    let z = at-if1 .before .zero-at in
     let n = c .before .read64 in
-    let whole = at-if1 .if1 .left in
-    let counter = n .ensures ∙ ap (λ (l : List ℕ). number (take 8 l)) (counter-lies (a .from) (a .to) (z .result) (a .s .now) (b .result .now) (b .ensures) whole) in
+    let rated = at-if1 .if1 .left in
+    let counter : n .result ≡ number (drop (z .result + 2) (b .result .now)) =
+    counter-read (a .from + z .result + 2) (a .from + length (b .result .now)) (at-zeros .after-zeros .result) (n .result) (a .s .now)
+    (at-zeros .after-zeros .ensures) (omega arith) (n .ensures)
+    ∙ counter-in at-if1 in
+    let fits : number (drop (z .result + 2) (b .result .now)) < 2 ^ 64 = omega (arith, counter, n .ok) in
     accepted v Kind.Popularimeter (a .from) (b .result .now) _ (b .ensures) _
-    (popularimeter-whole (b .result .now) (z .result) (z .ensures) whole)
+    (popularimeter-whole (b .result .now) (z .result) (z .ensures) rated fits)
     (popularimeter-parts (b .result .now) (z .result) (z .ensures) v (a .from) (n .result) (c .nowhere .result) counter (c .nowhere .ensures))
 
 pub parse-spec : {M : Type 1} → statement M
@@ -74,9 +105,12 @@ parse-spec =
     returns
     (λ c. search needs)
     (λ c. search needs)
-    add-read64
-    add-read64-2
-    add-read64-3
+    add-end
+    add-after-zeros
+    add-after-zeros-2
+    after-zeros-requires
+    sub-if2
+    returns-2
     (λ c κs. search needs)
     (λ c κs. search needs)
-    returns-2)
+    returns-3)
