@@ -1,6 +1,7 @@
 """Document 01 ("The metered tag") as a plain model, sentence by sentence; it shares no code with the crates.
 
 Each function names the section of document 01 that it says. Where that leaves a choice, the settled reading is told beside it.
+Where a later request has replaced a rule, the rule is that of the section of that name in docs/SCOPE.md, and the request is named.
 The spans of a record are no matter of document 01: they are laid out as crates/format/specs/Record.antt has them.
 Bytes are `bytes`, a lent buffer is a `bytearray` that a call changes in place, and a refusal is the exception `Refused`.
 Editions are 2, 3 and 4; modes are "off", "crate" and "standard"; kinds are the words of the listing.
@@ -245,12 +246,14 @@ def text_parts(version, b):
 
 
 def counter_of(octets):
-    """Popularimeter: 0 to 8 bytes, big-endian, none meaning 0; of a longer one the first eight bytes."""
-    return plain(octets[:8])
+    """Popularimeter, by request b: one number, big-endian, however many bytes, none meaning 0. What does not fit 64 bits: 35."""
+    counter = plain(octets)
+    refuse_if(counter >= 2**64, 35)
+    return counter
 
 
 def popularimeter_parts(b):
-    """Popularimeter: user up to a zero, rating, counter. No zero or no rating: 11."""
+    """Popularimeter: user up to a zero, rating, counter. No zero or no rating: 11, and the counter's 35 after it."""
     user = b.find(0)
     refuse_if(user < 0 or user + 1 >= len(b), 11)
     return Parts(POPULARIMETER, (b[user + 1], counter_of(b[user + 2 :])), name=(0, user))

@@ -142,11 +142,28 @@ case(
     "end 3",
 )
 case(
-    "2.3, a counter of twelve bytes",
-    t3(f3(b"POPM", H("61 00 05 000000000000000000000007"))),
-    "tag 2.3 size 25 flags 0 ext 0",
-    "frame 0 POPM at 0 body 15 popularimeter whole user 61 rating 5 counter 0",
-    "end 1",
+    "2.2, a box's counter of twelve bytes",
+    t2(f2(b"TT2", H("00 41")) + f2(b"POP", H("626F78 00 05 000000000000000000000007"))),
+    "tag 2.2 size 31 flags 0 ext 0",
+    "frame 0 TT2 at 0 body 2 text whole",
+    "frame 1 POP at 8 body 17 popularimeter whole user 626F78 rating 5 counter 7",
+    "end 2",
+)
+case(
+    "2.3, a box's counter of twelve bytes",
+    t3(f3(b"POPM", H("626F78 00 05 0000000000000000000186A0")) + f3(b"TIT2", H("00 41"))),
+    "tag 2.3 size 39 flags 0 ext 0",
+    "frame 0 POPM at 0 body 17 popularimeter whole user 626F78 rating 5 counter 100000",
+    "frame 1 TIT2 at 27 body 2 text whole",
+    "end 2",
+)
+case(
+    "2.4, a box's counters of twelve bytes, none and the most",
+    t4(f4(b"POPM", H("626F78 00 05 000000000000000000000000")) + f4(b"POPM", H("626F78 00 05 00000000FFFFFFFFFFFFFFFF")), padding=3),
+    "tag 2.4 size 57 flags 0 ext 0",
+    "frame 0 POPM at 0 body 17 popularimeter whole user 626F78 rating 5 counter 0",
+    "frame 1 POPM at 27 body 17 popularimeter whole user 626F78 rating 5 counter 18446744073709551615",
+    "end 2",
 )
 case(
     "2.4, a frame behind padding is not met",
@@ -275,6 +292,30 @@ case("2.4, the slice ends in a frame header", t4(f4(b"XYZW", b"\x07") + b"TIT2\0
 case("2.4, ten bytes of a tag of 1000", t4(b"", 0, 1000), "tag 2.4 size 1000 flags 0 ext 0", "end 0")
 case("2.4, short and refused: the rating is missing", t4(f4(b"POPM", H("61 00"), 0, 8), 0, 18), "tag 2.4 size 18 flags 0 ext 0", "refused 11")
 
+case(
+    "2.4, the slice ends in a box's counter",
+    t4(f4(b"POPM", H("61 00 05 0000000000000000000001"), 0, 15), 0, 25),
+    "tag 2.4 size 25 flags 0 ext 0",
+    "frame 0 POPM at 0 body 14 popularimeter short user 61 rating 5 counter 1",
+    "end 1",
+)
+case(
+    "2.2, the slice ends in a box's counter",
+    t2(f2(b"POP", H("61 00 05 000000000000000001"), 15), 0, 21),
+    "tag 2.2 size 21 flags 0 ext 0",
+    "frame 0 POP at 0 body 12 popularimeter short user 61 rating 5 counter 1",
+    "end 1",
+)
+case("2.3, the slice ends in a box's counter", t3(f3(b"POPM", H("61 00 05 0000000000000000000001"), 0, 15), 0, 25), "tag 2.3 size 25 flags 0 ext 0", "refused 5")
+case(
+    "2.4, the tag ends in a counter too large, and what is there fits",
+    t4(f4(b"POPM", H("61 00 05 010000000000000000")), 0, 21),
+    "tag 2.4 size 21 flags 0 ext 0",
+    "frame 0 POPM at 0 body 11 popularimeter short user 61 rating 5 counter 72057594037927936",
+    "end 1",
+)
+case("2.2, the slice ends in a counter, and what is there does not fit", t2(f2(b"POP", H("61 00 05 010000000000000000"), 15), 0, 21), "tag 2.2 size 21 flags 0 ext 0", "refused 35")
+
 # ---- unsynchronised as a whole
 
 case(
@@ -336,6 +377,53 @@ case(
     "end 1",
 )
 
+# of the zeros that follow an FF in a counter, or in the rating before it, the first is no byte of the counter
+case(
+    "2.2, unsynchronised, a counter of nine bytes with FF before zeros",
+    t2(f2(b"POP", H("61 00 05 00 FF00 00000000000000"), 12), 0x80),
+    "tag 2.2 size 19 flags 128 ext 0",
+    "frame 0 POP at 0 body 12 popularimeter whole user 61 rating 5 counter 18374686479671623680",
+    "end 1",
+    work=18,
+)
+case(
+    "2.2, unsynchronised, a box's counter that ends in FF 00",
+    t2(f2(b"POP", H("61 00 05 00000000000000000000 FF0000"), 15), 0x80),
+    "tag 2.2 size 22 flags 128 ext 0",
+    "frame 0 POP at 0 body 15 popularimeter whole user 61 rating 5 counter 65280",
+    "end 1",
+)
+case(
+    "2.2, unsynchronised, a counter of FF and eight zeros",
+    t2(f2(b"XYZ", H("FF00 07"), 2) + f2(b"POP", H("61 00 05 FF00 0000000000000000"), 12), 0x80),
+    "tag 2.2 size 28 flags 128 ext 0",
+    "frame 0 XYZ at 0 body 2 raw whole",
+    "refused 35",
+)
+case(
+    "2.3, unsynchronised, a counter of nine bytes with FF before zeros",
+    t3(f3(b"POPM", H("61 00 05 00 FF00 00 FF00 00 FF00 00 FF00 00"), 0, 12) + f3(b"POPM", H("62 00 06 07")), 0x80),
+    "tag 2.3 size 40 flags 128 ext 0",
+    "frame 0 POPM at 0 body 12 popularimeter whole user 61 rating 5 counter 18374966859414961920",
+    "frame 1 POPM at 22 body 4 popularimeter whole user 62 rating 6 counter 7",
+    "end 2",
+    work=36,
+)
+case(
+    "2.3, unsynchronised, a box's counter after a rating of FF",
+    t3(f3(b"POPM", H("61 00 FF00 000000000000000000000007"), 0, 15), 0x80),
+    "tag 2.3 size 26 flags 128 ext 0",
+    "frame 0 POPM at 0 body 15 popularimeter whole user 61 rating 255 counter 7",
+    "end 1",
+)
+case(
+    "2.3, unsynchronised, a counter of FF and eight zeros",
+    t3(f3(b"POPM", H("61 00 05 FF00 00000000000000"), 0, 11) + f3(b"POPM", H("61 00 05 FF00 0000000000000000"), 0, 12), 0x80),
+    "tag 2.3 size 45 flags 128 ext 0",
+    "frame 0 POPM at 0 body 11 popularimeter whole user 61 rating 5 counter 18374686479671623680",
+    "refused 35",
+)
+
 # ---- unsynchronised by frame
 
 case(
@@ -366,6 +454,13 @@ case(
     work=5,
 )
 case("2.4, flagged and short", t4(f4(b"XYZW", H("07 FF"), 2, 9), 0, 30), "tag 2.4 size 30 flags 0 ext 0", "frame 0 XYZW at 0 body 2 raw short", "end 1")
+case(
+    "2.4, flagged counters of nine bytes, the second too large",
+    t4(f4(b"POPM", H("61 00 05 00 FF00 00000000000000"), 2) + f4(b"POPM", H("61 00 05 FF00 0000000000000000"), 2) + f4(b"POPM", H("62 00 06 07"))),
+    "tag 2.4 size 60 flags 0 ext 0",
+    "frame 0 POPM at 0 body 12 popularimeter whole user 61 rating 5 counter 18374686479671623680",
+    "refused 35",
+)
 FLAGGED = f4(b"CHAP", bytes(17) + H("58595A57 00000003 0002 FF000008"), 2)
 case("2.4, a flagged subframe behind its chapter, full", t4(FLAGGED), "tag 2.4 size 41 flags 0 ext 0", "frame 0 CHAP at 0 body 30 chapter whole", "end 1", work=32)
 case("2.4, a flagged subframe behind its chapter, one too small", t4(FLAGGED), "tag 2.4 size 41 flags 0 ext 0", "refused 14", work=31)
@@ -405,6 +500,29 @@ case("2.4, 12", t4(GOOD4 + f4(b"TIT2", H("04 41"))), "tag 2.4 size 23 flags 0 ex
 case("2.4, 30", t4(GOOD4 + f4(b"MLLT", mllt(0, 4))), "tag 2.4 size 31 flags 0 ext 0", LISTED4, "refused 30")
 case("2.2, 31", t2(GOOD2 + f2(b"MLL", mllt(4, 5))), "tag 2.2 size 23 flags 0 ext 0", LISTED2, "refused 31")
 case("2.3, 30 before 32: both widths 40", t3(GOOD3 + f3(b"MLLT", mllt(40, 40))), "tag 2.3 size 31 flags 0 ext 0", LISTED4, "refused 30")
+case("2.2, 35", t2(GOOD2 + f2(b"POP", H("61 00 05 010000000000000000"))), "tag 2.2 size 25 flags 0 ext 0", LISTED2, "refused 35")
+case("2.3, 35", t3(GOOD3 + f3(b"POPM", H("61 00 05 010000000000000000"))), "tag 2.3 size 33 flags 0 ext 0", LISTED4, "refused 35")
+case("2.4, 35", t4(GOOD4 + f4(b"POPM", H("61 00 05 FFFFFFFFFFFFFFFFFF"))), "tag 2.4 size 33 flags 0 ext 0", LISTED4, "refused 35")
+case(
+    "2.4, 35 after counters that are listed",
+    t4(f4(b"POPM", H("61 00 05 07")) + f4(b"POPM", H("62 00 06 000000000000000008")) + f4(b"POPM", H("63 00 07 000000010000000000000000")) + f4(b"POPM", H("64 00 08 09"))),
+    "tag 2.4 size 75 flags 0 ext 0",
+    "frame 0 POPM at 0 body 4 popularimeter whole user 61 rating 5 counter 7",
+    "frame 1 POPM at 14 body 12 popularimeter whole user 62 rating 6 counter 8",
+    "refused 35",
+)
+case("2.3, 11 before 35: twelve bytes and no zero", t3(GOOD3 + f3(b"POPM", b"\xFF" * 12)), "tag 2.3 size 33 flags 0 ext 0", LISTED4, "refused 11")
+case("2.3, a frame refused 12 before one of 35", t3(f3(b"TIT2", b"\x09") + f3(b"POPM", H("61 00 05 010000000000000000"))), "tag 2.3 size 33 flags 0 ext 0", "refused 12")
+case("2.3, a frame refused 35 before one of 12", t3(f3(b"POPM", H("61 00 05 010000000000000000")) + f3(b"TIT2", b"\x09")), "tag 2.3 size 33 flags 0 ext 0", "refused 35")
+case("2.3, 35 inside a chapter", t3(GOOD3 + f3(b"CHAP", chap(b"a", f3(b"POPM", H("61 00 05 010000000000000000"))))), "tag 2.3 size 61 flags 0 ext 0", LISTED4, "refused 35")
+case("2.4, 35 at depth 8", t4(GOOD4 + nest(f4, 7, f4(b"POPM", H("61 00 05 010000000000000000")))), "tag 2.4 size 222 flags 0 ext 0", LISTED4, "refused 35")
+case(
+    "2.4, a box's counter inside a chapter",
+    t4(f4(b"CHAP", chap(b"a", f4(b"POPM", H("61 00 05 000000000000000000000007"))))),
+    "tag 2.4 size 53 flags 0 ext 0",
+    "frame 0 CHAP at 0 body 43 chapter whole",
+    "end 1",
+)
 case("2.4, refused, and a frame behind is not met", t4(f4(b"TIT2", b"") + GOOD4), "tag 2.4 size 21 flags 0 ext 0", "refused 11")
 case("2.3, refused inside a chapter", t3(GOOD3 + f3(b"CHAP", chap(b"a", f3(b"TIT2", b"\x09")))), "tag 2.3 size 50 flags 0 ext 0", LISTED4, "refused 12")
 

@@ -78,9 +78,10 @@ back("text by pairs with zeros", 4, text(b"TIT2", 1, "FFFE0000FF00"))
 
 
 def runs(lay):
-    """Runs of subframes: none, one that ends in FF, several, and the deepest."""
+    """Runs of subframes: none, one that ends in FF, several, the deepest, and counters of nine and of twelve bytes."""
     several = lay(b"TIT2", H("00FF")) + lay(b"POPM", H("FF00FFFF00")) + lay(b"XYZW", H("FFFF00")) + lay(b"CHAP", chap(b"\xFF", lay(b"TALB", H("03FFE0"))))
-    return [("none", b""), ("one", lay(b"TIT2", H("00FFE0FF"))), ("several", several), ("deep", nest(lay, 7))]
+    counters = lay(b"POPM", H("61 00 FF 00FF00FFFFFFFFFFFF")) + lay(b"CHAP", chap(b"b", lay(b"POPM", H("FF 00 05 000000000000000000000007"))))
+    return [("none", b""), ("one", lay(b"TIT2", H("00FFE0FF"))), ("several", several), ("deep", nest(lay, 7)), ("of longer counters", counters)]
 
 
 for version, lay in [(3, f3), (4, f4)]:
@@ -123,6 +124,10 @@ none("256 children", 3, contents(b"CTOC", "61", 0, 0, bytes(256)), 28)
 none("child that is not closed", 4, contents(b"CTOC", "61", 0, 0, b"c\0d"), 28)
 none("run that is padded", 4, chapter(b"CHAP", "61", f4(b"TIT2", H("0041")) + bytes(1)), 29)
 none("run with a frame flagged 0002", 4, contents(b"CTOC", "61", 0, 0, b"", f4(b"XYZW", H("FF0000"), 2)), 29, mode=CRATE)
+none("run with a counter too large", 3, chapter(b"CHAP", "61", f3(b"POPM", H("61 00 05 010000000000000000"))), 29)
+none("run with a counter of nine FF", 4, contents(b"CTOC", "61", 0, 0, b"", f4(b"POPM", H("61 00 05 FFFFFFFFFFFFFFFFFF"))), 29, mode=STANDARD)
+none("run with a counter too large inside a chapter", 3, contents(b"CTOC", "61", 0, 0, b"", nest(f3, 1, f3(b"POPM", H("61 00 05 010000000000000000")))), 29, mode=CRATE)
+none("run with a counter too large at depth 8", 4, chapter(b"CHAP", "61", nest(f4, 6, f4(b"POPM", H("61 00 05 010000000000000000")))), 29)
 none("run one chapter too deep", 3, chapter(b"CHAP", "61", nest(f3, 8)), 29)
 none("width 0", 4, table(b"MLLT", 0, 4), 30)
 none("width 33", 2, table(b"MLL", 3, 33), 30)

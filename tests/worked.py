@@ -1,4 +1,4 @@
-"""The worked examples that document 01 itself gives, asked of the model. Prints their number."""
+"""The worked examples that document 01 itself gives, and some of the requests that replaced a rule of it, asked of the model. Prints their number."""
 
 import model
 from model import Given, Refused, Writer
@@ -50,6 +50,17 @@ same(model.pack(2, 2, [3, 1]), H("D0"))
 same(model.references_of(2, 2, H("D0")), [3, 1, 0, 0])
 same(refusal(model.check_record, 4, Given("table", b"MLLT", (0, 0, 0, 2, 2), deviations=(3, 1))), 34)
 
+# Five kinds, by request b: the counter of a box family, twelve bytes, mostly zeros; what fits 64 bits, and what does not; 11 comes before 35
+same(model.counter_of(H("000000000000000000000007")), 7)
+same(model.counter_of(H("00 FFFFFFFFFFFFFFFF")), 18_446_744_073_709_551_615)
+same(refusal(model.counter_of, H("01 0000000000000000")), 35)
+same(model.popularimeter_parts(H("61 00 05 000000000000000000000007")).numbers, (5, 7))
+same(refusal(model.popularimeter_parts, H("61 00 05 01 0000000000000000")), 35)
+same(refusal(model.popularimeter_parts, H("FFFFFFFFFFFFFFFFFFFFFFFF")), 11)
+same(model.counter_bytes(7), H("07"))
+same(refusal(model.check_given_run, 4, H("504F504D 0000000C 0000 61 00 05 01 0000000000000000")), 29)
+same(refusal(model.check_given_run, 4, H("504F504D 0000000C 0000 61 00 05 00 0000000000000007")), 0)
+
 # The readings that are settled: pair texts of 2.4
 same(model.text_end(4, 1, H("41 41 41 41 41")), 4)
 same(model.text_end(4, 1, H("41 41 41")), 3)
@@ -64,6 +75,14 @@ same(
     model.listing(H("49 44 33 04 00 00 00 00 00 12 50 4F 50 4D 00 00 00 08 00 00 61 00 05 01 00 00 00 00"), 65_536),
     b"tag 2.4 size 18 flags 0 ext 0\n"
     b"frame 0 POPM at 0 body 8 popularimeter whole user 61 rating 5 counter 4294967296\n"
+    b"end 1\n",
+)
+
+# The same by request b: a tag of the box family
+same(
+    model.listing(H("49 44 33 04 00 00 00 00 00 19 50 4F 50 4D 00 00 00 0F 00 00 61 00 05 00 00 00 00 00 00 00 00 00 00 00 07"), 65_536),
+    b"tag 2.4 size 25 flags 0 ext 0\n"
+    b"frame 0 POPM at 0 body 15 popularimeter whole user 61 rating 5 counter 7\n"
     b"end 1\n",
 )
 

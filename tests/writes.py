@@ -326,6 +326,53 @@ one("compressed in 2.3", 3, chapter(b"CHAP", "61", f3(b"CHAP", bytes(4), 0x80)),
 one("data length of size 0", 4, chapter(b"CHAP", "61", f4(b"XYZW", bytes(4), 1, 0)), f4(b"CHAP", chap(b"a", f4(b"XYZW", bytes(4), 1, 0))))
 none("29: data length cut", 4, chapter(b"CHAP", "61", f4(b"XYZW", bytes(3), 1, 0)), 29)
 
+# counters of popularimeters in a run: those that do not fit 64 bits, and longer ones that do, written as given (request b)
+OVER3 = f3(b"POPM", H("61 00 05 01 0000000000000000"))
+OVER4 = f4(b"POPM", H("61 00 05 01 0000000000000000"))
+LONG3 = f3(b"POPM", H("61 00 05 00 FFFFFFFFFFFFFFFF"))
+LONG4 = f4(b"POPM", H("61 00 05 000000000000000000000007"))
+none("29: 2.3, a counter too large", 3, chapter(b"CHAP", "61", OVER3), 29)
+none("29: 2.4, a counter too large", 4, chapter(b"CHAP", "61", OVER4), 29)
+none("29: 2.3, a counter too large in a contents", 3, contents(b"CTOC", "61", 0, 0, b"b\0", OVER3), 29)
+none("29: 2.4, a counter too large in a contents, in a mode", 4, contents(b"CTOC", "61", 0, 0, b"b\0", LONG4 + OVER4), 29, mode=STANDARD)
+none("29: 2.4, a counter of nine FF", 4, chapter(b"CHAP", "61", f4(b"POPM", H("61 00 05 FFFFFFFFFFFFFFFFFF"))), 29)
+none("29: 2.3, a counter too large behind three zeros", 3, chapter(b"CHAP", "61", f3(b"POPM", H("61 00 05 000000 010000000000000000"))), 29)
+none("29: 2.3, a counter too large inside a chapter of the run", 3, chapter(b"CHAP", "61", LONG3 + nest(f3, 1, OVER3)), 29)
+none("29: 2.4, a counter too large inside a contents of the run", 4, chapter(b"CHAP", "61", f4(b"CTOC", ctoc(b"a", 0, 0, b"", OVER4))), 29)
+none("29: 2.4, a counter too large at depth 8", 4, chapter(b"CHAP", "61", nest(f4, 6, OVER4)), 29)
+none("29 before 20: a counter too large", 4, chapter(b"CHAP", "61", OVER4), 29, buffer=0)
+one("2.3, a counter of nine bytes", 3, chapter(b"CHAP", "61", LONG3), H("43484150 00000028 0000 6100 00000000 00000001 00000002 FFFFFFFF 504F504D 0000000C 0000 610005 00 FFFFFFFFFFFFFFFF"))
+one("2.4, a counter of twelve bytes", 4, chapter(b"CHAP", "61", LONG4), H("43484150 0000002B 0000 6100 00000000 00000001 00000002 FFFFFFFF 504F504D 0000000F 0000 610005 000000000000000000000007"))
+one("2.4, a counter of nine bytes in a contents", 4, contents(b"CTOC", "61", 1, 0, b"b\0", f4(b"POPM", H("61 00 05 00 0100000000000000"))), H("43544F43 0000001C 0000 6100 02 01 6200 504F504D 0000000C 0000 610005 00 0100000000000000"))
+one("2.3, a counter of sixteen zeros", 3, chapter(b"CHAP", "61", f3(b"POPM", H("61 00 05") + bytes(16))), f3(b"CHAP", chap(b"a", f3(b"POPM", H("61 00 05") + bytes(16)))))
+one("2.4, a counter of twelve bytes at depth 8", 4, chapter(b"CHAP", "", nest(f4, 6, LONG4)), nest(f4, 7, LONG4))
+one("2.4, a compressed popularimeter with nine FF", 4, chapter(b"CHAP", "61", f4(b"POPM", H("61 00 05 FFFFFFFFFFFFFFFFFF"), 8)), f4(b"CHAP", chap(b"a", f4(b"POPM", H("61 00 05 FFFFFFFFFFFFFFFFFF"), 8))))
+case(
+    "2.3, a counter of nine bytes, crate",
+    3,
+    CRATE,
+    [(chapter(b"CHAP", "61", f3(b"POPM", H("61 00 05 00 FF00000000000000")), (0, 0, 0, 0)), H("43484150 00000028 0000 6100") + bytes(16) + H("504F504D 0000000C 0000 610005 00 FF00000000000000"))],
+    H("494433 03 00 80 00000033 43484150 00000028 0000 6100") + bytes(16) + H("504F504D 0000000C 0000 610005 00 FF0000000000000000"),
+)
+case(
+    "2.4, a counter of nine bytes, standard",
+    4,
+    STANDARD,
+    [(chapter(b"CHAP", "61", f4(b"POPM", H("61 00 05 00 FFFFFFFFFFFFFFFF")), (0, 0, 0, 0)), H("43484150 0000002F 0002 6100") + bytes(16) + H("504F504D 0000000C 0000 610005 00 FF00FF00FF00FF00FF00FF00FF00FF"))],
+    H("494433 04 00 80 00000039 43484150 0000002F 0002 6100") + bytes(16) + H("504F504D 0000000C 0000 610005 00 FF00FF00FF00FF00FF00FF00FF00FF"),
+)
+case(
+    "a counter too large between runs that are accepted",
+    4,
+    OFF,
+    [
+        (chapter(b"CHAP", "61", LONG4), f4(b"CHAP", chap(b"a", LONG4))),
+        (chapter(b"CHAP", "62", OVER4), R(29)),
+        (pop(b"POPM", "63", 5, 7), f4(b"POPM", H("63 00 05 07"))),
+    ],
+    t4(f4(b"CHAP", chap(b"a", LONG4)) + f4(b"POPM", H("63 00 05 07"))),
+)
+
 # ---- 30, 31, 33, 34: lookup tables (32 cannot be met: each width is at most 32)
 
 none("30: width 0 of bytes", 4, table(b"MLLT", 0, 4), 30)
