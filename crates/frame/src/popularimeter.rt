@@ -43,8 +43,9 @@ pub fn parse(s: &[u8], from: usize, to: usize) -> Parsed
         return Parsed::Refused(MISSING_FIELD);
     }
     let rating = b[len + 1];
+    let start = from + len + 2;
     let end = from + b.len();
-    let first = after_zeros(s, from + len + 2, end);
+    let first = after_zeros(s, start, end);
     if 8 < end - first {
         return Parsed::Refused(COUNTER_TOO_LARGE);
     }

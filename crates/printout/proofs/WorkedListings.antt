@@ -1,8 +1,8 @@
--- Worked cases of the listing, by computation: document 01's example, and a refusal in the header, at opening and in a frame. Assumes nothing.
+-- Worked cases of the listing, by computation: document 01's example, and a refusal in the header, at opening, in a frame and of a counter. Assumes nothing.
 use mathlib.Core.Path.{_≡_, refl}
 use Prim.Native.Nat.{ℕ}
 use mathlib.Core.List.{List, [], _∷_, _++_}
-use Rattle.format.specs.Bytes.{first, ascii, zeroAt, zerosIn}
+use Rattle.format.specs.Bytes.{first, ascii, zeroAt, zerosIn, zeros}
 use Rattle.format.specs.Numbers.{digits, onto}
 use Rattle.format.specs.Unsynch.{resync}
 use Rattle.format.specs.Ids.{utf8From, kindOf}
@@ -44,3 +44,7 @@ at-opening = refl
 in-frame : printed (tag 2 0 6 (ascii "TT2" ++ (0 ∷ 0 ∷ 0 ∷ []))) [] ≡ ascii "tag 2.2 size 6 flags 0 ext 0\nrefused 11\n"
 unfolding printed tag
 in-frame = refl
+
+over : printed (tag 2 0 17 (ascii "POP" ++ (0 ∷ 0 ∷ 11 ∷ 0 ∷ 9 ∷ 1 ∷ zeros 8))) [] ≡ ascii "tag 2.2 size 17 flags 0 ext 0\nrefused 35\n"
+unfolding printed tag
+over = refl

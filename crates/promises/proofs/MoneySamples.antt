@@ -5,7 +5,7 @@ use native.Mathlib.Omega.{arith}
 use mathlib.Core.Bool.{Bool, true, false}
 use mathlib.Core.List.{List, [], _∷_, _++_}
 use lib.ListN.{length, replicate, length-replicate}
-use Rattle.format.specs.Bytes.{first, ascii, zeroAt}
+use Rattle.format.specs.Bytes.{first, ascii, zeroAt, zeros}
 use Rattle.format.specs.Numbers.{digits, onto}
 use Rattle.format.specs.Ids.{utf8From, kindOf}
 use Rattle.format.specs.Header.{versionOf, extOf, headerRefusal}
@@ -116,32 +116,41 @@ unfolding
     frameOf openOf stepOf meterOpenOf nextIn nextOf meterFrom meterAll marksOf
 seen tag = let o = meterAll tag [] in (o .counted, o .ending, marksOf (o .last))
 
--- what the header says, the frame's flags and its body of four bytes
-tagWith : ℕ → ℕ → List ℕ → List ℕ
-tagWith size flags body = ascii "ID3" ++ (4 ∷ 0 ∷ 0 ∷ 0 ∷ 0 ∷ 0 ∷ size ∷ ascii "POPM" ++ (0 ∷ 0 ∷ 0 ∷ 4 ∷ 0 ∷ flags ∷ body))
+-- what the header says, what the frame says, its flags and its body
+tagWith : ℕ → ℕ → ℕ → List ℕ → List ℕ
+tagWith size said flags body = ascii "ID3" ++ (4 ∷ 0 ∷ 0 ∷ 0 ∷ 0 ∷ 0 ∷ size ∷ ascii "POPM" ++ (0 ∷ 0 ∷ 0 ∷ said ∷ 0 ∷ flags ∷ body))
 
-whole : seen (tagWith 14 0 (0x61 ∷ 0 ∷ 5 ∷ 7 ∷ [])) ≡ (counted (ascii "a") 5 7 0 ∷ [], ended, (false, false, false, 1) ∷ [])
+whole : seen (tagWith 14 4 0 (0x61 ∷ 0 ∷ 5 ∷ 7 ∷ [])) ≡ (counted (ascii "a") 5 7 0 ∷ [], ended, (false, false, false, 1) ∷ [])
 unfolding seen tagWith
 whole = refl
 
 -- the last byte is not there
-cut : seen (tagWith 14 0 (0x61 ∷ 0 ∷ 5 ∷ [])) ≡ ([], ended, (true, false, true, 1) ∷ [])
+cut : seen (tagWith 14 4 0 (0x61 ∷ 0 ∷ 5 ∷ [])) ≡ ([], ended, (true, false, true, 1) ∷ [])
 unfolding seen tagWith
 cut = refl
 
 -- nor does the header say that it is
-short : seen (tagWith 13 0 (0x61 ∷ 0 ∷ 5 ∷ [])) ≡ ([], ended, (true, false, false, 1) ∷ [])
+short : seen (tagWith 13 4 0 (0x61 ∷ 0 ∷ 5 ∷ [])) ≡ ([], ended, (true, false, false, 1) ∷ [])
 unfolding seen tagWith
 short = refl
 
-packed : seen (tagWith 14 8 (0x61 ∷ 0 ∷ 5 ∷ 7 ∷ [])) ≡ ([], ended, (false, true, false, 1) ∷ [])
+packed : seen (tagWith 14 4 8 (0x61 ∷ 0 ∷ 5 ∷ 7 ∷ [])) ≡ ([], ended, (false, true, false, 1) ∷ [])
 unfolding seen tagWith
 packed = refl
 
 -- encrypted: refused, with a meter
-sealed : seen (tagWith 14 4 (0x61 ∷ 0 ∷ 5 ∷ 7 ∷ [])) ≡ ([], refused 8, (false, false, false, 0) ∷ [])
+sealed : seen (tagWith 14 4 4 (0x61 ∷ 0 ∷ 5 ∷ 7 ∷ [])) ≡ ([], refused 8, (false, false, false, 0) ∷ [])
 unfolding seen tagWith
 sealed = refl
+
+-- a box's counter of twelve bytes, an hour; one that does not fit 64 bits
+long : seen (tagWith 25 15 0 (0x61 ∷ 0 ∷ 5 ∷ zeros 8 ++ (0x00 ∷ 0x36 ∷ 0xEE ∷ 0x80 ∷ []))) ≡ (counted (ascii "a") 5 3600000 0 ∷ [], ended, (false, false, false, 1) ∷ [])
+unfolding seen tagWith
+long = refl
+
+over : seen (tagWith 22 12 0 (0x61 ∷ 0 ∷ 5 ∷ 1 ∷ zeros 8)) ≡ ([], refused 35, (false, false, false, 0) ∷ [])
+unfolding seen tagWith
+over = refl
 
 -- no tag: refused, with none
 nothing : seen [] ≡ ([], refused 1, [])

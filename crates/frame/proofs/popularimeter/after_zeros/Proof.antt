@@ -27,14 +27,14 @@ returns c =
     let at-loop = c .before .before .before in
     let a = at-loop .before .args in
     let L = at-loop .loop in
-    begins-large (a .from) (a .to) (a .s .now) (at-loop .before .pre .1) (L .i) (L .inv) (omega arith) (c .if1 .taken)
+    begins-large (a .from) (a .to) (a .s .now) (at-loop .before .pre .1) (L .i) (L .inv) (omega arith) (λ zero. omega (arith, c .if1 .taken))
 
 loop-again : tie.Need-loop-again Inv-loop μ-loop
 loop-again c =
     let at-loop = c .before .before .before in
     let a = at-loop .before .args in
     let L = at-loop .loop in
-    skip (a .from) (a .to) (a .s .now) (at-loop .before .pre .1) (L .i) (L .inv) (omega arith) (c .if1 .left)
+    skip (a .from) (a .to) (a .s .now) (at-loop .before .pre .1) (L .i) (L .inv) (omega arith) (omega (arith, c .if1 .left))
 
 returns-2 : tie.Need-returns-2 Inv-loop μ-loop
 returns-2 c =

@@ -49,20 +49,20 @@ counter-in c =
     let b = at-part .part in
     ap number (counter-lies (a .from) (a .to) (c .before .zero-at .result) (a .s .now) (b .result .now) (b .ensures) (c .if1 .left))
 
+add-start : tie.Need-add-start
+add-start c = omega (arith, lies (c .before))
+
+add-start-2 : tie.Need-add-start-2
+add-start-2 c = omega (arith, lies (c .before))
+
 add-end : tie.Need-add-end
 add-end c = omega (arith, lies (c .before))
-
-add-after-zeros : tie.Need-add-after-zeros
-add-after-zeros c = omega (arith, lies (c .before))
-
-add-after-zeros-2 : tie.Need-add-after-zeros-2
-add-after-zeros-2 c = omega (arith, lies (c .before))
 
 after-zeros-requires : tie.Need-after-zeros-requires
 after-zeros-requires c κs = (omega arith, lies (c .before))
 
 sub-if2 : tie.Need-sub-if2
-sub-if2 c = c .after-zeros .ensures .within
+sub-if2 c = let begins = c .after-zeros .ensures in omega arith
 
 returns-2 : tie.Need-returns-2
 returns-2 c v =
@@ -105,9 +105,9 @@ parse-spec =
     returns
     (λ c. search needs)
     (λ c. search needs)
+    add-start
+    add-start-2
     add-end
-    add-after-zeros
-    add-after-zeros-2
     after-zeros-requires
     sub-if2
     returns-2
