@@ -75,3 +75,8 @@ pub const WIDTHS_OVER_64: u8 = 32;
 pub const WRONG_DEVIATION: u8 = 33;
 // The widths sum to 4 and the references are odd in number.
 pub const ODD_REFERENCES: u8 = 34;
+
+// Popularimeters, on reading.
+
+// The counter does not fit 64 bits.
+pub const COUNTER_TOO_LARGE: u8 = 35;
