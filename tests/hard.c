@@ -138,7 +138,7 @@ static uint8_t *some_tag(size_t *len)
 /* Whether an answer is a refusal number, 0 or the end. */
 static void check(const char *name, uint32_t answer, uint64_t kept)
 {
-    int known = answer <= 14 || (20 <= answer && answer <= 34) || answer == SV_END || answer == kept;
+    int known = answer <= 14 || (20 <= answer && answer <= 35) || answer == SV_END || answer == kept;
     if (!known) {
         printf("%s answered %" PRIu32 "\n", name, answer);
         exit(1);
