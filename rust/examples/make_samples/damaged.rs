@@ -109,7 +109,7 @@ fn padded_before(frame: usize, mut tag: Vec<u8>) -> Vec<u8> {
     tag
 }
 
-/// Tags that the library refuses: of an edition that is none, with an encrypted frame, and with a counter that is too large.
+/// Tags that the library refuses: of an edition that is none, with an encrypted frame, with a counter that is too large.
 fn refused() -> Result<Named, Refusal> {
     let mut unknown = song(Version::Id3v24, Mode::Off, PADDING)?;
     unknown[3] = 5;

@@ -57,8 +57,8 @@ fn march() -> Result<Vec<(PathBuf, Vec<u8>)>, Refusal> {
     ])
 }
 
-/// A tag of the family of boxes that starts with a counter of twelve bytes, mostly zeros: here 720,000. The library writes
-/// no zeros in front of a counter, so that the popularimeter is laid out here.
+/// A tag of the family of boxes that starts with a counter of twelve bytes, mostly zeros: here 720,000. The library
+/// writes no zeros in front of a counter, so that the popularimeter is laid out here.
 fn box_tag() -> Result<Vec<u8>, Refusal> {
     let mut writer = Writer::new(Version::Id3v23).mode(Mode::Off);
     add_title(&mut writer, "Box song")?;
