@@ -82,7 +82,7 @@ fn the_sum_as_json() {
         r#""tags": 43,"#,
         r#""without_tag": 3,"#,
         r#"{"file": "samples/damaged/cut-in-popularimeter-2.3.mp3", "number": 5, "meaning": "#,
-        r#"{"file": "samples/damaged/refused-counter.mp3", "number": 35, "meaning": "a popularimeter's counter does not fit 64 bits", "counted_before": 1}"#,
+        r#"{"file": "samples/damaged/refused-counter.mp3", "number": 35, "meaning": "#,
         r#"{"file": "samples/damaged/short-frame.mp3", "promised": 112, "there": 112, "short_frame": true, "counted_before": 1}"#,
         r#"{"file": "samples/damaged/compressed-2.4.mp3"}"#,
         r#"{"file": "samples/damaged/small-size-2.2.mp3", "found": "cut frame header", "at": 72}"#,
