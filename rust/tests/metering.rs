@@ -2,7 +2,7 @@
 
 mod common;
 
-use common::Numbers;
+use common::{unsynchronised, Numbers, LARGE_COUNTER, LONG_COUNTER};
 use streamvault::{
     calls, read, sys, Content, Encoding, Ending, Id, Meter, Mode, Reader, Record, Refusal, Version, Work, Writer,
 };
@@ -231,12 +231,6 @@ fn a_vector_grows_and_a_slice_does_not() {
 
 // ---- counters of more than eight bytes
 
-/// A counter as one family of boxes starts with it: twelve bytes, mostly zeros. It is 65,280.
-const LONG: [u8; 12] = [0, 0, 0, 0, 0, 0, 0, 0, 0, 0, 0xFF, 0];
-
-/// One more than 64 bits hold.
-const TOO_LARGE: [u8; 9] = [1, 0, 0, 0, 0, 0, 0, 0, 0];
-
 /// A tag of this edition and these flags around frames as they are stored.
 fn around(version: Version, flags: u8, frames: &[u8]) -> Vec<u8> {
     let n = frames.len();
@@ -249,18 +243,6 @@ fn frame(version: Version, id: Id, flags: u8, body: &[u8]) -> Vec<u8> {
     let size = body.len() as u8;
     let head = if version == Version::Id3v22 { vec![0, 0, size] } else { vec![0, 0, 0, size, 0, flags] };
     [id.as_bytes(), &head, body].concat()
-}
-
-/// Bytes as standard mode stores them.
-fn unsynchronised(bytes: &[u8]) -> Vec<u8> {
-    let mut stored = Vec::new();
-    for (at, &byte) in bytes.iter().enumerate() {
-        stored.push(byte);
-        if byte == 0xFF && bytes.get(at + 1).is_some_and(|&next| next == 0 || next >= 0xE0) {
-            stored.push(0);
-        }
-    }
-    stored
 }
 
 /// A tag of each edition, plain and as standard mode stores it, with three popularimeters: of room 1 (7), of room 2 with
@@ -283,19 +265,33 @@ fn with_counter(counter: &[u8]) -> Vec<(Version, Vec<u8>)> {
 
 #[test]
 fn a_long_counter_is_shown_in_every_edition_and_mode() {
-    for (version, tag) in with_counter(&LONG) {
+    for (version, tag) in with_counter(&LONG_COUNTER) {
         let (found, ending) = metered(&tag).unwrap();
         let want = [(&b"room 1"[..], 7), (b"room 2", 65_280), (b"room 3", 5)];
         let want = want.iter().zip(0..).map(|((user, counter), frame)| (user.to_vec(), 7, *counter, frame));
         assert_eq!(found, want.collect::<Vec<_>>(), "{version}");
         assert!(ending.is_whole());
         assert_eq!(ending.frames, 3);
+        assert_eq!(counters(&tag), [7, 65_280, 5], "{version}");
     }
+}
+
+/// The counters of a tag by the calls, which go to its end.
+fn counters(tag: &[u8]) -> Vec<u64> {
+    let (mut work, mut meter) = (vec![0; tag.len()], [0; sys::SV_METER_WORDS]);
+    assert_eq!(calls::meter_open(tag, &mut work, &mut meter), 0);
+    let next = || {
+        let mut metered = [0; sys::SV_METERED_WORDS];
+        let answer = calls::meter_next(tag, &mut work, &mut meter, &mut metered);
+        assert!(answer == 0 || answer == sys::SV_END, "{answer}");
+        (answer == 0).then_some(metered[sys::SV_METERED_COUNTER])
+    };
+    std::iter::from_fn(next).collect()
 }
 
 #[test]
 fn a_counter_that_is_too_large_is_refused_where_the_reader_refuses_it() {
-    for (version, tag) in with_counter(&TOO_LARGE) {
+    for (version, tag) in with_counter(&LARGE_COUNTER) {
         let (found, ending) = metered(&tag).unwrap();
         assert_eq!(found, [(b"room 1".to_vec(), 7, 7, 0)], "{version}");
         let refusal = Some(Refusal::COUNTER_TOO_LARGE);
@@ -313,16 +309,16 @@ fn a_counter_that_is_too_large_is_refused_where_the_reader_refuses_it() {
 fn with_chapter(version: Version, counter: &[u8]) -> Vec<u8> {
     let popularimeter = |counter: &[u8]| frame(version, b"POPM".into(), 0, &[b"room 1\0\x07", counter].concat());
     let chapter = frame(version, b"CHAP".into(), 0, &[&[0; 17], &popularimeter(counter)[..]].concat());
-    around(version, 0, &[popularimeter(&[3]), chapter, popularimeter(&LONG)].concat())
+    around(version, 0, &[popularimeter(&[3]), chapter, popularimeter(&LONG_COUNTER)].concat())
 }
 
 #[test]
 fn a_counter_inside_a_chapter_is_not_shown_and_refused_where_it_is_too_large() {
     let shown = |counter, frame| (b"room 1".to_vec(), 7, counter, frame);
     for version in [Version::Id3v23, Version::Id3v24] {
-        let (found, ending) = metered(&with_chapter(version, &LONG)).unwrap();
+        let (found, ending) = metered(&with_chapter(version, &LONG_COUNTER)).unwrap();
         assert_eq!((found, ending.is_whole()), (vec![shown(3, 0), shown(65_280, 2)], true), "{version}");
-        let tag = with_chapter(version, &TOO_LARGE);
+        let tag = with_chapter(version, &LARGE_COUNTER);
         let (found, ending) = metered(&tag).unwrap();
         assert_eq!((found, ending.frames), (vec![shown(3, 0)], 1), "{version}");
         assert_eq!(ending.refusal, Some(Refusal::COUNTER_TOO_LARGE), "{version}");
@@ -333,7 +329,7 @@ fn a_counter_inside_a_chapter_is_not_shown_and_refused_where_it_is_too_large() {
 /// By the calls: the meter leaves the words of a reader and the work buffer as the steps do, and answers its number again.
 #[test]
 fn a_refused_counter_leaves_what_the_steps_leave() {
-    for (version, tag) in with_counter(&TOO_LARGE).into_iter().chain(with_counter(&[0xFF; 9])) {
+    for (version, tag) in with_counter(&LARGE_COUNTER).into_iter().chain(with_counter(&[0xFF; 9])) {
         let (mut work, mut reader) = (vec![0x55; tag.len()], [0; sys::SV_READER_WORDS]);
         let (mut metering, mut meter) = (work.clone(), [0; sys::SV_METER_WORDS]);
         assert_eq!(calls::open(&tag, &mut work, &mut reader), 0);
@@ -356,7 +352,7 @@ fn a_refused_counter_leaves_what_the_steps_leave() {
 
 /// Tags that a writer wrote, and those with long counters.
 fn all_tags() -> impl Iterator<Item = (Version, Vec<u8>)> {
-    let long = [&LONG[..], &TOO_LARGE, &[0xFF; 9]].map(with_counter);
+    let long = [&LONG_COUNTER[..], &LARGE_COUNTER, &[0xFF; 9]].map(with_counter);
     tags().into_iter().chain(long.into_iter().flatten())
 }
 

@@ -1,5 +1,8 @@
 //! Reading through the safe interface: cases of document 01, the lending reader, work buffers.
 
+mod common;
+
+use common::{unsynchronised, LARGE_COUNTER, LONG_COUNTER};
 use streamvault::{
     calls, header, read, references, sys, Content, Encoding, Id, Kind, Meter, Reader, Record, Reference, Refusal,
     Version,
@@ -180,12 +183,6 @@ fn other_ids_and_compressed_frames_are_raw() {
 
 // ---- counters of more than eight bytes
 
-/// A counter as one family of boxes starts with it: twelve bytes, mostly zeros. It is 65,280.
-const LONG: [u8; 12] = [0, 0, 0, 0, 0, 0, 0, 0, 0, 0, 0xFF, 0];
-
-/// One more than 64 bits hold.
-const TOO_LARGE: [u8; 9] = [1, 0, 0, 0, 0, 0, 0, 0, 0];
-
 /// A popularimeter of an edition with these counter bytes.
 fn popularimeter(edition: u8, counter: &[u8]) -> Vec<u8> {
     let body = [&b"a\0\x05"[..], counter].concat();
@@ -193,18 +190,6 @@ fn popularimeter(edition: u8, counter: &[u8]) -> Vec<u8> {
         2 => [&b"POP\0\0"[..], &[body.len() as u8], &body].concat(),
         _ => frame(b"POPM", 0, &body),
     }
-}
-
-/// Bytes as standard mode stores them.
-fn unsynchronised(bytes: &[u8]) -> Vec<u8> {
-    let mut stored = Vec::new();
-    for (at, &byte) in bytes.iter().enumerate() {
-        stored.push(byte);
-        if byte == 0xFF && bytes.get(at + 1).is_some_and(|&next| next == 0 || next >= 0xE0) {
-            stored.push(0);
-        }
-    }
-    stored
 }
 
 /// A tag of each edition with a raw frame before a popularimeter and one after it, plain and as standard mode stores it.
@@ -244,7 +229,7 @@ fn stepped(tag: &[u8]) -> (Vec<u32>, Vec<u64>, Vec<Vec<u8>>) {
 
 #[test]
 fn a_long_counter_is_read_in_every_edition_and_mode() {
-    for tag in with_counter(&LONG) {
+    for tag in with_counter(&LONG_COUNTER) {
         let records = read(&tag).unwrap();
         assert_eq!(records.len(), 3, "{tag:02X?}");
         let want = Content::Popularimeter { user: b"a".to_vec(), rating: 5, counter: 65_280 };
@@ -256,8 +241,8 @@ fn a_long_counter_is_read_in_every_edition_and_mode() {
 
 #[test]
 fn a_counter_that_is_too_large_is_refused_in_every_edition_and_mode() {
-    let with_zeros = [&[0; 5], &TOO_LARGE[..]].concat();
-    for counter in [&TOO_LARGE[..], &[0xFF; 9], &with_zeros, &[0xFF; 100]] {
+    let with_zeros = [&[0; 5], &LARGE_COUNTER[..]].concat();
+    for counter in [&LARGE_COUNTER[..], &[0xFF; 9], &with_zeros, &[0xFF; 100]] {
         for tag in with_counter(counter) {
             let mut reader = Reader::open(&tag, Vec::new()).unwrap();
             assert_eq!(reader.next_frame().unwrap().unwrap().kind(), Kind::Raw);
@@ -271,7 +256,7 @@ fn a_counter_that_is_too_large_is_refused_in_every_edition_and_mode() {
 
 #[test]
 fn a_refused_counter_leaves_the_words_and_the_reader_stays_refused() {
-    for tag in with_counter(&TOO_LARGE) {
+    for tag in with_counter(&LARGE_COUNTER) {
         let (mut work, mut reader) = (vec![0x55; tag.len()], [0; sys::SV_READER_WORDS]);
         assert_eq!(calls::open(&tag, &mut work, &mut reader), 0);
         let mut record = [7; sys::SV_RECORD_WORDS];
@@ -304,7 +289,7 @@ fn a_refused_counter_leaves_the_work_buffer_as_the_steps_do() {
 /// Of a short frame the counter is what is there of it.
 #[test]
 fn a_cut_counter_is_read_of_the_bytes_that_are_there() {
-    let large = [&LONG[..], &TOO_LARGE].concat();
+    let large = [&LONG_COUNTER[..], &LARGE_COUNTER].concat();
     for edition in [2, 4] {
         let whole = tag(edition, 0, &popularimeter(edition, &large));
         for missing in 1..=large.len() {
@@ -337,8 +322,8 @@ fn chapter_of(edition: u8, run: &[u8]) -> Vec<u8> {
 #[test]
 fn counters_inside_chapters_are_read_and_refused() {
     for edition in [3, 4] {
-        let mut run = popularimeter(edition, &LONG);
-        let mut refused = [popularimeter(edition, &[7]), popularimeter(edition, &TOO_LARGE)].concat();
+        let mut run = popularimeter(edition, &LONG_COUNTER);
+        let mut refused = [popularimeter(edition, &[7]), popularimeter(edition, &LARGE_COUNTER)].concat();
         for depth in 2..=8 {
             (run, refused) = (chapter_of(edition, &run), chapter_of(edition, &refused));
             assert_eq!(only(&tag(edition, 0, &run)).kind(), Kind::Chapter, "2.{edition}, depth {depth}");

@@ -2,7 +2,7 @@
 
 mod common;
 
-use common::Numbers;
+use common::{Numbers, LARGE_COUNTER, LONG_COUNTER};
 use streamvault::{read, Content, Encoding, Id, Mode, Record, Refusal, Subframes, Version, Writer};
 
 /// A tag of this version around frames.
@@ -79,12 +79,6 @@ fn chapters_inside_chapters() {
     assert_eq!(found, [raw(b"x")]);
 }
 
-/// A counter as one family of boxes starts with it: twelve bytes, mostly zeros. It is 65,280.
-const LONG: [u8; 12] = [0, 0, 0, 0, 0, 0, 0, 0, 0, 0, 0xFF, 0];
-
-/// One more than 64 bits hold.
-const TOO_LARGE: [u8; 9] = [1, 0, 0, 0, 0, 0, 0, 0, 0];
-
 /// A run of two popularimeters with the flags of a 2.4 frame: one with the counter 7, and one with these counter bytes.
 fn with_counter(flags: u8, counter: &[u8]) -> Vec<u8> {
     let popularimeter = |counter: &[u8]| frame(b"POPM", flags, &[&b"a\0\x05"[..], counter].concat());
@@ -99,20 +93,20 @@ fn popularimeter(counter: u64) -> Record {
 fn a_long_counter_inside_a_chapter_is_one_number() {
     let want = [popularimeter(7), popularimeter(65_280)];
     for version in [Version::Id3v23, Version::Id3v24] {
-        let run = with_counter(0, &LONG);
+        let run = with_counter(0, &LONG_COUNTER);
         for outer in [chapter(0, &run), contents(0, &run)] {
             assert_eq!(subframes(version, &read(&tag(version, &outer)).unwrap()[0]), want, "{version}");
         }
         assert_eq!(Subframes::new(version, &run).collect::<Result<Vec<_>, _>>().unwrap(), want);
     }
-    let pop = [&b"POP\0\0\x0Fa\0\x05"[..], &LONG].concat();
+    let pop = [&b"POP\0\0\x0Fa\0\x05"[..], &LONG_COUNTER].concat();
     let found: Vec<_> = Subframes::new(Version::Id3v22, &pop).collect();
     assert_eq!(found, [Ok(Record { id: b"POP".into(), ..popularimeter(65_280) })]);
 }
 
 #[test]
 fn a_long_counter_is_resynchronised_first() {
-    let run = with_counter(2, &unsynchronised(&LONG));
+    let run = with_counter(2, &unsynchronised(&LONG_COUNTER));
     let twice = frame(b"CHAP", 2, &unsynchronised(&[&[0; 17], &run[..]].concat()));
     for outer in [chapter(0, &run), twice] {
         assert_eq!(subframes(Version::Id3v24, &records(&outer)[0]), [popularimeter(7), popularimeter(65_280)]);
@@ -126,7 +120,7 @@ fn a_long_counter_is_resynchronised_first() {
 
 #[test]
 fn a_counter_that_is_too_large_refuses_the_chapter_and_the_run() {
-    let run = with_counter(0, &TOO_LARGE);
+    let run = with_counter(0, &LARGE_COUNTER);
     for version in [Version::Id3v23, Version::Id3v24] {
         for outer in [chapter(0, &run), contents(0, &run)] {
             assert_eq!(read(&tag(version, &outer)), Err(Refusal::COUNTER_TOO_LARGE), "{version}");

@@ -2,7 +2,7 @@
 
 mod common;
 
-use common::Numbers;
+use common::{Numbers, LARGE_COUNTER, LONG_COUNTER};
 use std::hash::{DefaultHasher, Hash, Hasher};
 use streamvault::{
     read, references, sys, Content, Encoding, Frame, Id, Mode, Reader, Record, Reference, Refusal, Table, Version,
@@ -278,15 +278,12 @@ fn runs(counter: &[u8]) -> [Vec<u8>; 3] {
     [run.clone(), [with_counter(&[7]), run].concat(), inner]
 }
 
-/// A counter as one family of boxes starts with it: twelve bytes, mostly zeros. It is 65,280.
-const LONG: [u8; 12] = [0, 0, 0, 0, 0, 0, 0, 0, 0, 0, 0xFF, 0];
-
 #[test]
 fn a_long_counter_that_was_read_is_written_without_its_zeros() {
     for version in [Version::Id3v23, Version::Id3v24] {
         let head = [b'I', b'D', b'3', version.edition(), 0, 0, 0, 0, 0];
         let tag = |frame: &[u8]| [&head[..], &[frame.len() as u8], frame].concat();
-        let (long, short) = (tag(&with_counter(&LONG)), tag(&with_counter(&[0xFF, 0])));
+        let (long, short) = (tag(&with_counter(&LONG_COUNTER)), tag(&with_counter(&[0xFF, 0])));
         assert_eq!(written(version, Mode::Off, &read(&long).unwrap(), 0), short, "{version}");
         let mut reader = Reader::open(&long, Vec::new()).unwrap();
         let mut writer = Writer::new(version).mode(Mode::Off);
@@ -297,7 +294,7 @@ fn a_long_counter_that_was_read_is_written_without_its_zeros() {
 
 #[test]
 fn a_run_with_a_long_counter_is_written_as_it_is_given() {
-    for run in [&LONG[..], &[0; 9], &[0; 40], &[0, 0xFF, 0, 0, 0, 0, 0, 0, 0]].into_iter().flat_map(runs) {
+    for run in [&LONG_COUNTER[..], &[0; 9], &[0; 40], &[0, 0xFF, 0, 0, 0, 0, 0, 0, 0]].into_iter().flat_map(runs) {
         for version in [Version::Id3v23, Version::Id3v24] {
             for mode in MODES {
                 let given = [Record::new(b"CHAP", chapter(&run).map(<[u8]>::to_vec))];
@@ -361,7 +358,7 @@ fn records_are_refused_by_the_table() {
 #[test]
 fn a_run_with_a_counter_that_is_too_large_is_refused() {
     let zeros_in_front = [&[0; 12], &[0xFF; 9][..]].concat();
-    for run in [&[1, 0, 0, 0, 0, 0, 0, 0, 0][..], &[0xFF; 9], &zeros_in_front].into_iter().flat_map(runs) {
+    for run in [&LARGE_COUNTER[..], &[0xFF; 9], &zeros_in_front].into_iter().flat_map(runs) {
         let contents =
             Content::Contents { element: &b""[..], top_level: false, ordered: false, children: b"", run: &run };
         for version in [Version::Id3v23, Version::Id3v24] {
