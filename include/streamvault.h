@@ -74,6 +74,9 @@ extern "C" {
 #define SV_WRONG_DEVIATION 33      /* a deviation lacks its pair or does not fit its width, or a step is 2^24 or more */
 #define SV_ODD_REFERENCES 34       /* the widths sum to 4 and the references are odd in number */
 
+/* Refusals of popularimeters, on reading. */
+#define SV_COUNTER_TOO_LARGE 35    /* a popularimeter's counter does not fit 64 bits */
+
 /* ---- the words of a header */
 
 #define SV_HEADER_WORDS 4
@@ -119,7 +122,7 @@ extern "C" {
 #define SV_METERED_USER_START 1
 #define SV_METERED_USER_LEN 2
 #define SV_METERED_RATING 3
-#define SV_METERED_COUNTER 4
+#define SV_METERED_COUNTER 4    /* of any number of bytes; one that does not fit 64 bits is refused */
 #define SV_METERED_FRAME 5      /* the number of its frame, from 0 */
 
 /* ---- the words of a record, read or to be written */
@@ -201,6 +204,9 @@ uint32_t sv_open(const uint8_t *tag, size_t tag_len, uint8_t *work, size_t work_
  * The next frame of the top level as a record, or SV_END. The parts of a record that lie in the work buffer stay until
  * the next step. At the end and on a refusal the record's words stay as they were. An ended reader answers SV_END again,
  * a refused one its number.
+ *
+ * The counter of a popularimeter is one number, highest byte first, of any number of bytes: zeros in front are skipped, and
+ * what does not fit 64 bits is refused with SV_COUNTER_TOO_LARGE, also inside a chapter.
  */
 uint32_t sv_step(const uint8_t *tag, size_t tag_len, uint8_t *work, size_t work_len, uint64_t *reader, size_t reader_len,
                  uint64_t *record, size_t record_len);
@@ -304,6 +310,7 @@ static inline const char *sv_meaning(uint32_t number)
     case SV_WIDTHS_OVER_64: return "the widths' sum is over 64";
     case SV_WRONG_DEVIATION: return "a deviation lacks its pair or does not fit its width, or a step is 2^24 or more";
     case SV_ODD_REFERENCES: return "the widths sum to 4 and the references are odd in number";
+    case SV_COUNTER_TOO_LARGE: return "a popularimeter's counter does not fit 64 bits";
     default: return "a number that is none";
     }
 }

@@ -151,7 +151,9 @@ fn plain_frame(edition: u8, rest: &[u8]) -> Option<(&[u8], &[u8], &[u8])> {
 fn plain_counter(body: &[u8]) -> Option<u64> {
     let zero = body.iter().position(|byte| *byte == 0)?;
     let counter = body.get(zero + 2..)?;
-    Some(counter.iter().take(8).fold(0, |n, byte| n << 8 | u64::from(*byte)))
+    let zeros = counter.iter().take_while(|byte| **byte == 0).count();
+    let counter = &counter[zeros..];
+    (counter.len() <= 8).then(|| counter.iter().fold(0, |n, byte| n << 8 | u64::from(*byte)))
 }
 
 // ---- a raw body is not looked at

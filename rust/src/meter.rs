@@ -11,7 +11,7 @@ pub struct Popularimeter<'a> {
     pub user: &'a [u8],
     /// The rating.
     pub rating: u8,
-    /// The counter.
+    /// The counter, of any number of bytes; what does not fit 64 bits is refused with [`Refusal::COUNTER_TOO_LARGE`].
     pub counter: u64,
     /// The number of its frame, from 0: every frame of the top level counts, of whatever kind.
     pub frame: u64,

@@ -40,7 +40,8 @@ pub enum Content<B> {
         user: B,
         /// The rating.
         rating: u8,
-        /// The counter.
+        /// The counter. When it is read it may have any number of bytes; what does not fit 64 bits is refused with
+        /// [`Refusal::COUNTER_TOO_LARGE`]. It is written in as many bytes as it needs.
         counter: u64,
     },
     /// A lookup table.

@@ -151,6 +151,8 @@ names! {
     WRONG_DEVIATION = 33;
     /// the widths sum to 4 and the references are odd in number
     ODD_REFERENCES = 34;
+    /// a popularimeter's counter does not fit 64 bits
+    COUNTER_TOO_LARGE = 35;
 }
 
 #[cfg(test)]
@@ -182,7 +184,7 @@ mod tests {
     #[test]
     fn other_numbers_say_that_they_are_none() {
         assert_eq!(Refusal::new(99).to_string(), "refused 99: a number that is none");
-        for number in [0, 15, 19, 35, 99, crate::sys::SV_END] {
+        for number in [0, 15, 19, 36, 99, crate::sys::SV_END] {
             assert_eq!(Refusal::from_number(number), None);
         }
     }

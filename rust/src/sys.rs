@@ -177,6 +177,8 @@ refusals! {
     pub const SV_WRONG_DEVIATION: u32 = 33;
     /// the widths sum to 4 and the references are odd in number
     pub const SV_ODD_REFERENCES: u32 = 34;
+    /// a popularimeter's counter does not fit 64 bits
+    pub const SV_COUNTER_TOO_LARGE: u32 = 35;
 }
 
 // ---- the words of a header
@@ -259,7 +261,7 @@ pub const SV_METERED_USER_START: usize = 1;
 pub const SV_METERED_USER_LEN: usize = 2;
 /// The rating.
 pub const SV_METERED_RATING: usize = 3;
-/// The counter.
+/// The counter, of any number of bytes; one that does not fit 64 bits is refused.
 pub const SV_METERED_COUNTER: usize = 4;
 /// The number of its frame, from 0.
 pub const SV_METERED_FRAME: usize = 5;

@@ -3,7 +3,7 @@
 
 mod common;
 
-use common::{command, folder, said};
+use common::{command, folder, root, said};
 use std::collections::BTreeMap;
 use std::fs;
 use std::path::Path;
@@ -110,6 +110,17 @@ fn every_cut_of_a_tag_of_each_edition_and_mode_is_listed() {
         for mode in MODES {
             every_cut_is_listed(&format!("cuts-{version}-{mode:?}"), &tag(version, mode), 0, false);
         }
+    }
+}
+
+/// The sample of the boxes with a counter of twelve bytes, which is the same in 2.4.
+#[test]
+fn every_cut_of_a_tag_with_a_long_counter_is_listed() {
+    let mut tag = fs::read(root().join("samples/march/box.mp3")).unwrap();
+    tag.truncate(streamvault::header(&tag).unwrap().tag_len());
+    for edition in [3, 4] {
+        tag[3] = edition;
+        every_cut_is_listed(&format!("cuts-long-counter-{edition}"), &tag, 0, false);
     }
 }
 

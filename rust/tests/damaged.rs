@@ -20,6 +20,7 @@ fn refused(number: u32, counted: u32) -> String {
         2 => "the edition is not 2.2, 2.3 or 2.4; or a version, mode, mark or state that is none",
         5 => "bytes are missing: of the extended header, of a data length, or of a 2.3 body",
         8 => "a frame is encrypted",
+        35 => "a popularimeter's counter does not fit 64 bits",
         other => panic!("no sample is refused with {other}"),
     };
     format!("refused {number}: {meaning} ({})", before(counted))
@@ -139,6 +140,7 @@ samples! {
     behind_padding_unsynchronised: "behind-padding-unsynchronised", "7 from 1", [behind_frames("POPM", 101)];
     refused_edition: "refused-edition", "0 from 0", [refused(2, 0)];
     refused_encrypted: "refused-encrypted", "7 from 1", [refused(8, 1)];
+    refused_counter: "refused-counter", "7 from 1", [refused(35, 1)];
     compressed_23: "compressed-2.3", "300 from 1", [compressed()];
     compressed_24: "compressed-2.4", "300 from 1", [compressed()];
     second_tag: "second-tag", "307 from 2", [second(120)];

@@ -61,11 +61,13 @@ fn minutes_says_what_may_be_missing() {
     for (input, given, status) in [
         (b"no tag at all".to_vec(), "refused 1\n", 1),
         (sample("damaged/refused-encrypted.mp3"), "room 1 7\nrefused 8\n", 1),
+        (sample("damaged/refused-counter.mp3"), "room 1 7\nrefused 35\n", 1),
         (sample("damaged/cut-in-picture-2.3.mp3"), "room 1 7\nrefused 5\ncut\n", 1),
         (sample("damaged/cut-in-picture-2.2.mp3"), "room 1 7\ncut\n", 1),
         (sample("damaged/cut-between-frames-2.4.mp3"), "room 1 7\ncut\n", 1),
         (sample("damaged/compressed-2.4.mp3"), "room 2 300\ncompressed\n", 1),
         (sample("march/second.mp3"), "room 2 65280\n", 0),
+        (sample("march/box.mp3"), "room 3 720000\n", 0),
     ] {
         let want = (format!("given:\n{given}written:\nroom 7 65280\n"), status);
         assert_eq!(fed(&program, &input), want);

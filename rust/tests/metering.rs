@@ -2,9 +2,9 @@
 
 mod common;
 
-use common::Numbers;
+use common::{unsynchronised, Numbers, LARGE_COUNTER, LONG_COUNTER};
 use streamvault::{
-    read, sys, Content, Encoding, Ending, Id, Meter, Mode, Reader, Record, Refusal, Version, Work, Writer,
+    calls, read, sys, Content, Encoding, Ending, Id, Meter, Mode, Reader, Record, Refusal, Version, Work, Writer,
 };
 
 /// User, rating, counter and frame number, with bytes of its own.
@@ -229,11 +229,136 @@ fn a_vector_grows_and_a_slice_does_not() {
     assert!(work.len() > tag.len() && work.len() <= 8 * tag.len());
 }
 
+// ---- counters of more than eight bytes
+
+/// A tag of this edition and these flags around frames as they are stored.
+fn around(version: Version, flags: u8, frames: &[u8]) -> Vec<u8> {
+    let n = frames.len();
+    [&[b'I', b'D', b'3', version.edition(), 0, flags, 0, 0, (n >> 7) as u8, n as u8 & 0x7F], frames].concat()
+}
+
+/// A frame with these flags, which 2.2 has none of.
+fn frame(version: Version, id: Id, flags: u8, body: &[u8]) -> Vec<u8> {
+    assert!(body.len() < 0x80);
+    let size = body.len() as u8;
+    let head = if version == Version::Id3v22 { vec![0, 0, size] } else { vec![0, 0, 0, size, 0, flags] };
+    [id.as_bytes(), &head, body].concat()
+}
+
+/// A tag of each edition, plain and as standard mode stores it, with three popularimeters: of room 1 (7), of room 2 with
+/// these counter bytes, of room 3 (5).
+fn with_counter(counter: &[u8]) -> Vec<(Version, Vec<u8>)> {
+    let mut tags = Vec::new();
+    for version in [Version::Id3v22, Version::Id3v23, Version::Id3v24] {
+        let bodies = [&b"room 1\0\x07\x07"[..], &[b"room 2\0\x07", counter].concat(), b"room 3\0\x07\x05"];
+        let id = id(version, b"POP", b"POPM");
+        let plain = bodies.map(|body| frame(version, id, 0, body)).concat();
+        let stored = match version {
+            Version::Id3v24 => bodies.map(|body| frame(version, id, 2, &unsynchronised(body))).concat(),
+            _ => unsynchronised(&plain),
+        };
+        tags.push((version, around(version, 0, &plain)));
+        tags.push((version, around(version, 0x80, &stored)));
+    }
+    tags
+}
+
+#[test]
+fn a_long_counter_is_shown_in_every_edition_and_mode() {
+    for (version, tag) in with_counter(&LONG_COUNTER) {
+        let (found, ending) = metered(&tag).unwrap();
+        let want = [(&b"room 1"[..], 7), (b"room 2", 65_280), (b"room 3", 5)];
+        let want = want.iter().zip(0..).map(|((user, counter), frame)| (user.to_vec(), 7, *counter, frame));
+        assert_eq!(found, want.collect::<Vec<_>>(), "{version}");
+        assert!(ending.is_whole());
+        assert_eq!(ending.frames, 3);
+        assert_eq!(counters(&tag), [7, 65_280, 5], "{version}");
+    }
+}
+
+/// The counters of a tag by the calls, which go to its end.
+fn counters(tag: &[u8]) -> Vec<u64> {
+    let (mut work, mut meter) = (vec![0; tag.len()], [0; sys::SV_METER_WORDS]);
+    assert_eq!(calls::meter_open(tag, &mut work, &mut meter), 0);
+    let next = || {
+        let mut metered = [0; sys::SV_METERED_WORDS];
+        let answer = calls::meter_next(tag, &mut work, &mut meter, &mut metered);
+        assert!(answer == 0 || answer == sys::SV_END, "{answer}");
+        (answer == 0).then_some(metered[sys::SV_METERED_COUNTER])
+    };
+    std::iter::from_fn(next).collect()
+}
+
+#[test]
+fn a_counter_that_is_too_large_is_refused_where_the_reader_refuses_it() {
+    for (version, tag) in with_counter(&LARGE_COUNTER) {
+        let (found, ending) = metered(&tag).unwrap();
+        assert_eq!(found, [(b"room 1".to_vec(), 7, 7, 0)], "{version}");
+        let refusal = Some(Refusal::COUNTER_TOO_LARGE);
+        assert_eq!(ending, Ending { refusal, frames: 1, short: false, compressed: false, missing: false });
+        assert_eq!(metered(&tag), by_reader(&tag));
+        let mut meter = Meter::open(&tag, Vec::new()).unwrap();
+        assert!(meter.next_popularimeter().unwrap().is_ok());
+        assert_eq!(meter.next_popularimeter().unwrap(), Err(Refusal::COUNTER_TOO_LARGE));
+        assert!(meter.next_popularimeter().is_none());
+        assert!(meter.rest().is_empty());
+    }
+}
+
+/// A popularimeter (3), a chapter around one with these counter bytes, and one with the long counter.
+fn with_chapter(version: Version, counter: &[u8]) -> Vec<u8> {
+    let popularimeter = |counter: &[u8]| frame(version, b"POPM".into(), 0, &[b"room 1\0\x07", counter].concat());
+    let chapter = frame(version, b"CHAP".into(), 0, &[&[0; 17], &popularimeter(counter)[..]].concat());
+    around(version, 0, &[popularimeter(&[3]), chapter, popularimeter(&LONG_COUNTER)].concat())
+}
+
+#[test]
+fn a_counter_inside_a_chapter_is_not_shown_and_refused_where_it_is_too_large() {
+    let shown = |counter, frame| (b"room 1".to_vec(), 7, counter, frame);
+    for version in [Version::Id3v23, Version::Id3v24] {
+        let (found, ending) = metered(&with_chapter(version, &LONG_COUNTER)).unwrap();
+        assert_eq!((found, ending.is_whole()), (vec![shown(3, 0), shown(65_280, 2)], true), "{version}");
+        let tag = with_chapter(version, &LARGE_COUNTER);
+        let (found, ending) = metered(&tag).unwrap();
+        assert_eq!((found, ending.frames), (vec![shown(3, 0)], 1), "{version}");
+        assert_eq!(ending.refusal, Some(Refusal::COUNTER_TOO_LARGE), "{version}");
+        assert_eq!(metered(&tag), by_reader(&tag));
+    }
+}
+
+/// By the calls: the meter leaves the words of a reader and the work buffer as the steps do, and answers its number again.
+#[test]
+fn a_refused_counter_leaves_what_the_steps_leave() {
+    for (version, tag) in with_counter(&LARGE_COUNTER).into_iter().chain(with_counter(&[0xFF; 9])) {
+        let (mut work, mut reader) = (vec![0x55; tag.len()], [0; sys::SV_READER_WORDS]);
+        let (mut metering, mut meter) = (work.clone(), [0; sys::SV_METER_WORDS]);
+        assert_eq!(calls::open(&tag, &mut work, &mut reader), 0);
+        assert_eq!(calls::meter_open(&tag, &mut metering, &mut meter), 0);
+        let (mut record, mut metered) = ([0; sys::SV_RECORD_WORDS], [0; sys::SV_METERED_WORDS]);
+        let refused = sys::SV_COUNTER_TOO_LARGE;
+        for answer in [0, refused, refused] {
+            assert_eq!(calls::step(&tag, &mut work, &mut reader, &mut record), answer, "{version}");
+            assert_eq!(calls::meter_next(&tag, &mut metering, &mut meter, &mut metered), answer, "{version}");
+            assert_eq!(meter[..sys::SV_READER_WORDS], reader);
+            assert_eq!(meter[sys::SV_METER_FRAMES..], [1, 0, 0, 0]);
+            assert_eq!(metering, work);
+            // what was shown before the refusal stays
+            assert_eq!((metered[sys::SV_METERED_COUNTER], metered[sys::SV_METERED_FRAME]), (7, 0));
+        }
+    }
+}
+
 // ---- the reader's steps repeated
+
+/// Tags that a writer wrote, and those with long counters.
+fn all_tags() -> impl Iterator<Item = (Version, Vec<u8>)> {
+    let long = [&LONG_COUNTER[..], &LARGE_COUNTER, &[0xFF; 9]].map(with_counter);
+    tags().into_iter().chain(long.into_iter().flatten())
+}
 
 #[test]
 fn every_cut_of_a_tag_shows_what_the_reader_shows() {
-    for (version, tag) in tags() {
+    for (version, tag) in all_tags() {
         for len in 0..=tag.len() {
             assert_eq!(metered(&tag[..len]), by_reader(&tag[..len]), "{version}, {len} bytes");
         }
@@ -243,7 +368,7 @@ fn every_cut_of_a_tag_shows_what_the_reader_shows() {
 #[test]
 fn damaged_tags_show_what_the_reader_shows() {
     let mut numbers = Numbers(25);
-    for (version, tag) in tags() {
+    for (version, tag) in all_tags() {
         for _ in 0..400 {
             let mut damaged = tag.clone();
             for _ in 0..1 + numbers.below(3) {

@@ -43,9 +43,10 @@ fn the_sum_of_the_sample_month() {
          0               1  hex:636166E9
 4294967438               3  room 1
      65283               2  room 2
+    720000               1  room 3
 
-in all 4295032721 from 6 popularimeters
-4 files with a tag, 1 without
+in all 4295752721 from 7 popularimeters
+5 files with a tag, 1 without
 ";
     assert_eq!(said(&output), (want.to_string(), 0));
     assert_eq!(err(&output), "");
@@ -54,7 +55,7 @@ in all 4295032721 from 6 popularimeters
 #[test]
 fn the_sum_as_comma_separated_values() {
     let output = run(&["sum", "--csv", "samples/march"]);
-    let want = "user,popularimeters,counter\nhex:636166E9,1,0\nroom 1,3,4294967438\nroom 2,2,65283\n";
+    let want = "user,popularimeters,counter\nhex:636166E9,1,0\nroom 1,3,4294967438\nroom 2,2,65283\nroom 3,1,720000\n";
     assert_eq!(said(&output), (want.to_string(), 0));
     assert_eq!(err(&output), "");
 }
@@ -62,7 +63,8 @@ fn the_sum_as_comma_separated_values() {
 #[test]
 fn the_sum_of_all_samples_lists_the_damaged_ones() {
     let output = run(&["sum", "samples", "--csv"]);
-    let want = "user,popularimeters,counter\nhex:636166E9,1,0\nroom 1,33,4294967648\nroom 2,11,67983\n";
+    let want =
+        "user,popularimeters,counter\nhex:636166E9,1,0\nroom 1,34,4294967655\nroom 2,11,67983\nroom 3,1,720000\n";
     assert_eq!(said(&output), (want.to_string(), 1));
     let listed = err(&output);
     assert!(listed.lines().all(|line| line.starts_with("samples/damaged/")), "{listed}");
@@ -76,10 +78,11 @@ fn the_sum_as_json() {
     let (out, status) = said(&run(&["sum", "--json", "samples"]));
     assert_eq!(status, 1);
     for part in [
-        r#"{"user": "room 1", "popularimeters": 33, "counter": "4294967648"}"#,
-        r#""tags": 41,"#,
+        r#"{"user": "room 1", "popularimeters": 34, "counter": "4294967655"}"#,
+        r#""tags": 43,"#,
         r#""without_tag": 3,"#,
         r#"{"file": "samples/damaged/cut-in-popularimeter-2.3.mp3", "number": 5, "meaning": "#,
+        r#"{"file": "samples/damaged/refused-counter.mp3", "number": 35, "meaning": "#,
         r#"{"file": "samples/damaged/short-frame.mp3", "promised": 112, "there": 112, "short_frame": true, "counted_before": 1}"#,
         r#"{"file": "samples/damaged/compressed-2.4.mp3"}"#,
         r#"{"file": "samples/damaged/small-size-2.2.mp3", "found": "cut frame header", "at": 72}"#,
@@ -90,6 +93,55 @@ fn the_sum_as_json() {
     ] {
         assert!(out.contains(part), "{part} in {out}");
     }
+}
+
+#[test]
+fn a_counter_that_is_too_large_is_listed_and_what_was_before_it_counts() {
+    let path = "samples/damaged/refused-counter.mp3";
+    let listed = format!(
+        "{path}: refused 35: a popularimeter's counter does not fit 64 bits (popularimeters counted before it: 1)\n"
+    );
+    let table = "counter  popularimeters  user
+      7               1  room 1
+
+in all 7 from 1 popularimeters
+1 file with a tag, 0 without
+";
+    assert_eq!(said(&run(&["sum", path])), (format!("{table}{listed}"), 1));
+    let output = run(&["sum", "--csv", path]);
+    assert_eq!(said(&output), ("user,popularimeters,counter\nroom 1,1,7\n".to_string(), 1));
+    assert_eq!(err(&output), listed);
+    let (out, status) = said(&run(&["sum", "--json", path]));
+    assert_eq!(status, 1);
+    for part in [
+        r#"{"user": "room 1", "popularimeters": 1, "counter": "7"}"#,
+        r#""popularimeters": 1,"#,
+        r#""counter": "7","#,
+        r#""number": 35, "meaning": "a popularimeter's counter does not fit 64 bits", "counted_before": 1}"#,
+    ] {
+        assert!(out.contains(part), "{part} in {out}");
+    }
+}
+
+#[test]
+fn a_long_counter_counts_in_every_edition() {
+    let folder = folder("long-counters");
+    let counter = [0, 0, 0, 0, 0, 0, 0, 0, 0, 0x0A, 0xFC, 0x80];
+    for (edition, flags, head) in [
+        (2, 0, &b"POP\0\0\x14"[..]),
+        (3, 0, b"POPM\0\0\0\x14\0\0"),
+        (3, 0x80, b"POPM\0\0\0\x14\0\0"),
+        (4, 0, b"POPM\0\0\0\x14\0\0"),
+        (4, 0x80, b"POPM\0\0\0\x14\0\x02"),
+    ] {
+        let frame = [head, b"room 3\0\0", &counter].concat();
+        // twice the same, and padding
+        let frames = [&frame[..], &frame, &[0; 8]].concat();
+        let tag = [&[b'I', b'D', b'3', edition, 0, flags, 0, 0, 0, frames.len() as u8], &frames[..]].concat();
+        fs::write(folder.join(format!("{edition}-{flags}.mp3")), tag).unwrap();
+    }
+    let want = "user,popularimeters,counter\nroom 3,10,7200000\n";
+    assert_eq!(said(&run(&["sum", "--csv", folder.to_str().unwrap()])), (want.to_string(), 0));
 }
 
 #[test]
@@ -226,6 +278,27 @@ frame 3 POPM at 63 body 6 popularimeter whole user 636166E9 rating 0 counter 0
 end 4
 ";
     assert_eq!(said(&run(&["list", "samples/march/third.mp3"])), (want.to_string(), 0));
+}
+
+#[test]
+fn the_listing_of_a_long_counter_and_of_one_that_is_too_large() {
+    let want = "\
+tag 2.3 size 57 flags 0 ext 0
+frame 0 TIT2 at 0 body 9 text whole
+frame 1 POPM at 19 body 20 popularimeter whole user 726F6F6D2033 rating 0 counter 720000
+end 2
+";
+    assert_eq!(said(&run(&["list", "samples/march/box.mp3"])), (want.to_string(), 0));
+    let output = run(&["list", "samples/damaged/refused-counter.mp3"]);
+    let want = "\
+tag 2.4 size 117 flags 0 ext 0
+frame 0 TIT2 at 0 body 5 text whole
+frame 1 POPM at 15 body 9 popularimeter whole user 726F6F6D2031 rating 0 counter 7
+frame 2 APIC at 34 body 38 raw whole
+refused 35
+";
+    assert_eq!(said(&output), (want.to_string(), 1));
+    assert_eq!(err(&output), "");
 }
 
 #[test]
@@ -382,9 +455,11 @@ fn every_status() {
         (&["sum", "samples/march"][..], 0),
         (&["list", "samples/march/first.mp3"], 0),
         (&["sum", "samples/damaged/refused-encrypted.mp3"], 1),
+        (&["sum", "samples/damaged/refused-counter.mp3"], 1),
         (&["sum", "samples/damaged/cut-in-padding-2.4.mp3"], 1),
         (&["sum", "samples/damaged/second-tag.mp3"], 1),
         (&["list", "samples/damaged/refused-encrypted.mp3"], 1),
+        (&["list", "samples/damaged/refused-counter.mp3"], 1),
         (&["list", "samples/damaged/cut-in-padding-2.4.mp3"], 1),
         (&["list", "samples/damaged/short-frame.mp3"], 1),
         (&["sum"], 2),

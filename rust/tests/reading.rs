@@ -1,7 +1,11 @@
 //! Reading through the safe interface: cases of document 01, the lending reader, work buffers.
 
+mod common;
+
+use common::{unsynchronised, LARGE_COUNTER, LONG_COUNTER};
 use streamvault::{
-    header, read, references, sys, Content, Encoding, Id, Kind, Meter, Reader, Record, Reference, Version,
+    calls, header, read, references, sys, Content, Encoding, Id, Kind, Meter, Reader, Record, Reference, Refusal,
+    Version,
 };
 
 /// A tag of this edition and these flags around frames.
@@ -113,7 +117,12 @@ fn counters_of_any_length() {
     assert_eq!(counter(&[]), 0);
     assert_eq!(counter(&[0xFF, 0]), 65_280);
     assert_eq!(counter(&[0xFF; 8]), u64::MAX);
-    assert_eq!(counter(&[1, 2, 3, 4, 5, 6, 7, 8, 9, 10]), 0x0102_0304_0506_0708);
+    assert_eq!(counter(&[0; 100]), 0);
+    assert_eq!(counter(&[0, 1, 2, 3, 4, 5, 6, 7, 8]), 0x0102_0304_0506_0708);
+    for zeros in 0..=100 {
+        assert_eq!(counter(&[&vec![0; zeros][..], &[0xFF; 8]].concat()), u64::MAX);
+        assert_eq!(counter(&[&vec![0; zeros][..], &[7]].concat()), 7);
+    }
     assert_eq!(number(&tag(4, 0, &frame(b"POPM", 0, b"no zero"))), 11);
     assert_eq!(number(&tag(4, 0, &frame(b"POPM", 0, b"no rating\0"))), 11);
 }
@@ -170,6 +179,159 @@ fn other_ids_and_compressed_frames_are_raw() {
     let record = only(&tag(4, 0, &frame(b"TIT2", 8, b"\xFF\0")));
     assert!(record.compressed);
     assert_eq!(record.kind(), Kind::Raw);
+}
+
+// ---- counters of more than eight bytes
+
+/// A popularimeter of an edition with these counter bytes.
+fn popularimeter(edition: u8, counter: &[u8]) -> Vec<u8> {
+    let body = [&b"a\0\x05"[..], counter].concat();
+    match edition {
+        2 => [&b"POP\0\0"[..], &[body.len() as u8], &body].concat(),
+        _ => frame(b"POPM", 0, &body),
+    }
+}
+
+/// A tag of each edition with a raw frame before a popularimeter and one after it, plain and as standard mode stores it.
+fn with_counter(counter: &[u8]) -> Vec<Vec<u8>> {
+    let around = |raw: Vec<u8>, popularimeter: Vec<u8>| [&raw[..], &popularimeter, &raw].concat();
+    let mut tags = Vec::new();
+    for edition in [2, 3] {
+        let raw = if edition == 2 { b"UFI\0\0\x01x".to_vec() } else { frame(b"PRIV", 0, b"x") };
+        let frames = around(raw, popularimeter(edition, counter));
+        tags.extend([tag(edition, 0, &frames), tag(edition, 0x80, &unsynchronised(&frames))]);
+    }
+    let raw = frame(b"PRIV", 2, b"\xFF\0\0");
+    let stored = frame(b"POPM", 2, &unsynchronised(&[&b"a\0\x05"[..], counter].concat()));
+    tags.push(tag(4, 0, &around(raw.clone(), popularimeter(4, counter))));
+    tags.push(tag(4, 0x80, &around(raw, stored)));
+    tags
+}
+
+/// What steps answer up to the first that does not answer 0, the counters that they show, and what they leave in the work
+/// buffer, without the bytes after it that were never changed.
+fn stepped(tag: &[u8]) -> (Vec<u32>, Vec<u64>, Vec<Vec<u8>>) {
+    const UNCHANGED: u8 = 0x55;
+    let (mut work, mut reader) = (vec![UNCHANGED; tag.len()], [0; sys::SV_READER_WORDS]);
+    assert_eq!(calls::open(tag, &mut work, &mut reader), 0);
+    let (mut answers, mut counters, mut left) = (Vec::new(), Vec::new(), Vec::new());
+    while answers.iter().all(|answer| *answer == 0) {
+        let mut record = [0; sys::SV_RECORD_WORDS];
+        answers.push(calls::step(tag, &mut work, &mut reader, &mut record));
+        if record[sys::SV_RECORD_KIND] == sys::SV_KIND_POPULARIMETER {
+            counters.push(record[sys::SV_POPULARIMETER_COUNTER]);
+        }
+        let changed = work.iter().rposition(|byte| *byte != UNCHANGED).map_or(0, |last| last + 1);
+        left.push(work[..changed].to_vec());
+    }
+    (answers, counters, left)
+}
+
+#[test]
+fn a_long_counter_is_read_in_every_edition_and_mode() {
+    for tag in with_counter(&LONG_COUNTER) {
+        let records = read(&tag).unwrap();
+        assert_eq!(records.len(), 3, "{tag:02X?}");
+        let want = Content::Popularimeter { user: b"a".to_vec(), rating: 5, counter: 65_280 };
+        assert_eq!(records[1].content, want, "{tag:02X?}");
+        let (answers, counters, _) = stepped(&tag);
+        assert_eq!((answers, counters), (vec![0, 0, 0, sys::SV_END], vec![65_280]), "{tag:02X?}");
+    }
+}
+
+#[test]
+fn a_counter_that_is_too_large_is_refused_in_every_edition_and_mode() {
+    let with_zeros = [&[0; 5], &LARGE_COUNTER[..]].concat();
+    for counter in [&LARGE_COUNTER[..], &[0xFF; 9], &with_zeros, &[0xFF; 100]] {
+        for tag in with_counter(counter) {
+            let mut reader = Reader::open(&tag, Vec::new()).unwrap();
+            assert_eq!(reader.next_frame().unwrap().unwrap().kind(), Kind::Raw);
+            assert_eq!(reader.next_frame().unwrap(), Err(Refusal::COUNTER_TOO_LARGE), "{tag:02X?}");
+            assert!(reader.next_frame().is_none());
+            assert_eq!(reader.refusal(), Some(Refusal::COUNTER_TOO_LARGE));
+            assert_eq!(stepped(&tag).0, [0, sys::SV_COUNTER_TOO_LARGE], "{tag:02X?}");
+        }
+    }
+}
+
+#[test]
+fn a_refused_counter_leaves_the_words_and_the_reader_stays_refused() {
+    for tag in with_counter(&LARGE_COUNTER) {
+        let (mut work, mut reader) = (vec![0x55; tag.len()], [0; sys::SV_READER_WORDS]);
+        assert_eq!(calls::open(&tag, &mut work, &mut reader), 0);
+        let mut record = [7; sys::SV_RECORD_WORDS];
+        assert_eq!(calls::step(&tag, &mut work, &mut reader, &mut record), 0);
+        let mut want = reader;
+        want[sys::SV_READER_STOP] = sys::SV_STOP_REFUSED;
+        want[sys::SV_READER_NUMBER] = u64::from(sys::SV_COUNTER_TOO_LARGE);
+        let shown = record;
+        for _ in 0..3 {
+            assert_eq!(calls::step(&tag, &mut work, &mut reader, &mut record), sys::SV_COUNTER_TOO_LARGE);
+            assert_eq!((reader, record), (want, shown));
+        }
+    }
+}
+
+/// The work buffer has what was resynchronised up to the refusal, the refused body among it.
+#[test]
+fn a_refused_counter_leaves_the_work_buffer_as_the_steps_do() {
+    let tags = with_counter(&[0xFF; 9]);
+    // 2.2 and 2.3: nothing, or all frames from the opening on
+    for pair in tags[..4].chunks(2) {
+        assert_eq!(stepped(&pair[0]).2, [&[]; 2]);
+        assert_eq!(stepped(&pair[1]).2, [&pair[0][10..]; 2]);
+    }
+    // 2.4: each frame's body over the one before
+    assert_eq!(stepped(&tags[4]).2, [b"\xFF\0"; 2]);
+    assert_eq!(stepped(&tags[5]).2, [&b"\xFF\0"[..], b"a\0\x05\xFF\xFF\xFF\xFF\xFF\xFF\xFF\xFF\xFF"]);
+}
+
+/// Of a short frame the counter is what is there of it.
+#[test]
+fn a_cut_counter_is_read_of_the_bytes_that_are_there() {
+    let large = [&LONG_COUNTER[..], &LARGE_COUNTER].concat();
+    for edition in [2, 4] {
+        let whole = tag(edition, 0, &popularimeter(edition, &large));
+        for missing in 1..=large.len() {
+            let there = &large[..large.len() - missing];
+            let cut = &whole[..whole.len() - missing];
+            let want = there.iter().try_fold(0_u64, |n, byte| Some(n.checked_mul(256)? + u64::from(*byte)));
+            match want {
+                Some(counter) => {
+                    let record = only(cut);
+                    assert!(record.short);
+                    let want = Content::Popularimeter { user: b"a".to_vec(), rating: 5, counter };
+                    assert_eq!(record.content, want, "2.{edition}, {missing} bytes missing");
+                }
+                None => assert_eq!(number(cut), 35, "2.{edition}, {missing} bytes missing"),
+            }
+        }
+    }
+}
+
+/// A chapter of no name and no times around a run of subframes, of an edition and of any length.
+fn chapter_of(edition: u8, run: &[u8]) -> Vec<u8> {
+    let mut chapter = chapter(0, run);
+    if edition == 3 {
+        let size = 17 + run.len() as u32;
+        chapter[4..8].copy_from_slice(&size.to_be_bytes());
+    }
+    chapter
+}
+
+#[test]
+fn counters_inside_chapters_are_read_and_refused() {
+    for edition in [3, 4] {
+        let mut run = popularimeter(edition, &LONG_COUNTER);
+        let mut refused = [popularimeter(edition, &[7]), popularimeter(edition, &LARGE_COUNTER)].concat();
+        for depth in 2..=8 {
+            (run, refused) = (chapter_of(edition, &run), chapter_of(edition, &refused));
+            assert_eq!(only(&tag(edition, 0, &run)).kind(), Kind::Chapter, "2.{edition}, depth {depth}");
+            // a frame before the chapter is answered, and the chapter refused with the number of what it holds
+            let tag = tag(edition, 0, &[frame(b"PRIV", 0, b"x"), refused.clone()].concat());
+            assert_eq!(stepped(&tag).0, [0, sys::SV_COUNTER_TOO_LARGE], "2.{edition}, depth {depth}");
+        }
+    }
 }
 
 // ---- the walk

@@ -2,7 +2,7 @@
 
 mod common;
 
-use common::Numbers;
+use common::{Numbers, LARGE_COUNTER, LONG_COUNTER};
 use streamvault::{read, Content, Encoding, Id, Mode, Record, Refusal, Subframes, Version, Writer};
 
 /// A tag of this version around frames.
@@ -77,6 +77,60 @@ fn chapters_inside_chapters() {
         found = subframes(Version::Id3v24, &found[0]);
     }
     assert_eq!(found, [raw(b"x")]);
+}
+
+/// A run of two popularimeters with the flags of a 2.4 frame: one with the counter 7, and one with these counter bytes.
+fn with_counter(flags: u8, counter: &[u8]) -> Vec<u8> {
+    let popularimeter = |counter: &[u8]| frame(b"POPM", flags, &[&b"a\0\x05"[..], counter].concat());
+    [popularimeter(&[7]), popularimeter(counter)].concat()
+}
+
+fn popularimeter(counter: u64) -> Record {
+    Record::new(b"POPM", Content::Popularimeter { user: b"a".to_vec(), rating: 5, counter })
+}
+
+#[test]
+fn a_long_counter_inside_a_chapter_is_one_number() {
+    let want = [popularimeter(7), popularimeter(65_280)];
+    for version in [Version::Id3v23, Version::Id3v24] {
+        let run = with_counter(0, &LONG_COUNTER);
+        for outer in [chapter(0, &run), contents(0, &run)] {
+            assert_eq!(subframes(version, &read(&tag(version, &outer)).unwrap()[0]), want, "{version}");
+        }
+        assert_eq!(Subframes::new(version, &run).collect::<Result<Vec<_>, _>>().unwrap(), want);
+    }
+    let pop = [&b"POP\0\0\x0Fa\0\x05"[..], &LONG_COUNTER].concat();
+    let found: Vec<_> = Subframes::new(Version::Id3v22, &pop).collect();
+    assert_eq!(found, [Ok(Record { id: b"POP".into(), ..popularimeter(65_280) })]);
+}
+
+#[test]
+fn a_long_counter_is_resynchronised_first() {
+    let run = with_counter(2, &unsynchronised(&LONG_COUNTER));
+    let twice = frame(b"CHAP", 2, &unsynchronised(&[&[0; 17], &run[..]].concat()));
+    for outer in [chapter(0, &run), twice] {
+        assert_eq!(subframes(Version::Id3v24, &records(&outer)[0]), [popularimeter(7), popularimeter(65_280)]);
+    }
+    let refused = with_counter(2, &unsynchronised(&[0xFF; 9]));
+    let twice = frame(b"CHAP", 2, &unsynchronised(&[&[0; 17], &refused[..]].concat()));
+    for outer in [chapter(0, &refused), twice] {
+        assert_eq!(read(&tag(Version::Id3v24, &outer)), Err(Refusal::COUNTER_TOO_LARGE));
+    }
+}
+
+#[test]
+fn a_counter_that_is_too_large_refuses_the_chapter_and_the_run() {
+    let run = with_counter(0, &LARGE_COUNTER);
+    for version in [Version::Id3v23, Version::Id3v24] {
+        for outer in [chapter(0, &run), contents(0, &run)] {
+            assert_eq!(read(&tag(version, &outer)), Err(Refusal::COUNTER_TOO_LARGE), "{version}");
+        }
+        let mut subframes = Subframes::new(version, &run);
+        assert_eq!(subframes.next(), Some(Ok(popularimeter(7))));
+        assert_eq!(subframes.next(), Some(Err(Refusal::COUNTER_TOO_LARGE)));
+        assert_eq!(subframes.next(), None);
+        assert_eq!(subframes.refusal(), Some(Refusal::COUNTER_TOO_LARGE));
+    }
 }
 
 /// A zero after each FF, which resynchronising drops.
@@ -178,7 +232,7 @@ fn some_frame(numbers: &mut Numbers, depth: usize) -> Vec<u8> {
     match numbers.below(if depth > 0 { 6 } else { 3 }) {
         0 => frame(b"PRIV", flags, &bytes),
         1 => frame(b"TIT2", flags, &[&[numbers.below(4) as u8], &bytes[..]].concat()),
-        2 => frame(b"POPM", flags, &[&b"a\0\x05"[..], &bytes].concat()),
+        2 => frame(b"POPM", flags, &[&b"a\0\x05"[..], &vec![0; numbers.below(8)], &bytes].concat()),
         3 => contents(flags, &some_frames(numbers, depth - 1)),
         _ => chapter(flags, &some_frames(numbers, depth - 1)),
     }

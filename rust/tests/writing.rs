@@ -2,7 +2,7 @@
 
 mod common;
 
-use common::Numbers;
+use common::{Numbers, LARGE_COUNTER, LONG_COUNTER};
 use std::hash::{DefaultHasher, Hash, Hasher};
 use streamvault::{
     read, references, sys, Content, Encoding, Frame, Id, Mode, Reader, Record, Reference, Refusal, Table, Version,
@@ -261,6 +261,49 @@ fn a_counter_has_as_many_bytes_as_it_needs() {
     }
 }
 
+/// A frame of 2.3 or 2.4 that is laid out here, of a body below 128 bytes.
+fn frame(id: &[u8; 4], body: &[u8]) -> Vec<u8> {
+    [id, &[0, 0, 0, body.len() as u8, 0, 0][..], body].concat()
+}
+
+/// A popularimeter with these counter bytes.
+fn with_counter(counter: &[u8]) -> Vec<u8> {
+    frame(b"POPM", &[&b"a\0\x05"[..], counter].concat())
+}
+
+/// Runs of subframes with a popularimeter that has these counter bytes: alone, behind another, inside a chapter.
+fn runs(counter: &[u8]) -> [Vec<u8>; 3] {
+    let run = with_counter(counter);
+    let inner = frame(b"CHAP", &[&[0; 17], &run[..]].concat());
+    [run.clone(), [with_counter(&[7]), run].concat(), inner]
+}
+
+#[test]
+fn a_long_counter_that_was_read_is_written_without_its_zeros() {
+    for version in [Version::Id3v23, Version::Id3v24] {
+        let head = [b'I', b'D', b'3', version.edition(), 0, 0, 0, 0, 0];
+        let tag = |frame: &[u8]| [&head[..], &[frame.len() as u8], frame].concat();
+        let (long, short) = (tag(&with_counter(&LONG_COUNTER)), tag(&with_counter(&[0xFF, 0])));
+        assert_eq!(written(version, Mode::Off, &read(&long).unwrap(), 0), short, "{version}");
+        let mut reader = Reader::open(&long, Vec::new()).unwrap();
+        let mut writer = Writer::new(version).mode(Mode::Off);
+        writer.add_frame(&reader.next_frame().unwrap().unwrap()).unwrap();
+        assert_eq!(writer.finish(0).unwrap(), short, "{version}");
+    }
+}
+
+#[test]
+fn a_run_with_a_long_counter_is_written_as_it_is_given() {
+    for run in [&LONG_COUNTER[..], &[0; 9], &[0; 40], &[0, 0xFF, 0, 0, 0, 0, 0, 0, 0]].into_iter().flat_map(runs) {
+        for version in [Version::Id3v23, Version::Id3v24] {
+            for mode in MODES {
+                let given = [Record::new(b"CHAP", chapter(&run).map(<[u8]>::to_vec))];
+                assert_eq!(read(&written(version, mode, &given, 0)).unwrap(), given, "{version} {mode:?}");
+            }
+        }
+    }
+}
+
 #[test]
 fn a_table_is_packed() {
     let table = Table { bits_for_bytes: 4, bits_for_millis: 8, ..Table::default() };
@@ -310,6 +353,22 @@ fn records_are_refused_by_the_table() {
     assert_eq!(refused(v3, b"CTOC", &contents(b"c1")), sys::SV_WRONG_CHILDREN);
     assert_eq!(refused(v3, b"CTOC", &contents(&[0; 256])), sys::SV_WRONG_CHILDREN);
     assert_eq!(refused(v3, b"CHAP", &chapter(b"\0")), sys::SV_WRONG_RUN);
+}
+
+#[test]
+fn a_run_with_a_counter_that_is_too_large_is_refused() {
+    let zeros_in_front = [&[0; 12], &[0xFF; 9][..]].concat();
+    for run in [&LARGE_COUNTER[..], &[0xFF; 9], &zeros_in_front].into_iter().flat_map(runs) {
+        let contents =
+            Content::Contents { element: &b""[..], top_level: false, ordered: false, children: b"", run: &run };
+        for version in [Version::Id3v23, Version::Id3v24] {
+            for (id, content) in [(b"CHAP", chapter(&run)), (b"CTOC", contents)] {
+                assert_eq!(refused(version, id, &content), sys::SV_WRONG_RUN, "{version} {run:02X?}");
+                let record = Record::new(id, content.map(<[u8]>::to_vec));
+                assert_eq!(refused_each_way(version, &record), sys::SV_WRONG_RUN, "{version} {run:02X?}");
+            }
+        }
+    }
 }
 
 #[test]

@@ -1,6 +1,6 @@
 //! The damaged files: tags that the library wrote, and one thing done to each.
 
-use super::{add_popularimeter, add_title, file, id, PADDING, SOUND};
+use super::{add_popularimeter, add_title, file, id, set_size, PADDING, SOUND};
 use streamvault::{Content, Mode, Reader, Refusal, Version, Writer};
 
 /// The frames of each song, by their numbers.
@@ -109,21 +109,29 @@ fn padded_before(frame: usize, mut tag: Vec<u8>) -> Vec<u8> {
     tag
 }
 
-/// Has a tag's header say that the tag ends at this place.
-fn set_size(tag: &mut [u8], end: usize) {
-    let size = end - 10;
-    assert!(size < 0x80, "a song is short");
-    tag[9] = size as u8;
-}
-
-/// Tags that the library refuses: of an edition that is none, and with an encrypted frame.
+/// Tags that the library refuses: of an edition that is none, with an encrypted frame, with a counter that is too large.
 fn refused() -> Result<Named, Refusal> {
     let mut unknown = song(Version::Id3v24, Mode::Off, PADDING)?;
     unknown[3] = 5;
     let mut encrypted = song(Version::Id3v24, Mode::Off, PADDING)?;
     let picture = place(&encrypted, PICTURE)?;
     encrypted[picture + 9] = 0x04;
-    Ok(vec![("refused-edition", file(&unknown)), ("refused-encrypted", file(&encrypted))])
+    Ok(vec![
+        ("refused-edition", file(&unknown)),
+        ("refused-encrypted", file(&encrypted)),
+        ("refused-counter", file(&with_large_counter()?)),
+    ])
+}
+
+/// A song whose last counter has seven more bytes in front: nine, none of them 0, which 64 bits do not hold.
+fn with_large_counter() -> Result<Vec<u8>, Refusal> {
+    let mut tag = song(Version::Id3v24, Mode::Off, PADDING)?;
+    let (last, counter) = (place(&tag, LAST)?, tag.len() - PADDING - 2);
+    tag.splice(counter..counter, [1; 7]);
+    tag[last + 7] += 7;
+    let len = tag.len();
+    set_size(&mut tag, len);
+    Ok(tag)
 }
 
 /// A popularimeter that is marked as compressed.

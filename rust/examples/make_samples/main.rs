@@ -52,8 +52,29 @@ fn march() -> Result<Vec<(PathBuf, Vec<u8>)>, Refusal> {
         ("march/first.mp3".into(), file(&one)),
         ("march/second.mp3".into(), file(&two)),
         ("march/third.mp3".into(), file(&three)),
+        ("march/box.mp3".into(), file(&box_tag()?)),
         ("march/no-tag.mp3".into(), SOUND.to_vec()),
     ])
+}
+
+/// A tag of the family of boxes that starts with a counter of twelve bytes, mostly zeros: here 720,000. The library
+/// writes no zeros in front of a counter, so that the popularimeter is laid out here.
+fn box_tag() -> Result<Vec<u8>, Refusal> {
+    let mut writer = Writer::new(Version::Id3v23).mode(Mode::Off);
+    add_title(&mut writer, "Box song")?;
+    let title = writer.finish(0)?;
+    let counter = [0, 0, 0, 0, 0, 0, 0, 0, 0, 0x0A, 0xFC, 0x80];
+    let mut tag = [&title[..], b"POPM\0\0\0\x14\0\0room 3\0\0", &counter, &[0; PADDING]].concat();
+    let len = tag.len();
+    set_size(&mut tag, len);
+    Ok(tag)
+}
+
+/// Has a tag's header say that the tag ends at this place.
+fn set_size(tag: &mut [u8], end: usize) {
+    let size = end - 10;
+    assert!(size < 0x80, "a song is short");
+    tag[9] = size as u8;
 }
 
 /// The id that an edition has for a frame.

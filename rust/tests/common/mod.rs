@@ -1,4 +1,4 @@
-//! What several tests use: running and compiling programs, a folder of one's own, and a generator of numbers.
+//! What several tests use: running and compiling programs, a folder of one's own, long counters, and a generator of numbers.
 #![allow(dead_code)]
 
 use std::fs;
@@ -77,6 +77,24 @@ pub fn compile(language: Language, sources: &[PathBuf], program: &Path) {
         .output()
         .unwrap_or_else(|error| panic!("{}, which CC or CXX can name: {error}", language.compiler()));
     assert!(done.status.success(), "{language:?}: {}", String::from_utf8_lossy(&done.stderr));
+}
+
+/// A counter as one family of boxes starts with it: twelve bytes, mostly zeros. It is 65,280.
+pub const LONG_COUNTER: [u8; 12] = [0, 0, 0, 0, 0, 0, 0, 0, 0, 0, 0xFF, 0];
+
+/// One more than 64 bits hold.
+pub const LARGE_COUNTER: [u8; 9] = [1, 0, 0, 0, 0, 0, 0, 0, 0];
+
+/// Bytes as standard mode stores them.
+pub fn unsynchronised(bytes: &[u8]) -> Vec<u8> {
+    let mut stored = Vec::new();
+    for (at, &byte) in bytes.iter().enumerate() {
+        stored.push(byte);
+        if byte == 0xFF && bytes.get(at + 1).is_some_and(|&next| next == 0 || next >= 0xE0) {
+            stored.push(0);
+        }
+    }
+    stored
 }
 
 /// A generator of numbers, the same ones each time: splitmix64.

@@ -132,6 +132,23 @@ impl Buffers {
         assert_eq!(self.work.now(), self.work.was());
     }
 
+    /// The buffer that the frames lie in.
+    fn buffer(&self) -> &[u8] {
+        if self.state.was()[SV_READER_IN_WORK] == 1 {
+            self.work.was()
+        } else {
+            self.tag.was()
+        }
+    }
+
+    /// What a step answers by the popularimeter that comes next, if a plain one does.
+    fn by_popularimeter(&self) -> Option<u32> {
+        let (was, buffer) = (self.state.was(), self.buffer());
+        let end = was[SV_READER_END].min(buffer.len() as u64);
+        let rest = buffer.get(was[SV_READER_AT] as usize..end as usize)?;
+        at_popularimeter(was[SV_READER_VERSION], rest)
+    }
+
     /// What a running reader's step leaves.
     fn moved(&self, answer: u32) {
         let (was, now) = (self.state.was(), self.state.now());
@@ -145,6 +162,9 @@ impl Buffers {
             }
         }
         assert_eq!(now, want);
+        if let Some(want) = self.by_popularimeter() {
+            assert_eq!(answer, want);
+        }
         if was[SV_READER_IN_WORK] == 1 || answer == SV_END {
             assert_eq!(self.work.now(), self.work.was());
         }
@@ -152,7 +172,7 @@ impl Buffers {
             assert_eq!(self.record.now(), self.record.was());
             return;
         }
-        let buffer = if was[SV_READER_IN_WORK] == 1 { self.work.was() } else { self.tag.was() };
+        let buffer = self.buffer();
         assert!(was[SV_READER_AT] < now[SV_READER_AT]);
         assert!(now[SV_READER_AT] <= was[SV_READER_END].min(buffer.len() as u64));
         self.shown();
@@ -165,13 +185,40 @@ impl Buffers {
         assert!(is_record(record) && record[SV_RECORD_IN_WORK] <= 1);
         let limits = field_limits(record[SV_RECORD_KIND]).len();
         assert!(record[4 + limits..9].iter().all(|word| *word == 0));
-        let buffer = if record[SV_RECORD_IN_WORK] == 1 { self.work.was() } else { self.tag.was() };
+        let buffer = if record[SV_RECORD_IN_WORK] == 1 { self.work.now() } else { self.tag.was() };
         let (body, len) = (record[SV_RECORD_BODY_START], record[SV_RECORD_BODY_LEN]);
         assert!(body + len <= buffer.len() as u64);
+        if record[SV_RECORD_KIND] == SV_KIND_POPULARIMETER {
+            let behind_user = (record[SV_RECORD_NAME_START] + record[SV_RECORD_NAME_LEN]) as usize;
+            let counter = number(&buffer[behind_user + 2..(body + len) as usize]);
+            assert_eq!(counter, Some(record[SV_POPULARIMETER_COUNTER]));
+        }
         for part in [SV_RECORD_NAME_START, SV_RECORD_NAMES_START, SV_RECORD_REST_START] {
             let (start, part) = (record[part], record[part + 1]);
             let inside = body <= start && start + part <= body + len;
             assert!(inside || (start, part) == (0, 0));
         }
     }
+}
+
+/// The number that bytes make, highest first, if 64 bits hold it.
+fn number(bytes: &[u8]) -> Option<u64> {
+    bytes.iter().try_fold(0_u64, |number, byte| Some(number.checked_mul(256)? + u64::from(*byte)))
+}
+
+/// What a step answers where a popularimeter stands first that is whole and without flags.
+fn at_popularimeter(version: u64, rest: &[u8]) -> Option<u32> {
+    let (id, header) = if version == 2 { (&b"POP"[..], 6) } else { (&b"POPM"[..], 10) };
+    let (head, behind) = rest.split_at_checked(header)?;
+    let size = head.strip_prefix(id)?;
+    let size = match version {
+        2 => number(size)?,
+        3 if size[4..] == [0, 0] => number(&size[..4])?,
+        4 if size[4..] == [0, 0] => size[..4].iter().fold(0, |size, byte| size << 7 | u64::from(*byte)),
+        _ => return None,
+    };
+    let body = behind.get(..size as usize)?;
+    let zero = body.iter().position(|byte| *byte == 0);
+    let Some(counter) = zero.and_then(|zero| body.get(zero + 2..)) else { return Some(SV_MISSING_FIELD) };
+    Some(if number(counter).is_some() { 0 } else { SV_COUNTER_TOO_LARGE })
 }

@@ -177,7 +177,7 @@ fn body(numbers: &mut Numbers, kind: u64, edition: u8, depth: usize) -> Vec<u8> 
     let inner = if depth == 0 { Vec::new() } else { frames(numbers, edition, depth - 1) };
     match kind {
         SV_KIND_TEXT => [&[numbers.below(5) as u8], &some[..]].concat(),
-        SV_KIND_POPULARIMETER => [user(numbers), some].concat(),
+        SV_KIND_POPULARIMETER => [user(numbers), rating_and_counter(numbers, some)].concat(),
         SV_KIND_TABLE => {
             let widths = [numbers.below(34) as u8, 4 * numbers.below(9) as u8];
             [&[0, 1, 0, 0, 2, 0, 0, 3], &widths[..], &some].concat()
@@ -197,6 +197,19 @@ fn user(numbers: &mut Numbers) -> Vec<u8> {
         user.push(0);
     }
     user
+}
+
+/// A rating and a counter of these bytes, which is often longer than eight and mostly fits 64 bits.
+fn rating_and_counter(numbers: &mut Numbers, mut some: Vec<u8>) -> Vec<u8> {
+    if some.is_empty() || numbers.once_in(2) {
+        return some;
+    }
+    if !numbers.once_in(8) {
+        some.truncate(9);
+    }
+    let zeros = vec![0; *numbers.one(&[1, 4, 8, 20])];
+    some.splice(1..1, zeros);
+    some
 }
 
 // ---- records
@@ -265,7 +278,7 @@ fn table(numbers: &mut Numbers, packed: Vec<u8>) -> Content<Vec<u8>> {
     Content::Table { table, packed }
 }
 
-/// A run of subframes as a writer makes it.
+/// A run of subframes as a writer makes it, often with a popularimeter that no writer makes: its counter is long.
 fn run(numbers: &mut Numbers, version: Version) -> Vec<u8> {
     if version == Version::Id3v22 || numbers.once_in(2) {
         return Vec::new();
@@ -274,7 +287,15 @@ fn run(numbers: &mut Numbers, version: Version) -> Vec<u8> {
     let text = Content::Text { encoding: Encoding::Latin1, text: b"inner" };
     let counter = Content::Popularimeter { user: b"inner", rating: 1, counter: numbers.any() };
     let both = writer.add(b"TIT2", &text).and_then(|_| writer.add(b"POPM", &counter));
-    both.and_then(|_| writer.finish(0)).map_or_else(|_| Vec::new(), |tag| tag[10..].to_vec())
+    let mut run = both.and_then(|_| writer.finish(0)).map_or_else(|_| Vec::new(), |tag| tag[10..].to_vec());
+    if numbers.once_in(2) {
+        let len = 8 + numbers.below(3);
+        let some = numbers.bytes(len);
+        let body = [b"inner\0".to_vec(), rating_and_counter(numbers, some)].concat();
+        run.extend(head(version.edition(), id4(b"POPM"), body.len(), 0));
+        run.extend(body);
+    }
+    run
 }
 
 /// Writes records and reads them back: what was accepted is there, in order, whole and equal.

@@ -20,6 +20,9 @@ streamvault sum [--csv | --json] [--jobs N] PATH...
 
     - Each whole popularimeter of the top level counts, also several in one file.
       Those inside chapters do not.
+    - A counter is one number, however many bytes it has. One that does not fit
+      64 bits, also inside a chapter, refuses its tag with the number 35. The
+      popularimeters before it count, and what comes after it in that tag does not.
     - A file that is reached by two names counts once. Links to files are
       followed, links to folders below the paths are not. What is neither a file
       nor a folder, as a pipe, is passed over there.

@@ -112,4 +112,16 @@ refused 12
 ";
         assert_eq!(listed(tag), (false, want.to_string()));
     }
+
+    #[test]
+    fn a_counter_of_twelve_bytes_and_one_that_is_too_large() {
+        let tag =
+            b"ID3\x02\0\0\0\0\0\x25POP\0\0\x0E\0\x07\0\0\0\0\0\0\0\0\0\0\xFF\0POP\0\0\x0B\0\x07\x01\0\0\0\0\0\0\0\0";
+        let want = "\
+tag 2.2 size 37 flags 0 ext 0
+frame 0 POP at 0 body 14 popularimeter whole user - rating 7 counter 65280
+refused 35
+";
+        assert_eq!(listed(tag), (false, want.to_string()));
+    }
 }

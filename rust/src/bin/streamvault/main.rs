@@ -173,6 +173,14 @@ mod tests {
     }
 
     #[test]
+    fn help_says_which_counters_are_refused() {
+        let (_, out, _) = said(&["--help"]);
+        for part in ["however many bytes it has", "64 bits", "the number 35", "before it count"] {
+            assert!(out.contains(part), "{part}");
+        }
+    }
+
+    #[test]
     fn bad_usage_is_status_2_and_prints_nothing() {
         for words in [&[][..], &["sum"], &["list"], &["list", "a", "b"], &["sum", "--xml", "a"], &["drop", "a"]] {
             let (status, out, err) = said(words);

@@ -392,6 +392,32 @@ mod tests {
         assert!(lacks[1].starts_with("Cut { "));
     }
 
+    /// A tag of whole popularimeters with these counter bytes, laid out here: the library writes no zeros in front.
+    fn with_counters(counters: &[&[u8]]) -> Vec<u8> {
+        let frames: Vec<u8> = counters
+            .iter()
+            .flat_map(|counter| {
+                let head = [b'P', b'O', b'P', b'M', 0, 0, 0, 3 + counter.len() as u8, 0, 0];
+                [&head, &b"a\0\0"[..], counter].concat()
+            })
+            .collect();
+        [&b"ID3\x04\0\0\0\0\0"[..], &[frames.len() as u8], &frames].concat()
+    }
+
+    #[test]
+    fn a_counter_of_any_length_counts_as_one_number() {
+        let (sum, lacks) = sum_of(&[&with_counters(&[&[0, 0, 0, 0, 0, 0, 0, 0, 0, 0, 1, 2], &[0; 30], &[3]])]);
+        assert_eq!(sum.all, Total { popularimeters: 3, counter: 258 + 3 });
+        assert!(lacks.is_empty());
+    }
+
+    #[test]
+    fn a_counter_that_is_too_large_is_told_and_what_was_before_it_counts() {
+        let (sum, lacks) = sum_of(&[&with_counters(&[&[5], &[1, 0, 0, 0, 0, 0, 0, 0, 0], &[7]])]);
+        assert_eq!(sum.all, Total { popularimeters: 1, counter: 5 });
+        assert_eq!(lacks, ["Refused { refusal: Refusal(35), counted: 1 }"]);
+    }
+
     #[test]
     fn a_refused_header_counts_nothing() {
         let (sum, lacks) = sum_of(&[b"ID3\x05\0\0\0\0\0\0"]);
