@@ -6,10 +6,10 @@
 
 static uint64_t counter_of(const struct id3_frame *frame)
 {
-    /* a counter of any length is a field of bytes; the library has no function for it */
+    /* a counter of any length is a field of bytes and one number; the library has no function for it */
     const union id3_field *field = id3_frame_field(frame, 2);
     uint64_t counter = 0;
-    for (id3_length_t i = 0; i < field->binary.length && i < 8; i++)
+    for (id3_length_t i = 0; i < field->binary.length; i++)
         counter = counter << 8 | field->binary.data[i];
     return counter;
 }

@@ -13,6 +13,7 @@ pub enum Class {
     Undecoded,
     Depth,
     Compressed,
+    LongCounter,
     OldRva,
     PeopleWritten,
     TextNotHeld,
@@ -22,7 +23,7 @@ pub enum Class {
 }
 
 /// All of them, in the order of the report.
-pub const ALL: [Class; 29] = [
+pub const ALL: [Class; 30] = [
     Class::TableNoEights,
     Class::TableCut,
     Class::TableWidths,
@@ -32,6 +33,7 @@ pub const ALL: [Class; 29] = [
     Class::Undecoded,
     Class::Depth,
     Class::Compressed,
+    Class::LongCounter,
     Class::OldRva,
     Class::PeopleWritten,
     Class::TextNotHeld,
@@ -74,6 +76,7 @@ impl Class {
             }
             Class::Depth => "a frame at depth 9".into(),
             Class::Compressed => "compressed frames (outside the domain)".into(),
+            Class::LongCounter => "popularimeter, a counter of more than eight bytes (outside the domain)".into(),
             Class::OldRva => "RVA in 2.2 with the altered mark".into(),
             Class::PeopleWritten => "TIPL, TMCL as text".into(),
             Class::TextNotHeld => "texts that the crate's strings do not hold".into(),

@@ -117,7 +117,13 @@ impl Frames {
         let id = self.rng.pick(&ids);
         let mut body = self.body(id, 9);
         let more = len.saturating_sub(body.len());
-        if id == b"CHAP" {
+        if (id == b"POP" || id == b"POPM") && self.rng.one_in(2) {
+            // zeros in front of a counter, which mostly fits
+            body = self.rng.name(5);
+            body.extend([0, self.rng.byte()]);
+            body.resize(body.len().max(len), 0);
+            body.extend(self.rng.bytes(9));
+        } else if id == b"CHAP" {
             let raw = self.rng.filled(more.saturating_sub(10));
             body.extend(self.framed(b"ABCD", raw));
         } else {
@@ -226,8 +232,8 @@ impl Frames {
         }
     }
 
-    // user, rating and a counter of 0 to 12 bytes
-    fn popularimeter(&mut self) -> Vec<u8> {
+    /// User, rating and counter.
+    pub fn popularimeter(&mut self) -> Vec<u8> {
         let mut out = self.rng.name(5);
         if !self.rng.one_in(30) {
             out.push(0);
@@ -235,8 +241,23 @@ impl Frames {
         if !self.rng.one_in(30) {
             out.push(self.rng.byte());
         }
-        out.extend(self.rng.bytes(12));
+        out.extend(self.counter());
         out
+    }
+
+    // of 0 to 8 bytes, of 9 to 12 once in three times, seldom of many more; about half of the long ones fit 64 bits by the zeros in front
+    fn counter(&mut self) -> Vec<u8> {
+        if !self.rng.one_in(3) {
+            return self.rng.bytes(8);
+        }
+        let len = if self.rng.one_in(12) { self.rng.between(13, 300) } else { self.rng.between(9, 12) };
+        let last = match self.rng.below(8) {
+            0 => vec![0xFF; 8],
+            1 => vec![1, 0, 0, 0, 0, 0, 0, 0, 0],
+            2..=4 => self.rng.exactly(len),
+            _ => self.rng.bytes(9),
+        };
+        [vec![0; len - last.len()], last].concat()
     }
 
     fn text(&mut self) -> Vec<u8> {

@@ -1,6 +1,7 @@
 //! The questions that both libraries are asked, and what follows from the crate's answers alone.
 
 pub mod answers;
+pub mod counters;
 pub mod frames;
 pub mod ids;
 #[cfg(feature = "library")]

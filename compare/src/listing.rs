@@ -1,4 +1,5 @@
 //! The lines of the listing program, from the crate's answer alone.
+use crate::counters;
 use crate::ids::{is_compressed, is_people, kind_of, widths_refusal, wrapped, Kind};
 use oracle::{Failure, Header, Item, Kind as Theirs, Reading, Stop};
 use std::io::Write;
@@ -67,7 +68,7 @@ fn is_plain(edition: u8, item: &Item, depth: usize) -> bool {
     let kind = kind_of(edition, &item.id);
     match &item.kind {
         Theirs::Text { .. } => kind == Kind::Text || item.id == b"GRP1",
-        Theirs::Popularimeter { .. } => kind == Kind::Popularimeter,
+        Theirs::Popularimeter { .. } => kind == Kind::Popularimeter && !counters::is_other(&item.body),
         Theirs::Table { bits_for_bytes, bits_for_millis, .. } => {
             kind == Kind::Table && widths_refusal(*bits_for_bytes, *bits_for_millis) == 0
         }

@@ -1,6 +1,6 @@
 //! Lists of records for writing, mostly ones that are accepted.
 use crate::frames::Frames;
-use crate::ids::version_of;
+use crate::ids::{framed, version_of};
 use crate::rng::Rng;
 use crate::tags;
 use crate::texts;
@@ -184,7 +184,7 @@ impl Maker {
         ("CTOC", fields)
     }
 
-    // records, or a run of any frames
+    // records, or a run of any frames, plain popularimeters often among them
     fn subs(&mut self, depth: usize) -> Subs {
         if !self.rng.one_in(4) {
             let counts: &[usize] = if depth < 4 { &[0, 1, 1, 2, 3] } else { &[0] };
@@ -194,7 +194,11 @@ impl Maker {
         let mut frames = Frames { rng, edition: self.edition };
         let mut run = Vec::new();
         for _ in 0..self.rng.below(3) {
-            run.extend(frames.frame(depth));
+            if self.rng.one_in(4) {
+                run.extend(framed(self.edition, b"POPM", &frames.popularimeter()));
+            } else {
+                run.extend(frames.frame(depth));
+            }
         }
         Subs::Run(run)
     }

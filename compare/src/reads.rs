@@ -2,6 +2,7 @@
 use crate::classes::Class;
 use crate::library::Library;
 use compare::answers::{Frame, Seen, Stop};
+use compare::counters;
 use compare::ids::{framed, is_compressed, is_people, kind_of, version_of, widths_refusal, wrapped, Kind};
 use compare::listing::is_short;
 use oracle::{Item, Kind as Theirs, Reading, Stop as TheirStop};
@@ -25,14 +26,14 @@ pub struct Met {
     /// Frames that both show, by their kind here.
     pub kinds: [u64; 6],
     /// How this library ended a tag: quietly (0), or the number of its refusal.
-    pub ends: [u64; 35],
+    pub ends: [u64; 36],
     /// Runs of subframes, compared as tags of their own.
     pub runs: u64,
 }
 
 impl Default for Met {
     fn default() -> Met {
-        Met { kinds: [0; 6], ends: [0; 35], runs: 0 }
+        Met { kinds: [0; 6], ends: [0; 36], runs: 0 }
     }
 }
 
@@ -82,7 +83,7 @@ impl Comparison<'_> {
     /// Asks both for a tag and compares all that they say.
     pub fn tag(&mut self, tag: &[u8]) {
         let level = self.level(tag);
-        self.met.ends[level.ours.unwrap_or(0).min(34) as usize] += 1;
+        self.met.ends[level.ours.unwrap_or(0).min(35) as usize] += 1;
     }
 
     /// Notes a listed difference.
@@ -176,10 +177,13 @@ impl Comparison<'_> {
 
     // kinds and fields; a chapter that the crate refuses is looked at by its parts
     fn kinds(&mut self, edition: u8, item: &Item, frame: &Frame) {
+        let kind = kind_of(edition, &item.id);
+        if kind == Kind::Popularimeter && counters::is_long(&item.body) {
+            return self.long_counter(item, frame);
+        }
         if same_fields(&item.kind, frame) {
             return;
         }
-        let kind = kind_of(edition, &item.id);
         let text = frame.kind == Kind::Text as u64;
         match &item.kind {
             Theirs::Text { .. } => self.must(item.id == b"GRP1" && raw(item, frame), "a text"),
@@ -210,6 +214,33 @@ impl Comparison<'_> {
                 Kind::Popularimeter => self.must(false, "a popularimeter that only the crate refuses"),
             },
             _ => self.must(false, "kind or fields"),
+        }
+    }
+
+    // a counter of more than eight bytes: all of them are one number here, and the crate takes the first eight
+    fn long_counter(&mut self, item: &Item, frame: &Frame) {
+        let field = counters::field(&item.body).unwrap_or_default();
+        let (whole, first) = (counters::whole(field), counters::first_eight(field));
+        let [rating, counter, ..] = frame.numbers;
+        let ours = frame.kind == Kind::Popularimeter as u64 && whole == Some(counter);
+        let theirs = matches!(&item.kind, Theirs::Popularimeter { user, rating: r, counter }
+            if *user == frame.name && u64::from(*r) == rating && *counter == first);
+        self.must(ours, "a long counter");
+        self.must(theirs, "a long counter at the crate, or its user or rating");
+        if ours && theirs && whole != Some(first) {
+            self.note(Class::LongCounter);
+        }
+    }
+
+    // a counter that does not fit 64 bits: it is refused here, and the crate takes its first eight bytes
+    fn too_large(&mut self, item: &Item) {
+        let field = counters::field(&item.body).unwrap_or_default();
+        let first = counters::first_eight(field);
+        let theirs = matches!(&item.kind, Theirs::Popularimeter { counter, .. } if *counter == first);
+        if theirs && counters::whole(field).is_none() {
+            self.note(Class::LongCounter);
+        } else {
+            self.must(false, "a counter that is refused as too large");
         }
     }
 
@@ -278,7 +309,7 @@ impl Comparison<'_> {
         let follows = match refused {
             None => !deep && inner.ours.is_none(),
             Some(13) => deep,
-            Some(_) => inner.ours == refused,
+            Some(_) => !deep && inner.ours == refused,
         };
         self.must(follows || inner.cut, "a chapter and its subframes are answered differently here");
         self.must(said == inner.theirs, "a chapter and its subframes are answered differently by the crate");
@@ -302,6 +333,9 @@ impl Comparison<'_> {
         }
         if kind == Kind::Chapter || kind == Kind::Contents {
             return self.inside(edition, item, Some(number), level);
+        }
+        if kind == Kind::Popularimeter && number == counters::TOO_LARGE {
+            return self.too_large(item);
         }
         if let Theirs::Refused(failure) = &item.kind {
             if kind != Kind::Raw && u32::from(failure.number) == number {

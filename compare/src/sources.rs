@@ -179,6 +179,7 @@ fn others(most: u32) -> Vec<Short> {
     out.extend(flags(most));
     out.extend([3, 4].map(|edition| extended(edition, most)));
     out.extend(parts(most));
+    out.extend(counters(most));
     out
 }
 
@@ -233,4 +234,30 @@ fn parts(most: u32) -> Vec<Short> {
         }
     }
     out
+}
+
+// long counters, of which the input is a part
+fn counters(most: u32) -> Vec<Short> {
+    let front = [0, 5, 0];
+    let subframe = frame_header(3, b"POPM", 12, 0);
+    vec![
+        behind(
+            "POP in 2.2, size 12, with 00 05 00, being a part of its counter of ten bytes",
+            &[&tag_header(2, 0, 18), &frame_header(2, b"POP", 12, 0), &front],
+            &[0; 7],
+            most,
+        ),
+        behind(
+            "POPM in 2.4 flagged 0002, size 14, with 00 05 00, being a part of its counter",
+            &[&tag_header(4, 0, 24), &frame_header(4, b"POPM", 14, 2), &front],
+            &[0, 0xFF, 0, 0, 0xFF, 0, 0xE0, 0, 0],
+            most,
+        ),
+        behind(
+            "CHAP in 2.3 with POPM, size 12, with 00 05 00, being a part of its counter of ten bytes",
+            &[&tag_header(3, 0, 49), &frame_header(3, b"CHAP", 39, 0), &[0; 17], &subframe, &front],
+            &[0; 7],
+            most,
+        ),
+    ]
 }

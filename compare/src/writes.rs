@@ -1,7 +1,8 @@
 //! One list of records, given to both.
 use crate::classes::Class;
 use crate::reads::{closed, number, Comparison};
-use compare::answers::{Entry, Order, Stop, Written};
+use compare::answers::{Entry, Frame, Order, Stop, Written};
+use compare::counters;
 use compare::ids::{edition_of, is_id, is_lost, is_people, kind_of, widths_refusal, wrapped, Kind};
 use oracle::{Fields, List, Record, Subs, Unwritten};
 
@@ -57,7 +58,7 @@ impl Comparison<'_> {
     // what the crate writes for the accepted records, a record that it cannot hold as its body
     fn theirs(&mut self, list: &List, accepted: &[Given]) -> Result<Vec<u8>, Unwritten> {
         let mut given = Vec::new();
-        for (record, _) in accepted {
+        for (record, run) in accepted {
             let edition = edition_of(list.version);
             if edition == 2 && list.file_altered && record.id == "RVA" {
                 self.note(Class::OldRva);
@@ -70,6 +71,7 @@ impl Comparison<'_> {
                 self.must(refused, "the crate writes a list of people as a text");
                 given.push(as_raw(record));
             } else {
+                self.long_counters(list, run);
                 given.push(record.clone());
             }
         }
@@ -79,6 +81,27 @@ impl Comparison<'_> {
                 asked(list, &held)
             }
             answer => answer,
+        }
+    }
+
+    // notes a run that has, at any depth, a counter of more than eight bytes: the crate's own popularimeter is written with other bytes, so that
+    // the oracle gives it a raw frame
+    fn long_counters(&mut self, list: &List, run: &[u8]) {
+        if run.is_empty() {
+            return;
+        }
+        for frame in self.library.read(&wrapped(edition_of(list.version), run)).frames {
+            if is_chapter(&frame) {
+                self.long_counters(list, &frame.rest);
+            } else if frame.kind == Kind::Popularimeter as u64 && counters::is_long(&frame.body) {
+                let [rating, counter, ..] = frame.numbers;
+                let fields = Fields::Popularimeter { user: frame.name, rating: rating as u8, counter };
+                let own = Record { id: "POPM".to_string(), fields };
+                let written = oracle::write(list.version, false, 0, false, &[own]);
+                let other = written.is_ok_and(|tag| tag[20..] != frame.body);
+                self.must(other, "the crate's popularimeter holds a long counter");
+                self.note(Class::RunNotHeld);
+            }
         }
     }
 
@@ -243,7 +266,7 @@ impl Comparison<'_> {
         }
     }
 
-    // a run that is read to its last byte, with no frame short or flagged, at every depth
+    // a run that is read to its last byte, with no frame short or flagged and no counter that does not fit, at every depth
     fn is_fit(&mut self, edition: u8, run: &[u8], depth: usize) -> bool {
         let seen = self.library.read(&wrapped(edition, run));
         let ended = seen.stop == Stop::End { at: run.len() };
@@ -251,10 +274,16 @@ impl Comparison<'_> {
             && (run.is_empty() || depth <= 8)
             && seen.frames.iter().all(|frame| {
                 let flagged = edition == 4 && run[frame.at + 9] & 2 != 0;
-                let chapter = frame.kind == Kind::Chapter as u64 || frame.kind == Kind::Contents as u64;
-                !frame.short && !flagged && (!chapter || self.is_fit(edition, &frame.rest, depth + 1))
+                let counted = frame.kind != Kind::Popularimeter as u64
+                    || counters::field(&frame.body).is_some_and(|field| counters::whole(field).is_some());
+                let inside = !is_chapter(frame) || self.is_fit(edition, &frame.rest, depth + 1);
+                !frame.short && !flagged && counted && inside
             })
     }
+}
+
+fn is_chapter(frame: &Frame) -> bool {
+    frame.kind == Kind::Chapter as u64 || frame.kind == Kind::Contents as u64
 }
 
 // the crate's answer; far padding, which it would make in memory, is left out
