@@ -1,7 +1,7 @@
 #!/usr/bin/env bash
 # Counts the instructions that the library takes for the tag that a box leaves, from opening to the end: by the meter and by a reader's steps, the caller's
-# few included; and for adding a 2.4 frame with a raw body of 1 MiB. On any machine with qemu-x86_64 and a C compiler for x86-64; the count is the same in each run. It is no time: what a load or a branch
-# costs is not in it.
+# few included; for a tag with one counter of 8, 12 and 1,048,576 bytes, zeros in front; and for adding a 2.4 frame with a raw body of 1 MiB. On any machine
+# with qemu-x86_64 and a C compiler for x86-64; the count is the same in each run. It is no time: what a load or a branch costs is not in it.
 #
 #   compare/count.sh
 #
@@ -33,6 +33,12 @@ for edition in 2 3 4; do
             echo "2.$edition, mode $mode, $way: $(((many - few) / 1000)) instructions"
         done
     done
+done
+
+for bytes in 8 12 1048576; do
+    few=$(run counter meter "$bytes" 1)
+    many=$(run counter meter "$bytes" 11)
+    echo "2.4, a counter of $bytes bytes, meter: $(((many - few) / 10)) instructions"
 done
 
 for body in clean random dense; do

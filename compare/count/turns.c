@@ -1,8 +1,9 @@
 /*
- * Reads the tag that a box leaves again and again, from opening to the end, by the meter or by a reader's steps; or adds a 2.4 frame with a raw body of
- * 1 MiB: a loop whose instructions are counted.
+ * Reads the tag that a box leaves again and again, from opening to the end, by the meter or by a reader's steps; or a 2.4 tag with a counter of so many
+ * bytes, zeros but for the last, by the meter; or adds a 2.4 frame with a raw body of 1 MiB: a loop whose instructions are counted.
  *
  *     turns meter|steps EDITION MODE TURNS
+ *     turns counter meter BYTES TURNS
  *     turns add clean|random|dense MODE TURNS
  */
 #include "streamvault.h"
@@ -10,7 +11,7 @@
 #include <stdlib.h>
 #include <string.h>
 
-static uint8_t frames[1024], tag[1024], work[1024], body[1 << 20], stored[2 * sizeof body + 10];
+static uint8_t frames[1024], body[1 << 20], tag[2 * sizeof body], work[sizeof tag], stored[2 * sizeof body + 10];
 
 /* Adds a frame; its id by its letters, in 2.2 three of them. */
 static void add(uint64_t *writer, uint64_t kind, const char *letters, const char *name, const uint8_t *rest, size_t rest_len, uint64_t counter)
@@ -42,6 +43,23 @@ static size_t box_tag(uint64_t edition, uint64_t mode)
     if (sv_finish(64, frames, sizeof frames, tag, sizeof tag, writer, SV_WRITER_WORDS, count, SV_COUNT_WORDS) != 0)
         abort();
     return (size_t)count[0];
+}
+
+/* A 2.4 tag with one popularimeter, whose counter has so many bytes and is 977000; answers its length. */
+static size_t long_tag(size_t bytes)
+{
+    static const uint8_t before[] = {'I', 'D', '3', 4, 0, 0, 0, 0, 0, 0, 'P', 'O', 'P', 'M', 0, 0, 0, 0, 0, 0, 0, 5};
+    size_t body = bytes + 2, len = sizeof before + bytes;
+    if (bytes < 3 || len > sizeof tag)
+        abort();
+    memcpy(tag, before, sizeof before);
+    for (int i = 0; i < 4; i++) {
+        tag[6 + i] = (uint8_t)((body + 10) >> (21 - 7 * i) & 0x7F);
+        tag[14 + i] = (uint8_t)(body >> (21 - 7 * i) & 0x7F);
+    }
+    for (int i = 0; i < 3; i++)
+        tag[len - 1 - i] = (uint8_t)(977000 >> (8 * i));
+    return len;
 }
 
 static uint64_t by_meter(size_t len)
@@ -101,8 +119,9 @@ int main(int argc, char **argv)
         return 2;
     if (strcmp(argv[1], "add") == 0)
         return by_adding(argv[2], strtoull(argv[3], NULL, 10), strtoull(argv[4], NULL, 10));
-    size_t len = box_tag(strtoull(argv[2], NULL, 10), strtoull(argv[3], NULL, 10));
-    uint64_t (*read)(size_t) = strcmp(argv[1], "meter") == 0 ? by_meter : by_steps;
+    uint64_t number = strtoull(argv[3], NULL, 10);
+    size_t len = strcmp(argv[1], "counter") == 0 ? long_tag(number) : box_tag(strtoull(argv[2], NULL, 10), number);
+    uint64_t (*read)(size_t) = strcmp(argv[1], "steps") == 0 ? by_steps : by_meter;
     uint64_t turns = strtoull(argv[4], NULL, 10), sum = 0;
     for (uint64_t i = 0; i < turns; i++)
         sum += read(len);
