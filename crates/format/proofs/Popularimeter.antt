@@ -30,6 +30,7 @@ use Rattle.format.proofs.ReadBack.{ReadBack, part-name}
 
 -- ---- the counter
 
+-- zeros in front say nothing
 number-stripped : (s : List ℕ) → number (stripped s) ≡ number s
 unfolding onto stripped
 number-stripped [] = refl

@@ -1,4 +1,4 @@
--- Popularimeters (document 01, "Five kinds", Popularimeter; 2.4.0 frames, section 4.17). Assumes nothing.
+-- Popularimeters (document 01, "Five kinds", Popularimeter, and request b; 2.4.0 frames, section 4.17). Assumes nothing.
 use Prim.Native.Nat.{ℕ, zero, suc, _+_, _^_}
 use mathlib.Core.List.{List, [], _∷_, _++_}
 use lib.ListN.{length, drop, getD}
@@ -8,11 +8,11 @@ use Rattle.format.specs.Numbers.{number, bytesOf}
 
 -- ---- the counter
 
--- one number, however many bytes; none means 0
+-- one number, however many bytes; none means 0 (request b)
 abbrev pub counterOf : List ℕ → ℕ
 counterOf s = number s
 
--- what does not fit 64 bits is refused
+-- what does not fit 64 bits is refused (request b)
 abbrev pub counterRefusal : ℕ → ℕ
 counterRefusal counter = pick (ltb counter (2 ^ 64)) 0 35
 
@@ -38,6 +38,7 @@ counterIn b = counterOf (drop (zeroAt b + 2) b)
 abbrev pub ratingRefusal : List ℕ → ℕ
 ratingRefusal b = pick (ltb (zeroAt b + 1) (length b)) 0 11
 
+-- 35 after 11 (request b)
 abbrev pub popularimeterRefusal : List ℕ → ℕ
 popularimeterRefusal b = first (ratingRefusal b ∷ counterRefusal (counterIn b) ∷ [])
 
