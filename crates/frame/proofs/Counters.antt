@@ -1,6 +1,6 @@
 -- The zeros in front of a counter, one by one. Assumes nothing.
 use mathlib.Core.Path.{_≡_, refl, ap, sym, _∙_}
-use Prim.Native.Nat.{ℕ, _+_, _-_, _^_, _≤_, _<_}
+use Prim.Native.Nat.{ℕ, _+_, _-_, _≤_, _<_}
 use native.Mathlib.Omega.{arith}
 use mathlib.Core.List.{List, _∷_}
 use lib.ListN.{length, take, getD}
@@ -11,7 +11,7 @@ use Rattle.format.specs.Numbers.{onto, number}
 use Rattle.format.proofs.Numbers.{number-large}
 use Rattle.frame.specs.Bodies.{Begins}
 
--- all bytes before i are zeros
+-- the bytes before i are passed: without them it is the same number
 pub record Skipped (from to : ℕ) (s : List ℕ) (i : ℕ) : Type 0 where
   pub order : i ≤ to
   pub same : number (slice i to s) ≡ number (slice from to s)

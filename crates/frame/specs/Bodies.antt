@@ -21,7 +21,7 @@ parsedOf v kind at b = pick (eqb (bodyRefusal kind b) 0) (Parsed.Parts (partsOf 
 unfoldable pub namesOf : ℕ → List ℕ → Names
 namesOf k s = pick (leb k (zerosIn s)) (Names.Whole (namesLen k s)) Names.Cut
 
--- the counter s[from..to] counts from r on: what comes before is nothing but zeros, and more than eight bytes do not fit 64 bits
+-- the counter s[from..to] counts from r on: it is the same number, and where more than eight bytes are left it does not fit 64 bits
 pub record Begins (from to : ℕ) (s : List ℕ) (r : ℕ) : Type 0 where
   pub within : r ≤ to
   pub same : number (slice r to s) ≡ number (slice from to s)

@@ -1,4 +1,4 @@
--- `frame::popularimeter::after_zeros` meets its contract: the bytes passed are zeros. Assumes nothing.
+-- `frame::popularimeter::after_zeros` meets its contract: without the bytes passed, which are zeros, it is the same number. Assumes nothing.
 use mathlib.Core.Path.{refl}
 use Prim.Native.Nat.{_-_}
 use native.Mathlib.Omega.{arith}
