@@ -11,6 +11,7 @@ pub mod Encoded
 pub mod Walks
 pub mod Moves
 pub mod Strict
+pub mod Looking
 pub mod Zeros
 pub mod ReadBack
 pub mod Text

@@ -12,6 +12,7 @@ pub mod Table
 pub mod Chapter
 pub mod Record
 pub mod Walk
+pub mod Looks
 pub mod Encode
 pub mod Listing
 pub mod Answers

@@ -106,6 +106,13 @@ pub enum Head {
     },
 }
 
+// What a look at frames comes to: it stops with a number, or it goes to their end, and something was odd or all is plain.
+pub enum Look {
+    Stops(u8),
+    Odd,
+    Plain,
+}
+
 // One frame as a record, with the place after it.
 pub enum Shown {
     Nothing,

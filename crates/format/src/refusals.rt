@@ -80,3 +80,17 @@ pub const ODD_REFERENCES: u8 = 34;
 
 // The counter does not fit 64 bits.
 pub const COUNTER_TOO_LARGE: u8 = 35;
+
+// Raising a counter in place.
+
+// The tag is not of the plain sort: bytes are missing, an extended header, unsynchronised bytes, a frame or subframe that is
+// compressed or short, or something other than zeros after the last frame.
+pub const NOT_PLAIN: u8 = 40;
+// No popularimeter of the top level has that user.
+pub const USER_ABSENT: u8 = 41;
+// Two or more popularimeters of the top level have that user.
+pub const USER_TWICE: u8 = 42;
+// The counter and the amount together do not fit 64 bits.
+pub const SUM_TOO_LARGE: u8 = 43;
+// The new counter does not fit the counter's bytes that are there.
+pub const COUNTER_TOO_SHORT: u8 = 44;

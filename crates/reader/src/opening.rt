@@ -17,7 +17,7 @@ ghost use Rattle.reader.specs.Headers.{isWholeIn};
 const UNSYNCHRONISED: u8 = 0x80;
 
 // Whether all bytes after the headers are resynchronised. In 2.4 only a frame's own flag counts.
-fn is_whole(h: Header) -> bool
+pub fn is_whole(h: Header) -> bool
     ensures { λ r. ⌜ r ≡ isWholeIn (h .version) (h .flags) ⌝ }
 {
     let on = has(UNSYNCHRONISED, h.flags);

@@ -5,3 +5,5 @@ pub mod Areas
 pub mod Openings
 pub mod Sources
 pub mod Passes
+pub mod Looks
+pub mod Padding

@@ -5,3 +5,4 @@ pub mod Areas
 pub mod Sources
 pub mod Openings
 pub mod Passing
+pub mod Plain

@@ -3,6 +3,8 @@
 mod choices;
 mod inside;
 pub mod passing;
+pub mod plain;
 pub mod record;
 pub mod run;
 mod steps;
+pub mod zeros;
