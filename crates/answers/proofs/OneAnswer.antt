@@ -13,6 +13,7 @@ use Rattle.checks.proofs as checks
 use Rattle.writer.proofs as writer
 use Rattle.printout.proofs as printout
 use Rattle.back.proofs as back
+use Rattle.raise.proofs as raise
 use Rattle.capi.proofs as capi
 use Rattle.answers.specs.OneAnswer.{OneAnswer}
 
@@ -150,6 +151,12 @@ pass-at-one κs a x y v w p q = alike (p 0) (q 0) λ o. (o .0, (o .1, v .1))
 pub read-as-one : OneAnswer walk.passing.read_as.ended walk.passing.read_as.Reads.Learnt
 read-as-one κs a x y v w p q = alike (p Version.Id3v24 0 0 0 0) (q Version.Id3v24 0 0 0 0) λ o. (o, v)
 
+pub look-at-one : OneAnswer walk.plain.look_at.ended walk.plain.look_at.Reads.Learnt
+look-at-one κs a x y v w p q = alike p q λ o. (o, v)
+
+pub all-zero-one : OneAnswer walk.zeros.all_zero.ended walk.zeros.all_zero.Reads.Learnt
+all-zero-one κs a x y v w p q = alike p q λ o. (o, v)
+
 -- ---- lines
 
 pub tag-line-one : OneAnswer lines.tag_line.ended lines.tag_line.Reads.Learnt
@@ -168,6 +175,9 @@ refused-line-one κs a x y v w p q = alike p q λ o. (o .0, (o .1, v .1))
 
 pub header-one : OneAnswer reader.headers.header.ended reader.headers.header.Reads.Learnt
 header-one κs a x y v w p q = alike p q λ o. (o, v)
+
+pub is-whole-one : OneAnswer reader.opening.is_whole.ended reader.opening.is_whole.Reads.Learnt
+is-whole-one κs a x y v w p q = alike p q λ o. (o, v)
 
 pub open-one : OneAnswer reader.opening.open.ended reader.opening.open.Reads.Learnt
 open-one κs a x y v w p q = alike p q λ o. (o .0, (o .1, v .1))
@@ -218,6 +228,11 @@ list-one κs a x y v w p q = alike p q λ o. (o .0, (o .1 .0, (o .1 .1, v .1 .1)
 pub there-and-back-one : OneAnswer back.there_and_back.ended back.there_and_back.Reads.Learnt
 there-and-back-one κs a x y v w p q = alike (p .0) (q .0) λ o. (o .0, (o .1 .0, (o .1 .1 .0, (o .1 .1 .1, v .1 .1 .1))))
 
+-- ---- raise
+
+pub raise-one : OneAnswer raise.raise.ended raise.raise.Reads.Learnt
+raise-one κs a x y v w p q = alike p q λ o. (o .0, (o .1, v .1))
+
 -- ---- capi
 
 pub sv-header-one : OneAnswer capi.sv_header.ended capi.sv_header.Reads.Learnt
@@ -246,6 +261,9 @@ sv-references-one κs a x y v w p q = alike p q λ o. (o .0, (v .0, (v .1 .0, (o
 
 pub sv-meter-open-one : OneAnswer capi.sv_meter_open.ended capi.sv_meter_open.Reads.Learnt
 sv-meter-open-one κs a x y v w p q = alike p q λ o. (o .0, (v .0, (o .1, (o .2, v .1 .1 .1))))
+
+pub sv-raise-one : OneAnswer capi.sv_raise.ended capi.sv_raise.Reads.Learnt
+sv-raise-one κs a x y v w p q = alike p q λ o. (o .0, (o .1, (v .1 .0, (v .1 .1 .0, (o .2, v .1 .1 .1 .1)))))
 
 pub sv-meter-next-one : OneAnswer capi.sv_meter_next.ended capi.sv_meter_next.Reads.Learnt
 sv-meter-next-one κs a x y v w p q = alike p q λ o. (o .0, (v .0, (o .1, (o .2, (o .3, v .1 .1 .1 .1)))))

@@ -2,4 +2,5 @@
 pub mod Words
 pub mod Calls
 pub mod Meters
+pub mod Raises
 pub mod Metering

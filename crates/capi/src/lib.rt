@@ -29,6 +29,7 @@ use format::refusals::WRONG_ID;
 use frame::table::Unpacked;
 use frame::table::unpack;
 use meter::MeterOpened;
+use raise::Raised;
 use reader::Headed;
 use reader::Opened;
 use reader::Step;
@@ -40,6 +41,7 @@ ghost use Prim.Native.Nat.{_≤_};
 ghost use lib.ListN.{length};
 ghost use Rattle.capi.specs.Calls.{svHeader, svOpen, svStep, afterBegin, svBegin, svBeginPlain, svAdd, svFinish, referencesOf, svReferences};
 ghost use Rattle.capi.specs.Meters.{svMeterOpen, svMeterNext};
+ghost use Rattle.capi.specs.Raises.{svRaise};
 
 // Fewer words than a call takes.
 const SHORT: u32 = NO_ROOM as u32;
@@ -168,6 +170,25 @@ pub extern "C" fn sv_meter_next(
     };
     let next = running(&meter[..], version).next(work, tag);
     answered(meter, metered, next)
+}
+
+// Adds an amount to the counter of a user's popularimeter, in the counter's bytes that are there. The word then says the new
+// counter. A refusal changes nothing.
+#[no_mangle]
+pub extern "C" fn sv_raise(tag: &mut [u8], user: &[u8], amount: u64, counter: &mut [u64]) -> u32
+    ensures { λ r. ⌜ (r, now (tag .exit), now (counter .exit)) ≡ svRaise (now (tag .entry)) (now (user .entry)) amount (now (counter .entry)) ⌝ }
+{
+    if counter.len() < places::COUNTER_WORDS {
+        return SHORT;
+    }
+    let raised = raise::raise(tag, user, amount);
+    match raised {
+        Raised::Counts(n) => {
+            counter[0] = n;
+            0
+        }
+        Raised::Refused(k) => k as u32,
+    }
 }
 
 // Puts a writer that was begun into words.

@@ -182,3 +182,7 @@ pub(crate) const WRITER_USED: usize = 3;
 // ---- a count
 
 pub(crate) const COUNT_WORDS: usize = 1;
+
+// ---- a counter that was raised
+
+pub(crate) const COUNTER_WORDS: usize = 1;

@@ -53,7 +53,7 @@ module _ (tag : List ℕ) (h : Header) (e : headerOf tag ≡ Headed.Found h) (en
       rw (is, ext, region-end)
 
 -- a known edition as a version says the same of whole tags
-whole-in : (e f : ℕ) → 2 ≤ e → e ≤ 4 → isWholeIn (versionOf e) f ≡ (has 0x80 f && not (eqb e 4))
+pub whole-in : (e f : ℕ) → 2 ≤ e → e ≤ 4 → isWholeIn (versionOf e) f ≡ (has 0x80 f && not (eqb e 4))
 whole-in e f lo hi = by-edition (eqb e 2) refl (eqb e 3) refl
   where
     by-edition : (two : Bool) → eqb e 2 ≡ two → (three : Bool) → eqb e 3 ≡ three → isWholeIn (versionOf e) f ≡ (has 0x80 f && not (eqb e 4))

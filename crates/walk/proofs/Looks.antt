@@ -189,7 +189,7 @@ odd-twice Look.Odd = refl
 odd-twice Look.Plain = refl
 
 -- what was odd before, in the frame and in its body is odd
-turned-on : (before : Bool) (odd : Bool) (rest : Look) → both (plainIf (not before)) (both (plainIf (not odd)) rest) ≡ both (plainIf (not (before || odd))) rest
+pub turned-on : (before : Bool) (odd : Bool) (rest : Look) → both (plainIf (not before)) (both (plainIf (not odd)) rest) ≡ both (plainIf (not (before || odd))) rest
 turned-on true true rest = odd-twice rest
 turned-on true false rest = refl
 turned-on false true rest = refl

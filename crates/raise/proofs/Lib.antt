@@ -1,0 +1,24 @@
+-- What holds of raising a counter.
+pub mod Plainness
+pub mod Fields
+pub mod Stored
+pub mod Search
+pub mod Accepting
+pub mod Stores
+pub mod After
+pub mod Pairs
+pub mod Records
+pub mod Promises
+pub mod Written
+pub mod Refusing
+pub mod Cases
+pub mod Absent
+pub mod Samples
+pub mod Steps
+pub mod Along
+pub mod Values
+pub mod Same
+pub mod Simple
+pub mod Looked
+pub mod Turns
+pub mod Sums

@@ -1,0 +1,28 @@
+-- The sum and its refusals. Assumes nothing.
+use mathlib.Core.Path.{_≡_, refl, sym, ap, _∙_}
+use Prim.Native.Nat.{ℕ, _+_, _-_, _^_, _≤_, _<_}
+use native.Mathlib.Omega.{arith}
+use mathlib.Core.Bool.{Bool, true, false}
+use mathlib.Core.List.{List}
+use lib.Seq.{sets}
+use lib.Dec.{ltb}
+use borrow.Author.Tests.{lt-ltb, le-ltb}
+use Rattle.format.specs.Numbers.{bytesOf}
+use Rattle.raise.specs.declared.Raised.{Raised}
+use Rattle.raise.specs.Raise.{Answer}
+use Rattle.raise.specs.Seeks.{raisedAt}
+
+module _ (start stop counter amount : ℕ) (tag : List ℕ) where
+  pub sum-large : 2 ^ 64 ≤ counter + amount → _≡_ {A = Answer} (Raised.Refused 43, tag) (raisedAt start stop counter amount tag)
+  unfolding raisedAt
+  sum-large h = rw (le-ltb (counter + amount) (2 ^ 64) h)
+
+  module _ (small : counter + amount < 2 ^ 64) where
+    pub sum-wide : ltb (counter + amount) (256 ^ (stop - start)) ≡ false → _≡_ {A = Answer} (Raised.Refused 44, tag) (raisedAt start stop counter amount tag)
+    unfolding raisedAt
+    sum-wide h = rw (lt-ltb (counter + amount) (2 ^ 64) small, h)
+
+    pub sum-stored : ltb (counter + amount) (256 ^ (stop - start)) ≡ true → (after : List ℕ) → after ≡ sets tag start (bytesOf (stop - start) (counter + amount))
+        → _≡_ {A = Answer} (Raised.Counts (counter + amount), after) (raisedAt start stop counter amount tag)
+    unfolding raisedAt
+    sum-stored h after e = rw (lt-ltb (counter + amount) (2 ^ 64) small, h, e)
