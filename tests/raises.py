@@ -242,7 +242,7 @@ for v in (3, 4):
 for v in EDITIONS:
     for name, user, given in [
         ("another user", b"a", b"b"), ("a longer user", b"a", b"ab"), ("a shorter user", b"ab", b"a"), ("no user", b"a", b""), ("a capital letter", b"A", b"a"), ("no user given", b"", b"a"),
-        ("a user with a zero", b"a\0", b"a"), ("a user with a zero and the rating", b"a\0\5", b"a"), ("a zero alone", b"\0", b""), ("two zeros", b"\0\0", b""),
+        ("another last byte", b"room 1", b"room 2"), ("another first byte", b"ab", b"bb"), ("a user with a zero", b"a\0", b"a"), ("a user with a zero and the rating", b"a\0\5", b"a"), ("a zero alone", b"\0", b""), ("two zeros", b"\0\0", b""),
     ]:
         refused(name, 41, v, whole(v, pop(v, "00", given)), user)
     for user in (b"", b"\xE9", b"\x80\xFF\xE0", b"caf\xC3\xA9", b"\1", b"room 1"):
@@ -293,6 +293,9 @@ for v in (3, 4):
     refused("a compressed frame before a user that is twice there", 40, v, whole(v, compressed(v) + pop(v, "00") + pop(v, "00")))
     refused("a compressed body is not looked at", 40, v, whole(v, lay(v, b"TIT2", bytes(4) + b"\4", COMPRESSED[v])))
     refused("a compressed frame at depth 9", 13, v, whole(v, nest(LAY[v], 8, compressed(v))))
+    refused("an id that is not UTF-8 at depth 9", 13, v, whole(v, nest(LAY[v], 8, LAY[v](NOT_UTF8[v], b""))))
+    refused("an id that is not UTF-8, encrypted", 7, v, whole(v, LAY[v](NOT_UTF8[v], b"", 0x0044)))
+    refused("encrypted and grouped", 8, v, whole(v, lay(v, b"XYZW", b"", 0x0064)))
 bad = f4(NOT_UTF8[4], b"")
 flagged = f4(b"XYZW", b"\7", 0x0002)
 refused("a flagged frame before an id that is not UTF-8", 40, 4, whole(4, flagged + bad))
