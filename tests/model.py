@@ -619,7 +619,7 @@ class Writer:
         return tag
 
 
-# ---- request f of document 02: raising a counter in place
+# ---- request f: raising a counter in place
 
 
 @dataclass
