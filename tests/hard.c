@@ -6,8 +6,8 @@
  *     cc -std=c99 -g -Iinclude tests/hard.c target/staticlib/libcapi.a -o hard
  *     valgrind --error-exitcode=1 ./hard 100000
  *
- * The numbers are the same in each run. Exit status: 0 every answer was one that the function may give, 1 another was met,
- * 2 there was no memory. rust/tests/hard checks far more of each answer.
+ * The numbers are the same in each run. Exit status: 0 every answer was one that the function may give, 1 another was met
+ * or a refused raise changed something, 2 there was no memory. rust/tests/hard checks far more of each answer.
  */
 #include "streamvault.h"
 
@@ -71,6 +71,14 @@ static uint8_t *bytes(size_t len)
     return made;
 }
 
+static uint8_t *copy(const uint8_t *from, size_t len)
+{
+    uint8_t *made = block(len);
+    if (len > 0)
+        memcpy(made, from, len);
+    return made;
+}
+
 /* So many words; now and then one less. */
 static uint64_t *words(size_t wanted, size_t *len)
 {
@@ -110,6 +118,20 @@ static size_t put_frame(uint8_t *at, size_t room)
     return 10 + body;
 }
 
+/* Puts the header of a tag that ends there, now and then damages it or cuts it, and answers it in a block of its own. */
+static uint8_t *made_tag(uint8_t *room, size_t end, uint8_t flags, size_t *len)
+{
+    memcpy(room, "ID3", 3);
+    room[3] = (uint8_t)(2 + below(3));
+    room[5] = flags;
+    room[8] = (uint8_t)((end - 10) >> 7);
+    room[9] = (uint8_t)((end - 10) & 0x7F);
+    for (size_t damaged = below(3); damaged > 0; damaged--)
+        room[below(end)] = byte();
+    *len = below(4) ? end : below(end + 1);
+    return copy(room, *len);
+}
+
 /* A tag whose header is mostly right. */
 static uint8_t *some_tag(size_t *len)
 {
@@ -119,18 +141,39 @@ static uint8_t *some_tag(size_t *len)
     for (size_t frames = below(5); frames > 0; frames--)
         end += put_frame(room + end, sizeof room - end);
     end += below(12);
-    memcpy(room, "ID3", 3);
-    room[3] = (uint8_t)(2 + below(3));
-    room[5] = flags[below(sizeof flags)];
-    room[8] = (uint8_t)((end - 10) >> 7);
-    room[9] = (uint8_t)((end - 10) & 0x7F);
-    for (size_t damaged = below(3); damaged > 0; damaged--)
-        room[below(end)] = byte();
-    *len = below(4) ? end : below(end + 1);
-    uint8_t *made = block(*len);
-    if (*len > 0)
-        memcpy(made, room, *len);
-    return made;
+    return made_tag(room, end, flags[below(sizeof flags)], len);
+}
+
+/* A tag of popularimeters alone, of a few users, with counters of up to twelve bytes. */
+static uint8_t *counted_tag(size_t *len)
+{
+    uint8_t room[128] = {0};
+    size_t end = 10;
+    for (size_t frames = below(4); frames > 0; frames--) {
+        size_t count = below(13);
+        memcpy(room + end, "POPM", 4);
+        room[end + 7] = (uint8_t)(3 + count);
+        room[end + 10] = (uint8_t)('a' + below(4));
+        for (size_t i = count > 8 ? count - 8 : 0; i < count; i++)
+            room[end + 13 + i] = byte();
+        end += 13 + count;
+    }
+    end += below(12);
+    return made_tag(room, end, 0, len);
+}
+
+/* The user of the first popularimeter in a tag, mostly; else some bytes. */
+static uint8_t *some_user(const uint8_t *tag, size_t tag_len, size_t *len)
+{
+    size_t at = 0;
+    while (at + 10 < tag_len && memcmp(tag + at, "POPM", 4) != 0)
+        at++;
+    if (at + 10 >= tag_len || below(10) == 0)
+        return bytes(*len = below(4));
+    const uint8_t *user = tag + at + 10;
+    const uint8_t *zero = memchr(user, 0, tag_len - at - 10);
+    *len = zero == NULL ? tag_len - at - 10 : (size_t)(zero - user);
+    return copy(user, *len);
 }
 
 /* ---- calls */
@@ -138,7 +181,7 @@ static uint8_t *some_tag(size_t *len)
 /* Whether an answer is a refusal number, 0 or the end. */
 static void check(const char *name, uint32_t answer, uint64_t kept)
 {
-    int known = answer <= 14 || (20 <= answer && answer <= 35) || answer == SV_END || answer == kept;
+    int known = answer <= 14 || (20 <= answer && answer <= 35) || (40 <= answer && answer <= 44) || answer == SV_END || answer == kept;
     if (!known) {
         printf("%s answered %" PRIu32 "\n", name, answer);
         exit(1);
@@ -262,6 +305,28 @@ static void writing(void)
     free(deviations);
 }
 
+/* Raises a counter. Refused, the tag and the word are as before. */
+static void raising(void)
+{
+    size_t tag_len, user_len, counter_len;
+    uint8_t *tag = below(2) ? some_tag(&tag_len) : counted_tag(&tag_len);
+    uint8_t *before = copy(tag, tag_len);
+    uint8_t *user = some_user(tag, tag_len, &user_len);
+    uint64_t *counter = words(SV_COUNTER_WORDS, &counter_len);
+    uint64_t was = counter_len > 0 ? counter[0] : 0;
+    uint32_t answer = sv_raise(tag, tag_len, user, user_len, below(2) ? below(3) : word(), counter, counter_len);
+    check("sv_raise", answer, 0);
+    int same = (tag_len == 0 || memcmp(tag, before, tag_len) == 0) && (counter_len == 0 || counter[0] == was);
+    if (answer != 0 && !same) {
+        printf("sv_raise answered %" PRIu32 " and changed something\n", answer);
+        exit(1);
+    }
+    free(tag);
+    free(before);
+    free(user);
+    free(counter);
+}
+
 int main(int argc, char **argv)
 {
     unsigned long cases = argc > 1 ? strtoul(argv[1], NULL, 10) : 10000;
@@ -271,6 +336,7 @@ int main(int argc, char **argv)
         stepping();
         metering();
         writing();
+        raising();
     }
     printf("%lu cases, every answer known\n", cases);
     return 0;

@@ -2,6 +2,7 @@
 
 Each function names the section of document 01 that it says. Where that leaves a choice, the settled reading is told beside it.
 Where a later request has replaced a rule, the rule is that of the section of that name in docs/SCOPE.md, and the request is named.
+What request f adds, raising a counter in place, stands last.
 The spans of a record are no matter of document 01: they are laid out as crates/format/specs/Record.antt has them.
 Bytes are `bytes`, a lent buffer is a `bytearray` that a call changes in place, and a refusal is the exception `Refused`.
 Editions are 2, 3 and 4; modes are "off", "crate" and "standard"; kinds are the words of the listing.
@@ -616,3 +617,68 @@ class Writer:
         tag = b"ID3" + bytes([self.version, 0]) + flags + to_synchsafe(size) + frames + bytes(padding)
         output[: len(tag)] = tag
         return tag
+
+
+# ---- request f: raising a counter in place
+
+
+@dataclass
+class Seen:
+    """A frame that was walked without a work buffer: its body, where that begins, its parts, and whether it is plain itself and all frames inside it."""
+
+    begin: int
+    body: bytes
+    parts: Parts
+    plain: bool
+
+
+def see(version, depth, s):
+    """The frames of s as reading walks them, and the place behind the last. 40 at once where reading would resynchronise: no work buffer is lent.
+
+    Plain: not compressed, not flagged 0002, not short. What a chapter's run leaves over behind its last frame is not looked at.
+    """
+    at, found = 0, []
+    while (head := read_head(version, depth, s[at:])) is not None:
+        refuse_if(is_resynchronised(head), 40)
+        begin = at + head.start
+        at = begin + head.length
+        body = s[begin:at]
+        parts = read_parts(version, RAW if head.compressed else kind_of(version, head.id), body)
+        inside, _ = see(version, depth + 1, parts.run(body))
+        odd = head.compressed or head.flagged or head.short
+        found.append(Seen(begin, body, parts, not odd and all(frame.plain for frame in inside)))
+    return found, at
+
+
+def plain_frames(tag):
+    """The top-level frames of a plain tag, and where the first of them begins: first reading's refusals, then 40 where the tag is not plain.
+
+    Header flag 80 of 2.2 and 2.3 is 40 directly after the header's own checks, that of 2.4 after all frames.
+    """
+    header = read_header(tag)
+    refuse_if(is_resynchronised_whole(header), 40)
+    begin, end = region_of(tag, header)
+    frames, behind = see(header.version, 1, tag[begin:end])
+    refuse_if(len(tag) < 10 + header.size, 40)
+    refuse_if(header.flags & 0x40 or header.flags & 0x80, 40)
+    refuse_if(not all(frame.plain for frame in frames), 40)
+    refuse_if(any(tag[begin + behind : end]), 40)
+    return frames, begin
+
+
+def raise_counter(tag, user, amount):
+    """Adds an amount to the counter of a user's one top-level popularimeter in a lent tag, in the counter bytes that are there, and answers the sum."""
+    frames, first = plain_frames(bytes(tag))
+    theirs = [f for f in frames if f.parts.kind == POPULARIMETER and part(f.parts.name, f.body) == user]
+    refuse_if(len(theirs) == 0, 41)
+    refuse_if(len(theirs) > 1, 42)
+    [frame] = theirs
+    counter = frame.parts.numbers[1] + amount
+    refuse_if(counter >= 2**64, 43)
+    # the counter's bytes are those behind the user, its zero and the rating
+    before = len(user) + 2
+    count = len(frame.body) - before
+    refuse_if(counter >= 256**count, 44)
+    start = first + frame.begin + before
+    tag[start : start + count] = counter.to_bytes(count, "big")
+    return counter
