@@ -14,19 +14,15 @@ use Rattle.format.specs.declared.Version.{Version}
 use Rattle.blocks.specs.Blocks.{joined}
 use Rattle.format.specs.Looks.{tagLook}
 use Rattle.raise.specs.Raise.{isMine, fieldOf, fieldIn, fieldAt, placesFrom, blockAt, placeOf, countedTag, Answer, raiseTo, onPlaces, onTag, tagVersion, tagBlocks, raisedOf}
-use Rattle.raise.specs.Promises.{RefusedSame, OtherSame, RaisesCommute, RaisesAdd}
+use Rattle.raise.specs.Promises.{OtherSame, RaisesCommute, RaisesAdd}
 use Rattle.raise.proofs.Fields.{field-length, field-counter, field-again}
-use Rattle.raise.proofs.Stored.{one-user, new-at, new-field}
+use Rattle.raise.proofs.Stored.{one-user, field-ends, new-at, new-field}
 use Rattle.raise.proofs.Search.{found}
 use Rattle.raise.proofs.Stores.{sets-twice, sets-comm, same-begin, ends-before}
 use Rattle.raise.proofs.Accepting.{sumAt, tagAfter, Accepted, accept, Gives, accepted, refused-same}
-use Rattle.raise.proofs.Stored.{field-ends}
 use Rattle.raise.proofs.After.{lt, mine, at-block, kind, long, small, blockAfter, version-same, after-blocks, after-looks, after-places, block-length}
 use Rattle.format.specs.declared.Look.{Look}
 use Rattle.raise.specs.declared.Raised.{Raised}
-
-pub refused-kept : RefusedSame
-refused-kept tag user amount k tag′ e = refused-same tag user amount e
 
 -- ---- answers by the block alone
 

@@ -1,4 +1,4 @@
--- An accepted raise: the tag reads as before with that one counter, and no other byte changes. Assumes nothing.
+-- An accepted raise: the tag reads as before with that one counter, and no other byte changes. A refused one leaves all as it was. Assumes nothing.
 use mathlib.Core.Path.{_≡_, refl, sym, ap, _∙_, subst}
 use Prim.Native.Nat.{ℕ, zero, suc, _+_, _≤_, _<_}
 use native.Mathlib.Omega.{arith}
@@ -14,7 +14,7 @@ use Rattle.promises.specs.Reading.{Reading, readAll}
 use Rattle.blocks.proofs.Bodies.{reads-length}
 use Rattle.blocks.proofs.Plain.{plain-reads}
 use Rattle.raise.specs.Raise.{fieldIn, fieldOf, blockAt, placeOf, countedTag, sameBytes, tagVersion, tagBlocks, raisedOf}
-use Rattle.raise.specs.Promises.{counted, isUsers, theirsIn, Raising, RaiseReads, OthersRead}
+use Rattle.raise.specs.Promises.{counted, isUsers, theirsIn, Raising, RaiseReads, RefusedSame, OthersRead}
 use Rattle.raise.proofs.Accepting.{sumAt, tagAfter, Accepted, accepted, refused-same}
 use Rattle.raise.proofs.Stored.{same-true}
 use Rattle.raise.proofs.Records.{places-records}
@@ -81,6 +81,9 @@ module _ (user other : List ℕ) (apart : user ≡ other → ⊥) where
       let c : isUsers other (x .content) ≡ false = ap (λ (y : Rec). isUsers other (y .content)) e ∙ a in
       rw (b, c)
   theirs-set (x ∷ rs) (suc i) d r q lt e a b = rw (theirs-set rs i d r q (omega arith) e a b)
+
+pub refused-kept : RefusedSame
+refused-kept tag user amount k tag′ e = refused-same tag user amount e
 
 pub others-read : OthersRead
 others-read tag user other amount work apart = by (raisedOf tag user amount .0) (raisedOf tag user amount .1) refl

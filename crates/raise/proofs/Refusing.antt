@@ -34,7 +34,7 @@ use Rattle.blocks.proofs.Regions.{steps-all}
 use Rattle.blocks.proofs.Opens.{opened}
 use Rattle.format.specs.Looks.{both, plainIf, unless, allZero, frameLook, onLook, lookAt, isSimple, tagLook}
 use Rattle.raise.specs.Raise.{Answer, onTag, onPlaces, raiseTo, fieldIn, blockAt, countedTag, placesFrom, tagVersion, tagBlocks, raisedOf}
-use Rattle.raise.specs.Promises.{RefusedAsReading}
+use Rattle.raise.specs.Promises.{RefusedAsReading, RefusedNumber}
 use Rattle.format.proofs.Looking.{look-head}
 use Rattle.format.specs.declared.Look.{Look}
 use Rattle.raise.specs.declared.Raised.{Raised}
@@ -139,13 +139,13 @@ agrees-within (suc n) v depth s room lt =
 -- ---- a look and a reading
 
 pub data Ends : Look → Ending → Type 0 where
-  halts : (k : ℕ) → Ends (Look.Stops k) (refused k)
+  halts : (k : ℕ) → (k ≡ 0 → ⊥) → Ends (Look.Stops k) (refused k)
   at-once : (e : Ending) → Ends (Look.Stops 40) e
   oddly : Ends Look.Odd ended
   plainly : Ends Look.Plain ended
 
 then-odd : {y : Look} {e : Ending} → Ends y e → Ends (both Look.Odd y) e
-then-odd (Ends.halts k) = Ends.halts k
+then-odd (Ends.halts k ne) = Ends.halts k ne
 then-odd (Ends.at-once e) = Ends.at-once e
 then-odd Ends.oddly = Ends.oddly
 then-odd Ends.plainly = Ends.oddly
@@ -155,7 +155,7 @@ quiet-if true = Ends.plainly
 quiet-if false = Ends.oddly
 
 ends-with : {x : Look} {e : Ending} (t : Bool) → Ends x e → Ends (both x (plainIf t)) e
-ends-with t (Ends.halts k) = Ends.halts k
+ends-with t (Ends.halts k ne) = Ends.halts k ne
 ends-with t (Ends.at-once e) = Ends.at-once e
 ends-with true Ends.oddly = Ends.oddly
 ends-with false Ends.oddly = Ends.oddly
@@ -165,7 +165,7 @@ ends-with false Ends.plainly = Ends.oddly
 frame-ends : {room : List ℕ} {x : Look} {o : Out} (y : Look) (r : Rec) (go : List ℕ → Reading) → Agrees room x o → Ends y (go room .1)
     → Ends (both x y) (onSight go (verdict (o .0) r) (o .1) .1)
 frame-ends {room} y r go (Agrees.halts {k} ne) b =
-    subst (λ (t : Bool). Ends (Look.Stops k) (onSight go (pick t (shows r) (refuses k)) room .1)) (sym (ne-eqb k 0 ne)) (Ends.halts k)
+    subst (λ (t : Bool). Ends (Look.Stops k) (onSight go (pick t (shows r) (refuses k)) room .1)) (sym (ne-eqb k 0 ne)) (Ends.halts k ne)
 frame-ends y r go (Agrees.at-once o) b = Ends.at-once _
 frame-ends y r go Agrees.oddly b = then-odd b
 frame-ends y r go Agrees.plainly b = b
@@ -180,7 +180,7 @@ module _ (v : Version) (begin end : ℕ) (tag work : List ℕ) where
   step-ends n at h Head.Nothing e =
       subst (λ (o : Reading). Ends (plainIf (allZero (left at))) (o .1)) (sym (end-read v n begin at end tag work false e)) (quiet-if (allZero (left at)))
   step-ends n at h (Head.Refused k) e =
-      subst (λ (o : Reading). Ends (Look.Stops k) (o .1)) (sym (refused-read v n begin at end tag work false e)) (Ends.halts k)
+      subst (λ (o : Reading). Ends (Look.Stops k) (o .1)) (sym (refused-read v n begin at end tag work false e)) (Ends.halts k (refused-some v 1 (left at) k e))
   step-ends n at h (Head.Found id c f short start len) e =
       let s = left at in
       let l = lies (stands v 1 s id c f short start len e) in
@@ -234,7 +234,7 @@ tag-ends tag work = by (headerRefusal tag) refl
     by zero z = region z (isWhole tag) refl
     by (suc k) z =
         let is : readAll tag work ≡ ([], refused (suc k)) = rw (z, eqb·suc-zero k) in
-        subst (λ (x : Reading). Ends (Look.Stops (suc k)) (x .1)) (sym is) (Ends.halts (suc k))
+        subst (λ (x : Reading). Ends (Look.Stops (suc k)) (x .1)) (sym is) (Ends.halts (suc k) (λ (e : suc k ≡ 0). omega arith))
 
 -- ---- the answer
 
@@ -257,7 +257,7 @@ tag-under tag t k on Look.Odd h e lt = let r : Raised.Refused 40 ≡ Raised.Refu
 tag-under tag t k on Look.Plain h e lt = absurd (omega (arith, h e))
 
 ends-refused : {k : ℕ} {e : Ending} → Ends (Look.Stops k) e → k < 40 → e ≡ refused k
-ends-refused (Ends.halts k) lt = refl
+ends-refused (Ends.halts k ne) lt = refl
 ends-refused (Ends.at-once e) lt = absurd (omega arith)
 
 pub refused-as-reading : RefusedAsReading
@@ -267,3 +267,25 @@ refused-as-reading tag user amount k tag′ work e lt =
     let bs = tagBlocks tag in
     let x = tag-under tag tag′ k _ (tagLook tag) (places-over v bs amount tag tag′ k (placesFrom v user 0 bs)) e lt in
     ends-refused (subst (λ (y : Look). Ends y (readAll tag work .1)) x (tag-ends tag work)) lt
+
+-- ---- a refusal has a number
+
+ends-some : {k : ℕ} {e : Ending} → Ends (Look.Stops k) e → 0 < k
+ends-some (Ends.halts k ne) = by k ne
+  where
+    by : (k : ℕ) → (k ≡ 0 → ⊥) → 0 < k
+    by zero ne = absurd (ne refl)
+    by (suc k) ne = omega arith
+ends-some (Ends.at-once e) = omega arith
+
+pub refused-number : RefusedNumber
+unfolding raisedOf
+refused-number tag user amount k tag′ e =
+    let v = tagVersion tag in
+    let bs = tagBlocks tag in
+    by (tagLook tag) (tag-ends tag []) (places-over v bs amount tag tag′ k (placesFrom v user 0 bs)) e
+  where
+    by : {on : Answer} (x : Look) → Ends x (readAll tag [] .1) → (on ≡ (Raised.Refused k, tag′) → 40 < k) → onTag tag on x ≡ (Raised.Refused k, tag′) → 0 < k
+    by (Look.Stops j) f h g = let r : Raised.Refused j ≡ Raised.Refused k = ap (λ (o : Answer). o .0) g in let z : j ≡ k = cc in omega (arith, ends-some f)
+    by Look.Odd f h g = let r : Raised.Refused 40 ≡ Raised.Refused k = ap (λ (o : Answer). o .0) g in let z : 40 ≡ k = cc in omega arith
+    by Look.Plain f h g = omega (arith, h g)

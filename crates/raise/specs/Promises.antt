@@ -72,6 +72,10 @@ RaiseReads = (tag user : List ℕ) (amount n : ℕ) (tag′ : List ℕ) → rais
 abbrev pub RefusedSame : Type 0
 RefusedSame = (tag user : List ℕ) (amount k : ℕ) (tag′ : List ℕ) → raisedOf tag user amount ≡ (Raised.Refused k, tag′) → tag′ ≡ tag
 
+-- A refusal has a number: none is 0.
+abbrev pub RefusedNumber : Type 0
+RefusedNumber = (tag user : List ℕ) (amount k : ℕ) (tag′ : List ℕ) → raisedOf tag user amount ≡ (Raised.Refused k, tag′) → 0 < k
+
 -- A number below 40 is the one that reading the tag is refused with, whatever the work buffer.
 abbrev pub RefusedAsReading : Type 0
 RefusedAsReading = (tag user : List ℕ) (amount k : ℕ) (tag′ work : List ℕ) → raisedOf tag user amount ≡ (Raised.Refused k, tag′) → k < 40
