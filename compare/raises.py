@@ -53,7 +53,7 @@ def cases():
     def number():
         return chance.getrandbits(chance.randint(1, 64))
     for _ in range(RANDOM_CASES):
-        music = "".join(chance.choice("abc 0-_@.") for _ in range(chance.randint(0, 12))) + "y"
+        music = "".join(chance.choice("abc 0-_@.\u00e9\u00ff") for _ in range(chance.randint(0, 12))) + "y"
         title = "".join(chance.choice("abc \u00e9\u0416\u4e2d") for _ in range(chance.randint(1, 300)))
         # mostly amounts that fit
         amounts = [chance.getrandbits(chance.randint(1, chance.choice((8, 16, 31, 64)))) for _ in range(2)]
@@ -79,8 +79,10 @@ def by_mutagen(path, case):
 
 
 def by_eyed3(path, case):
-    """Its padding is its own: 256 bytes."""
+    """Its padding is its own, 256 bytes, and its users are ASCII."""
     import eyed3.id3
+    if not case.users[0].isascii():
+        return
     for version, number, encoding in (("2.3", eyed3.id3.ID3_V2_3, "utf-16"), ("2.4", eyed3.id3.ID3_V2_4, "utf-8")):
         name = f"{path}-{version}.mp3"
         with open(name, "wb") as file:
@@ -149,7 +151,7 @@ class Raiser:
 
     def run(self, path, user, amount, options):
         """The exit status, and the words of what was printed without the marks around them."""
-        words = ["raise", "--user", user, "--by", str(amount), *options, path]
+        words = ["raise", "--user", user.encode("latin-1"), "--by", str(amount), *options, path]
         done = subprocess.run(self.command + words, capture_output=True)
         printed = (done.stdout + done.stderr).decode("latin-1")
         return done.returncode, [word.strip("(),:;.") for word in printed.split()]
