@@ -8,7 +8,7 @@ use crate::tags;
 /// The users of popularimeters.
 const USERS: [&[u8]; 6] = [b"", b"a", b"ab", b"room 7", b"caf\xE9", b"adverts"];
 
-/// The raise of a case. One in eight is of a damaged tag, one in eight of any generated one.
+/// The raise of a case. One tag in eight may be damaged, one in eight is any generated one.
 pub fn raise(seed: u64, index: u64) -> Raise {
     let mut rng = Rng::at(seed, index);
     let edition = rng.between(2, 4) as u8;
