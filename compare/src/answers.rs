@@ -68,6 +68,8 @@ pub struct Raised {
     pub tag: Vec<u8>,
     /// The word of a refused raise, and the words after the one that it has, are as they were.
     pub clean: bool,
+    /// What reading the tag is refused with where no work buffer is lent, or 0.
+    pub roomless: u32,
 }
 
 /// A tag to be written: the writer, the lengths of both buffers, the records, the padding.

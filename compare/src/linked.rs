@@ -127,7 +127,21 @@ pub fn raise(raise: &Raise) -> Raised {
     let number = calls::raise(&mut tag, &raise.user, raise.amount, &mut words);
     let [counter, after] = words;
     let clean = after == UNTOUCHED && (number == 0 || counter == UNTOUCHED);
-    Raised { number, counter: if number == 0 { counter } else { 0 }, tag, clean }
+    Raised { number, counter: if number == 0 { counter } else { 0 }, tag, clean, roomless: roomless(&raise.tag) }
+}
+
+/// What reading a tag is refused with where no work buffer is lent, or 0.
+fn roomless(tag: &[u8]) -> u32 {
+    let (mut reader, mut record) = ([0; sys::SV_READER_WORDS], [0; sys::SV_RECORD_WORDS]);
+    let mut number = calls::open(tag, &mut [], &mut reader);
+    while number == 0 {
+        number = calls::step(tag, &mut [], &mut reader, &mut record);
+    }
+    if number == sys::SV_END {
+        0
+    } else {
+        number
+    }
 }
 
 /// Writes a tag: begins, adds each record, finishes.

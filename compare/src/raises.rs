@@ -34,7 +34,7 @@ impl Comparison<'_> {
         self.met.raised[raised.number.min(44) as usize] += 1;
         self.must(raised.clean, "a raise changes a word that it should not");
         let theirs = oracle::read_past(&raise.tag);
-        match foretold(raise, &ours, &theirs) {
+        match foretold(raise, &ours, raised.roomless, &theirs) {
             Foretold::Refused(numbers) => {
                 if !numbers.contains(&raised.number) {
                     self.fault(|| format!("a raise is answered {}, and {numbers:?} was foretold", raised.number));
@@ -78,8 +78,9 @@ fn replace_end(bytes: &mut [u8], field: &[u8]) {
 }
 
 // In the order of the numbers: what reading is refused with, 40, 41, 42, 43, 44. Where reading a 2.4 tag is refused, a flagged
-// frame may stand before the place, and 40 comes at it.
-fn foretold(raise: &Raise, ours: &Seen, theirs: &Reading) -> Foretold {
+// frame may stand before that place, and 40 comes at it: there reading without a work buffer is refused with 14, if the frame
+// has a body.
+fn foretold(raise: &Raise, ours: &Seen, roomless: u32, theirs: &Reading) -> Foretold {
     let one = |number| Foretold::Refused(vec![number]);
     let header = match (&ours.header, &theirs.header) {
         (Ok(_), Ok(header)) => header,
@@ -89,6 +90,7 @@ fn foretold(raise: &Raise, ours: &Seen, theirs: &Reading) -> Foretold {
     let whole = header.edition < 4 && header.flags & 0x80 != 0;
     match ours.stop {
         _ if whole => one(40),
+        Stop::Refused { .. } if roomless == 14 => one(40),
         Stop::Refused { number, .. } if header.edition == 4 => Foretold::Refused(vec![number, 40]),
         Stop::Refused { number, .. } => one(number),
         Stop::End { at } if !is_plain(&raise.tag, header, at, theirs) => one(40),

@@ -228,7 +228,7 @@ pub fn written(bytes: &[u8]) -> Written {
 /// What was raised, as bytes.
 pub fn put_raised(raised: &Raised) -> Vec<u8> {
     let mut out = Put::default();
-    out.numbers(&[raised.number.into(), raised.counter, raised.clean.into()]);
+    out.numbers(&[raised.number.into(), raised.counter, raised.clean.into(), raised.roomless.into()]);
     out.bytes(&raised.tag);
     out.0
 }
@@ -236,7 +236,13 @@ pub fn put_raised(raised: &Raised) -> Vec<u8> {
 /// What was raised, from bytes.
 pub fn raised(bytes: &[u8]) -> Raised {
     let mut from = Take(bytes);
-    Raised { number: from.number() as u32, counter: from.number(), clean: from.number() == 1, tag: from.bytes() }
+    Raised {
+        number: from.number() as u32,
+        counter: from.number(),
+        clean: from.number() == 1,
+        roomless: from.number() as u32,
+        tag: from.bytes(),
+    }
 }
 
 // ---- batches: so many items, each with its length before it; read as a whole before anything is answered
