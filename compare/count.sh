@@ -1,7 +1,8 @@
 #!/usr/bin/env bash
 # Counts the instructions that the library takes for the tag that a box leaves, from opening to the end: by the meter and by a reader's steps, the caller's
-# few included; for a tag with one counter of 8, 12 and 1,048,576 bytes, zeros in front; and for adding a 2.4 frame with a raw body of 1 MiB. On any machine
-# with qemu-x86_64 and a C compiler for x86-64; the count is the same in each run. It is no time: what a load or a branch costs is not in it.
+# few included; for raising its counter, beside both, also with other padding and with a picture of 100,000 bytes; for a tag with one counter of 8, 12 and
+# 1,048,576 bytes, zeros in front; and for adding a 2.4 frame with a raw body of 1 MiB. On any machine with qemu-x86_64 and a C compiler for x86-64; the count
+# is the same in each run. It is no time: what a load or a branch costs is not in it.
 #
 #   compare/count.sh
 #
@@ -32,6 +33,21 @@ for edition in 2 3 4; do
             many=$(run "$way" "$edition" "$mode" 1100)
             echo "2.$edition, mode $mode, $way: $(((many - few) / 1000)) instructions"
         done
+    done
+done
+
+# padding and picture
+for shape in "64 0" "0 0" "1024 0" "4096 0" "64 100000"; do
+    for edition in 2 3 4; do
+        counts=()
+        for way in raise steps meter; do
+            # shellcheck disable=SC2086
+            few=$(run "$way" "$edition" 0 100 $shape)
+            # shellcheck disable=SC2086
+            many=$(run "$way" "$edition" 0 1100 $shape)
+            counts+=("$way $(((many - few) / 1000))")
+        done
+        echo "2.$edition, padding and picture of $shape bytes: ${counts[*]} instructions"
     done
 done
 

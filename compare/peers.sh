@@ -1,6 +1,7 @@
 #!/usr/bin/env bash
 # Holds the listing against other readers and writers of ID3v2 tags, those of Debian's packages python3-mutagen, eyed3, ffmpeg, libid3tag0 and libtagc0:
-# both `streamvault list` and, where `rt` is on the path, the program `listing`. What is not installed and not available is left out with a message.
+# both `streamvault list` and, where `rt` is on the path, the program `listing`. Then has `streamvault raise` raise counters in files that mutagen and eyeD3
+# wrote, and these read them back. What is not installed and not available is left out with a message.
 #
 #   compare/peers.sh
 #
@@ -22,4 +23,9 @@ if command -v rt >/dev/null && [ ${#runner[@]} = 0 ]; then
     (cd "$repository" && rt check listing) >"$out/listing.log" 2>&1 || { tail "$out/listing.log"; exit 1; }
     program=(--program "$repository/target/bin/listing")
 fi
-exec "${PYTHON:-/usr/bin/python3}" "$here/peers.py" "${program[@]}" "${runner[@]}" "$out/$target/release/streamvault" list
+python=${PYTHON:-/usr/bin/python3}
+streamvault=("${runner[@]}" "$out/$target/release/streamvault")
+status=0
+"$python" "$here/peers.py" "${program[@]}" "${streamvault[@]}" list || status=1
+"$python" "$here/raises.py" "${streamvault[@]}" || status=1
+exit $status

@@ -1,8 +1,9 @@
 /*
- * Reads the tag that a box leaves again and again, from opening to the end, by the meter or by a reader's steps; or a 2.4 tag with a counter of so many
- * bytes, zeros but for the last, by the meter; or adds a 2.4 frame with a raw body of 1 MiB: a loop whose instructions are counted.
+ * Reads the tag that a box leaves again and again, from opening to the end, by the meter or by a reader's steps, or raises its counter by 1, with 64 bytes of
+ * padding or so many, and without a picture or with one of so many bytes; or reads a 2.4 tag with a counter of so many bytes, zeros but for the last, by the
+ * meter; or adds a 2.4 frame with a raw body of 1 MiB: a loop whose instructions are counted.
  *
- *     turns meter|steps EDITION MODE TURNS
+ *     turns meter|steps|raise EDITION MODE TURNS [PADDING [PICTURE]]
  *     turns counter meter BYTES TURNS
  *     turns add clean|random|dense MODE TURNS
  */
@@ -11,7 +12,7 @@
 #include <stdlib.h>
 #include <string.h>
 
-static uint8_t frames[1024], body[1 << 20], tag[2 * sizeof body], work[sizeof tag], stored[2 * sizeof body + 10];
+static uint8_t frames[1 << 17], body[1 << 20], tag[2 * sizeof body], work[sizeof tag], stored[2 * sizeof body + 10];
 
 /* Adds a frame; its id by its letters, in 2.2 three of them. */
 static void add(uint64_t *writer, uint64_t kind, const char *letters, const char *name, const uint8_t *rest, size_t rest_len, uint64_t counter)
@@ -26,8 +27,8 @@ static void add(uint64_t *writer, uint64_t kind, const char *letters, const char
         abort();
 }
 
-/* Two texts, a popularimeter, 200 private bytes, padding; answers its length. */
-static size_t box_tag(uint64_t edition, uint64_t mode)
+/* Two texts, a picture of so many bytes if any, a popularimeter, 200 private bytes, padding; answers its length. */
+static size_t box_tag(uint64_t edition, uint64_t mode, uint64_t padding, size_t picture)
 {
     static const uint8_t title[] = "A song of some length", artist[] = "Somebody";
     uint64_t writer[SV_WRITER_WORDS], count[SV_COUNT_WORDS];
@@ -38,9 +39,11 @@ static size_t box_tag(uint64_t edition, uint64_t mode)
         abort();
     add(writer, SV_KIND_TEXT, old ? "TT2" : "TIT2", "", title, sizeof title - 1, 0);
     add(writer, SV_KIND_TEXT, old ? "TP1" : "TPE1", "", artist, sizeof artist - 1, 0);
+    if (picture > 0)
+        add(writer, SV_KIND_RAW, old ? "PIC" : "APIC", "", body, picture, 0);
     add(writer, SV_KIND_POPULARIMETER, old ? "POP" : "POPM", "room 7", NULL, 0, 977000);
     add(writer, SV_KIND_RAW, old ? "UFI" : "PRIV", "", private, sizeof private, 0);
-    if (sv_finish(64, frames, sizeof frames, tag, sizeof tag, writer, SV_WRITER_WORDS, count, SV_COUNT_WORDS) != 0)
+    if (sv_finish(padding, frames, sizeof frames, tag, sizeof tag, writer, SV_WRITER_WORDS, count, SV_COUNT_WORDS) != 0)
         abort();
     return (size_t)count[0];
 }
@@ -86,6 +89,14 @@ static uint64_t by_steps(size_t len)
     return sum;
 }
 
+/* Raises the counter by 1; answers the new one. */
+static uint64_t by_raising(size_t len)
+{
+    static const uint8_t user[] = "room 7";
+    uint64_t counter[SV_COUNTER_WORDS];
+    return sv_raise(tag, len, user, sizeof user - 1, 1, counter, SV_COUNTER_WORDS) == 0 ? counter[0] : 0;
+}
+
 /* A body without an FF, one with every byte equally often, or FF E0 FF 00 over and over. */
 static void fill(const char *kind)
 {
@@ -113,17 +124,25 @@ static int by_adding(const char *kind, uint64_t mode, uint64_t turns)
     return 0;
 }
 
+/* The number that a word says, or another where there is none. */
+static uint64_t number_of(int argc, char **argv, int place, uint64_t otherwise)
+{
+    return place < argc ? strtoull(argv[place], NULL, 10) : otherwise;
+}
+
 int main(int argc, char **argv)
 {
-    if (argc != 5)
+    if (argc < 5 || argc > 7)
         return 2;
+    uint64_t number = number_of(argc, argv, 3, 0), turns = number_of(argc, argv, 4, 0), sum = 0;
     if (strcmp(argv[1], "add") == 0)
-        return by_adding(argv[2], strtoull(argv[3], NULL, 10), strtoull(argv[4], NULL, 10));
-    uint64_t number = strtoull(argv[3], NULL, 10);
-    size_t len = strcmp(argv[1], "counter") == 0 ? long_tag(number) : box_tag(strtoull(argv[2], NULL, 10), number);
-    uint64_t (*read)(size_t) = strcmp(argv[1], "steps") == 0 ? by_steps : by_meter;
-    uint64_t turns = strtoull(argv[4], NULL, 10), sum = 0;
+        return by_adding(argv[2], number, turns);
+    int raises = strcmp(argv[1], "raise") == 0;
+    size_t len = strcmp(argv[1], "counter") == 0
+                     ? long_tag(number)
+                     : box_tag(number_of(argc, argv, 2, 0), number, number_of(argc, argv, 5, 64), number_of(argc, argv, 6, 0));
+    uint64_t (*turn)(size_t) = raises ? by_raising : strcmp(argv[1], "steps") == 0 ? by_steps : by_meter;
     for (uint64_t i = 0; i < turns; i++)
-        sum += read(len);
-    return sum == turns * 977000 ? 0 : 1;
+        sum += turn(len);
+    return sum == turns * 977000 + (raises ? turns * (turns + 1) / 2 : 0) ? 0 : 1;
 }

@@ -17,5 +17,6 @@ fn answer(question: &[u8], work: &mut Vec<u8>) -> Vec<u8> {
     match wire::question(question) {
         Question::Tag(tag) => wire::put_seen(&linked::read(&tag, work)),
         Question::Order(order) => wire::put_written(&linked::write(&order)),
+        Question::Raise(raise) => wire::put_raised(&linked::raise(&raise)),
     }
 }

@@ -48,6 +48,30 @@ pub enum Stop {
     Refused { at: usize, number: u32 },
 }
 
+/// A counter to be raised: the tag and what follows it, the user, the amount.
+#[derive(Clone, Debug, Default, PartialEq, Eq)]
+#[allow(missing_docs)]
+pub struct Raise {
+    pub tag: Vec<u8>,
+    pub user: Vec<u8>,
+    pub amount: u64,
+}
+
+/// What became of it.
+#[derive(Clone, Debug, Default, PartialEq, Eq)]
+pub struct Raised {
+    /// The refusal or 0.
+    pub number: u32,
+    /// The new counter, 0 where it is refused.
+    pub counter: u64,
+    /// The lent bytes afterwards.
+    pub tag: Vec<u8>,
+    /// The word of a refused raise, and the words after the one that it has, are as they were.
+    pub clean: bool,
+    /// What reading the tag is refused with where no work buffer is lent, or 0.
+    pub roomless: u32,
+}
+
 /// A tag to be written: the writer, the lengths of both buffers, the records, the padding.
 #[derive(Clone, Debug, Default, PartialEq, Eq)]
 #[allow(missing_docs)]

@@ -8,6 +8,7 @@ pub mod ids;
 pub mod linked;
 pub mod listing;
 pub mod lists;
+pub mod plains;
 pub mod rng;
 #[cfg(feature = "library")]
 pub mod songs;

@@ -2,7 +2,7 @@
 //!
 //! In another process it is asked in batches. A question whose answer is not at hand is noted and answered with nothing; whoever asked has to
 //! ask again after the next batch, and `take_waiting` tells so.
-use compare::answers::{Order, Seen, Stop, Written};
+use compare::answers::{Order, Raise, Raised, Seen, Stop, Written};
 use compare::ids::{wrapped, Kind};
 use compare::wire;
 use std::collections::HashMap;
@@ -70,6 +70,18 @@ impl Library {
             Library::Other(other) => match other.ask(wire::put_order(order)) {
                 Some(answer) => wire::written(answer),
                 None => Written::default(),
+            },
+        }
+    }
+
+    /// What comes of a raise.
+    pub fn raise(&mut self, raise: &Raise) -> Raised {
+        match self {
+            #[cfg(feature = "library")]
+            Library::Linked(_) => compare::linked::raise(raise),
+            Library::Other(other) => match other.ask(wire::put_raise(raise)) {
+                Some(answer) => wire::raised(answer),
+                None => Raised::default(),
             },
         }
     }

@@ -1,5 +1,5 @@
 //! The new library, linked.
-use crate::answers::{Entry, Frame, Header, Order, Seen, Stop, Written};
+use crate::answers::{Entry, Frame, Header, Order, Raise, Raised, Seen, Stop, Written};
 use streamvault::calls::{self, Given};
 use streamvault::sys;
 
@@ -117,6 +117,31 @@ fn references(record: &Words, rest: &[u8]) -> Vec<u32> {
     assert_eq!(0, number, "references of a table that was read are refused");
     out.truncate(count[0] as usize);
     out
+}
+
+/// Raises a counter, in a copy of the tag.
+pub fn raise(raise: &Raise) -> Raised {
+    const UNTOUCHED: u64 = 0xA5A5_A5A5_A5A5_A5A5;
+    let mut tag = raise.tag.clone();
+    let mut words = [UNTOUCHED; sys::SV_COUNTER_WORDS + 1];
+    let number = calls::raise(&mut tag, &raise.user, raise.amount, &mut words);
+    let [counter, after] = words;
+    let clean = after == UNTOUCHED && (number == 0 || counter == UNTOUCHED);
+    Raised { number, counter: if number == 0 { counter } else { 0 }, tag, clean, roomless: roomless(&raise.tag) }
+}
+
+/// What reading a tag is refused with where no work buffer is lent, or 0.
+fn roomless(tag: &[u8]) -> u32 {
+    let (mut reader, mut record) = ([0; sys::SV_READER_WORDS], [0; sys::SV_RECORD_WORDS]);
+    let mut number = calls::open(tag, &mut [], &mut reader);
+    while number == 0 {
+        number = calls::step(tag, &mut [], &mut reader, &mut record);
+    }
+    if number == sys::SV_END {
+        0
+    } else {
+        number
+    }
 }
 
 /// Writes a tag: begins, adds each record, finishes.

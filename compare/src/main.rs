@@ -1,8 +1,9 @@
 //! Compares the new library with the crate id3 1.17.2, both linked into this program.
 //!
-//!     compare [--readings N] [--writings N] [--seed S] [--short BYTES] [--cuts N] [--threads N]
-//!     compare read HEX      both answers to a tag
-//!     compare write LIST    the verdict on a list of records, in the oracle's form
+//!     compare [--readings N] [--writings N] [--raises N] [--seed S] [--short BYTES] [--cuts N] [--threads N]
+//!     compare read HEX                  both answers to a tag
+//!     compare write LIST                the verdict on a list of records, in the oracle's form
+//!     compare raise HEX USER AMOUNT     the verdict on a raise, the user in hex
 //!
 //! It ends with 0 where every difference is of a listed class.
 mod classes;
@@ -10,13 +11,16 @@ mod form;
 mod known;
 mod library;
 mod memory;
+mod raises;
 mod reads;
 mod shrink;
 mod work;
 mod writes;
 
 use classes::ALL;
+use compare::answers::Raise;
 use compare::lists;
+use compare::plains;
 use compare::sources::{shorts, Source};
 use library::Library;
 use oracle::List;
@@ -33,6 +37,7 @@ static MEMORY: memory::Memory = memory::Memory::new();
 struct Options {
     readings: u64,
     writings: u64,
+    raises: u64,
     seed: u64,
     short: u32,
     cuts: u64,
@@ -46,6 +51,7 @@ fn main() -> ExitCode {
     match words[..] {
         ["read", hex] => one_tag(hex),
         ["write", list] => one_list(list),
+        ["raise", hex, user, amount] => one_raise(hex, user, amount),
         _ => match options(&words) {
             Ok(options) => all(options),
             Err(why) => {
@@ -58,13 +64,15 @@ fn main() -> ExitCode {
 
 fn options(words: &[&str]) -> Result<Options, String> {
     let threads = std::thread::available_parallelism().map_or(1, |n| n.get());
-    let mut out = Options { readings: 10_000_000, writings: 1_000_000, seed: 1, short: 3, cuts: 3000, threads };
+    let (readings, writings, raises) = (10_000_000, 1_000_000, 1_000_000);
+    let mut out = Options { readings, writings, raises, seed: 1, short: 3, cuts: 3000, threads };
     for pair in words.chunks(2) {
         let [name, value] = pair else { return Err(format!("no value for {}", pair[0])) };
         let value: u64 = value.parse().map_err(|_| format!("not a number: {value}"))?;
         match *name {
             "--readings" => out.readings = value,
             "--writings" => out.writings = value,
+            "--raises" => out.raises = value,
             "--seed" => out.seed = value,
             "--short" => out.short = value.min(3) as u32,
             "--cuts" => out.cuts = value,
@@ -86,9 +94,11 @@ fn all(options: Options) -> ExitCode {
     }
     let name = format!("lists of records, seed {}", options.seed);
     let writing = timed(&name, || writings(options));
+    let raising = timed(&format!("raises, seed {}", options.seed), || raises(options));
     report("readings", &reading);
     report("writings", &writing);
-    if wrong.is_empty() && reading.unlisted + writing.unlisted == 0 {
+    raised(&raising);
+    if wrong.is_empty() && reading.unlisted + writing.unlisted + raising.unlisted == 0 {
         ExitCode::SUCCESS
     } else {
         ExitCode::FAILURE
@@ -170,6 +180,36 @@ fn shrunk_list(list: List, what: String) -> List {
     })
 }
 
+fn raises(options: Options) -> Tally {
+    let tally = work::run("raises", options.raises, options.threads, |index, comparison| {
+        comparison.raise(&plains::raise(options.seed, index));
+    });
+    for (index, what) in tally.kept.clone() {
+        let raise = plains::raise(options.seed, index);
+        println!("UNLISTED raise {index}: {what}");
+        println!("    {}", raise_line(&raise));
+        println!("    shrunk: {}", raise_line(&shrunk_raise(raise, what)));
+    }
+    tally
+}
+
+// as `compare raise` takes it
+fn raise_line(raise: &Raise) -> String {
+    format!("{} {} {}", oracle::hex(&raise.tag), oracle::hex(&raise.user), raise.amount)
+}
+
+// the same user and amount, in a smaller tag
+fn shrunk_raise(raise: Raise, what: String) -> Raise {
+    oracle::big_stack(move || {
+        let mut library = Library::new();
+        let with = |tag: &[u8]| Raise { tag: tag.to_vec(), ..raise.clone() };
+        let tag = shrink::tag(&raise.tag, &mut |less| {
+            settled(&mut library, |comparison| comparison.raise(&with(less))).unlisted.as_deref() == Some(&what)
+        });
+        with(&tag)
+    })
+}
+
 fn report(name: &str, tally: &Tally) {
     println!("{name}: {} cases, {} agreements", tally.cases, tally.agreed);
     met(&tally.met);
@@ -181,13 +221,23 @@ fn report(name: &str, tally: &Tally) {
     println!("    {:>10}  unlisted", tally.unlisted);
 }
 
+fn raised(tally: &Tally) {
+    println!("raises: {} cases, {} as foretold", tally.cases, tally.agreed);
+    println!("    raised, by answer (0) or refusal: {}", numbered(&tally.met.raised));
+    println!("    {:>10}  unlisted", tally.unlisted);
+}
+
+// the counts that are not 0, each after its number
+fn numbered(counts: &[u64]) -> String {
+    let met = counts.iter().enumerate().filter(|(_, count)| **count > 0);
+    met.map(|(number, count)| format!("{number}: {count}")).collect::<Vec<_>>().join(", ")
+}
+
 fn met(met: &Met) {
     let names = ["text", "popularimeter", "table", "chapter", "contents", "raw"];
     let kinds: Vec<String> = names.iter().zip(met.kinds).map(|(name, count)| format!("{name} {count}")).collect();
-    let ends = met.ends.iter().enumerate().filter(|(_, count)| **count > 0);
-    let ends: Vec<String> = ends.map(|(number, count)| format!("{number}: {count}")).collect();
     println!("    read, by kind: {}; runs of subframes {}", kinds.join(", "), met.runs);
-    println!("    read, by end (0) or refusal: {}", ends.join(", "));
+    println!("    read, by end (0) or refusal: {}", numbered(&met.ends));
 }
 
 fn one_tag(hex: &str) -> ExitCode {
@@ -222,6 +272,22 @@ fn one_list(text: &str) -> ExitCode {
             oracle::write(list.version, list.unsynchronisation, list.padding, list.file_altered, &list.records);
         println!("the crate: {}", oracle::written_line(&answer));
         said(settled(&mut library, |comparison| comparison.list(&list)))
+    })
+}
+
+fn one_raise(hex: &str, user: &str, amount: &str) -> ExitCode {
+    let raise = match (oracle::unhex(hex), oracle::unhex(user), amount.parse()) {
+        (Ok(tag), Ok(user), Ok(amount)) => Raise { tag, user, amount },
+        _ => {
+            eprintln!("compare: no raise: {hex} {user} {amount}");
+            return ExitCode::from(2);
+        }
+    };
+    oracle::big_stack(move || {
+        let mut library = Library::new();
+        let verdict = settled(&mut library, |comparison| comparison.raise(&raise));
+        println!("here: {:?}", library.raise(&raise));
+        said(verdict)
     })
 }
 

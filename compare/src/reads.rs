@@ -29,11 +29,13 @@ pub struct Met {
     pub ends: [u64; 36],
     /// Runs of subframes, compared as tags of their own.
     pub runs: u64,
+    /// Raises: accepted (0), or the number of the refusal.
+    pub raised: [u64; 45],
 }
 
 impl Default for Met {
     fn default() -> Met {
-        Met { kinds: [0; 6], ends: [0; 36], runs: 0 }
+        Met { kinds: [0; 6], ends: [0; 36], runs: 0, raised: [0; 45] }
     }
 }
 

@@ -123,8 +123,8 @@ fn extended(rng: &mut Rng) -> Vec<u8> {
     out
 }
 
-// nothing, or a cut, flipped bits, a changed byte, a byte more or less
-fn damage(rng: &mut Rng, tag: &mut Vec<u8>) {
+/// Nothing, or a cut, flipped bits, a changed byte, a byte more or less.
+pub fn damage(rng: &mut Rng, tag: &mut Vec<u8>) {
     match rng.below(12) {
         0 => tag.truncate(rng.below(tag.len() + 1)),
         1 => flip(rng, tag),

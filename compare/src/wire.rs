@@ -1,5 +1,5 @@
 //! Questions to the library and its answers as bytes, for a library that runs in another process.
-use crate::answers::{Entry, Frame, Header, Order, Seen, Stop, Written};
+use crate::answers::{Entry, Frame, Header, Order, Raise, Raised, Seen, Stop, Written};
 use std::io::{self, Read, Write};
 
 /// Puts numbers and bytes one after the other.
@@ -66,12 +66,13 @@ impl<'a> Take<'a> {
 
 // ---- questions
 
-/// A question: a tag, or an order.
+/// A question: a tag, an order, or a raise.
 #[derive(Clone, Debug, PartialEq, Eq)]
 #[allow(missing_docs)]
 pub enum Question {
     Tag(Vec<u8>),
     Order(Order),
+    Raise(Raise),
 }
 
 /// A question for a tag as bytes.
@@ -104,6 +105,16 @@ pub fn put_order(order: &Order) -> Vec<u8> {
     out.0
 }
 
+/// A raise as bytes.
+pub fn put_raise(raise: &Raise) -> Vec<u8> {
+    let mut out = Put::default();
+    out.number(2);
+    out.bytes(&raise.tag);
+    out.bytes(&raise.user);
+    out.number(raise.amount);
+    out.0
+}
+
 /// Whether a question is for a tag.
 pub fn is_tag(question: &[u8]) -> bool {
     question.first() == Some(&0)
@@ -112,21 +123,18 @@ pub fn is_tag(question: &[u8]) -> bool {
 /// The question that bytes are.
 pub fn question(bytes: &[u8]) -> Question {
     let mut from = Take(bytes);
-    if from.number() == 0 {
-        return Question::Tag(from.bytes());
+    match from.number() {
+        0 => Question::Tag(from.bytes()),
+        1 => Question::Order(order(&mut from)),
+        _ => Question::Raise(Raise { tag: from.bytes(), user: from.bytes(), amount: from.number() }),
     }
+}
+
+fn order(from: &mut Take) -> Order {
     let [edition, mode, altered, room, padding] = from.numbers();
     let output = from.size();
     let entries = from.many(entry);
-    Question::Order(Order {
-        edition: edition as u8,
-        mode,
-        altered: altered == 1,
-        room: room as usize,
-        entries,
-        padding,
-        output,
-    })
+    Order { edition: edition as u8, mode, altered: altered == 1, room: room as usize, entries, padding, output }
 }
 
 fn entry(from: &mut Take) -> Entry {
@@ -214,6 +222,26 @@ pub fn written(bytes: &[u8]) -> Written {
         frames: from.bytes(),
         tag: from.bytes(),
         added: from.many(|from| (from.number() as u32, from.size())),
+    }
+}
+
+/// What was raised, as bytes.
+pub fn put_raised(raised: &Raised) -> Vec<u8> {
+    let mut out = Put::default();
+    out.numbers(&[raised.number.into(), raised.counter, raised.clean.into(), raised.roomless.into()]);
+    out.bytes(&raised.tag);
+    out.0
+}
+
+/// What was raised, from bytes.
+pub fn raised(bytes: &[u8]) -> Raised {
+    let mut from = Take(bytes);
+    Raised {
+        number: from.number() as u32,
+        counter: from.number(),
+        clean: from.number() == 1,
+        roomless: from.number() as u32,
+        tag: from.bytes(),
     }
 }
 

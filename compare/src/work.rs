@@ -72,6 +72,7 @@ fn join(met: &mut Met, other: &Met) {
     met.kinds.iter_mut().zip(other.kinds).for_each(|(count, more)| *count += more);
     met.ends.iter_mut().zip(other.ends).for_each(|(count, more)| *count += more);
     met.runs += other.runs;
+    met.raised.iter_mut().zip(other.raised).for_each(|(count, more)| *count += more);
 }
 
 /// Compares the cases below a number.
