@@ -9,17 +9,19 @@ use crate::{calls, Refusal};
 /// counter replaced. A refused raise changes nothing. What follows the tag may be lent with it, and is not looked at.
 ///
 /// ```
-/// use streamvault::{raise, Refusal};
+/// use streamvault::{raise, Content, Mode, Refusal, Version, Writer};
 ///
-/// // room 7 has two counter bytes, 00 FF; the adverts have one
-/// let mut file = *b"ID3\x04\0\0\0\0\0\x26POPM\0\0\0\x0B\0\0room 7\0\0\0\0\xFFPOPM\0\0\0\x07\0\0ads\0\0\xFE\0 and sound";
-/// assert_eq!(raise(&mut file, b"room 7", 1), Ok(256));
-/// assert_eq!(raise(&mut file, b"ads", 1), Ok(255));
+/// let mut writer = Writer::new(Version::Id3v24).mode(Mode::Off);
+/// writer.add(b"POPM", &Content::Popularimeter { user: "room 7", rating: 0, counter: 65_280 })?;
+/// writer.add(b"POPM", &Content::Popularimeter { user: "adverts", rating: 0, counter: 254 })?;
+/// let mut tag = writer.finish(16)?;
 ///
-/// let raised = file;
-/// assert_eq!(raise(&mut file, b"ads", 1), Err(Refusal::COUNTER_TOO_SHORT));
-/// assert_eq!(raise(&mut file, b"room 8", 1), Err(Refusal::USER_ABSENT));
-/// assert_eq!(file, raised);
+/// assert_eq!(raise(&mut tag, b"room 7", 90), Ok(65_370));
+/// assert_eq!(raise(&mut tag, b"adverts", 1), Ok(255));
+/// // one counter byte holds no more, and nobody has the other user
+/// assert_eq!(raise(&mut tag, b"adverts", 1), Err(Refusal::COUNTER_TOO_SHORT));
+/// assert_eq!(raise(&mut tag, b"room 8", 1), Err(Refusal::USER_ABSENT));
+/// # Ok::<(), Refusal>(())
 /// ```
 ///
 /// # Errors

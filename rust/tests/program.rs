@@ -64,7 +64,7 @@ fn the_sum_as_comma_separated_values() {
 fn the_sum_of_all_samples_lists_the_damaged_ones() {
     let output = run(&["sum", "samples", "--csv"]);
     let want =
-        "user,popularimeters,counter\nhex:636166E9,1,0\nroom 1,34,4294967655\nroom 2,11,67983\nroom 3,1,720000\n";
+        "user,popularimeters,counter\nadverts,2,267\nhex:636166E9,1,0\nroom 1,37,4294968555\nroom 2,11,67983\nroom 3,1,720000\n";
     assert_eq!(said(&output), (want.to_string(), 1));
     let listed = err(&output);
     assert!(listed.lines().all(|line| line.starts_with("samples/damaged/")), "{listed}");
@@ -78,8 +78,8 @@ fn the_sum_as_json() {
     let (out, status) = said(&run(&["sum", "--json", "samples"]));
     assert_eq!(status, 1);
     for part in [
-        r#"{"user": "room 1", "popularimeters": 34, "counter": "4294967655"}"#,
-        r#""tags": 43,"#,
+        r#"{"user": "room 1", "popularimeters": 37, "counter": "4294968555"}"#,
+        r#""tags": 46,"#,
         r#""without_tag": 3,"#,
         r#"{"file": "samples/damaged/cut-in-popularimeter-2.3.mp3", "number": 5, "meaning": "#,
         r#"{"file": "samples/damaged/refused-counter.mp3", "number": 35, "meaning": "#,
