@@ -32,9 +32,9 @@ pub enum Failure {
     Refused(Refusal),
     /// It is a file that was named before, by this name.
     Again(PathBuf),
-    /// It cannot be opened or read.
+    /// It cannot be read.
     Unreadable(io::Error),
-    /// It was not written.
+    /// It cannot be opened for writing, or was not written.
     Unwritten(io::Error),
     /// It was written, but the disk may not have taken it.
     Unsure(io::Error),
@@ -115,7 +115,7 @@ impl<'a> Raiser<'a> {
 
     /// The new counter in a file.
     fn raise(&mut self, path: &Path) -> Result<u64, Failure> {
-        let song = Song::open(path, !self.order.dry_run).map_err(Failure::Unreadable)?;
+        let song = Song::open(path, !self.order.dry_run)?;
         self.first_time(&song)?;
         let before = song.tag().map_err(Failure::Unreadable)?;
         let mut after = before.clone();
@@ -148,13 +148,14 @@ struct Song<'p> {
 
 impl<'p> Song<'p> {
     /// Opens a file for reading, and for writing where that is asked for.
-    fn open(path: &'p Path, write: bool) -> io::Result<Song<'p>> {
+    fn open(path: &'p Path, write: bool) -> Result<Song<'p>, Failure> {
         // to open a pipe would wait for its other end
-        if !fs::metadata(path)?.is_file() {
-            return Err(io::Error::other("not a file"));
+        if !fs::metadata(path).map_err(Failure::Unreadable)?.is_file() {
+            return Err(Failure::Unreadable(io::Error::other("not a file")));
         }
-        let file = File::options().read(true).write(write).open(path)?;
-        let metadata = file.metadata()?;
+        let fails = if write { Failure::Unwritten } else { Failure::Unreadable };
+        let file = File::options().read(true).write(write).open(path).map_err(fails)?;
+        let metadata = file.metadata().map_err(Failure::Unreadable)?;
         Ok(Song { path, file, metadata })
     }
 
