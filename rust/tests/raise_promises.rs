@@ -67,7 +67,7 @@ fn everything(tag: &[u8]) -> Read {
     let mut frames = Vec::new();
     while let Some(frame) = reader.next_frame() {
         let frame = frame.unwrap();
-        frames.push((frame.at as usize, frame.body.len(), frame.to_record()));
+        frames.push((frame.at, frame.body.len(), frame.to_record()));
     }
     (header(tag).unwrap(), frames)
 }
