@@ -6,8 +6,8 @@
  *     cc -std=c99 -g -Iinclude tests/hard.c target/staticlib/libcapi.a -o hard
  *     valgrind --error-exitcode=1 ./hard 100000
  *
- * The numbers are the same in each run. Exit status: 0 every answer was one that the function may give, 1 another was met,
- * 2 there was no memory. rust/tests/hard checks far more of each answer.
+ * The numbers are the same in each run. Exit status: 0 every answer was one that the function may give, 1 another was met, or
+ * a refused raise changed a tag, 2 there was no memory. rust/tests/hard checks far more of each answer.
  */
 #include "streamvault.h"
 
@@ -138,8 +138,8 @@ static uint8_t *some_tag(size_t *len)
 /* Whether an answer is a refusal number, 0 or the end. */
 static void check(const char *name, uint32_t answer, uint64_t kept)
 {
-    int known = answer <= 14 || (20 <= answer && answer <= 35) || answer == SV_END || answer == kept;
-    if (!known) {
+    int refusal = answer <= 14 || (20 <= answer && answer <= 35) || (40 <= answer && answer <= 44);
+    if (!refusal && answer != SV_END && answer != kept) {
         printf("%s answered %" PRIu32 "\n", name, answer);
         exit(1);
     }
@@ -262,6 +262,28 @@ static void writing(void)
     free(deviations);
 }
 
+/* Raises a counter; a refusal leaves the tag as it was. */
+static void raising(void)
+{
+    size_t tag_len, counter_len, user_len = below(3);
+    uint8_t *tag = some_tag(&tag_len);
+    uint8_t *user = bytes(user_len);
+    uint8_t *before = block(tag_len);
+    uint64_t *counter = words(SV_COUNTER_WORDS, &counter_len);
+    if (tag_len > 0)
+        memcpy(before, tag, tag_len);
+    uint32_t answer = sv_raise(tag, tag_len, user, user_len, word(), counter, counter_len);
+    check("sv_raise", answer, 0);
+    if (answer != 0 && tag_len > 0 && memcmp(before, tag, tag_len) != 0) {
+        printf("sv_raise answered %" PRIu32 " and changed the tag\n", answer);
+        exit(1);
+    }
+    free(tag);
+    free(user);
+    free(before);
+    free(counter);
+}
+
 int main(int argc, char **argv)
 {
     unsigned long cases = argc > 1 ? strtoul(argv[1], NULL, 10) : 10000;
@@ -271,6 +293,7 @@ int main(int argc, char **argv)
         stepping();
         metering();
         writing();
+        raising();
     }
     printf("%lu cases, every answer known\n", cases);
     return 0;
