@@ -590,6 +590,16 @@ fn a_raise_that_is_only_tried_changes_nothing() {
 }
 
 #[test]
+fn the_readme_shows_what_a_raise_prints() {
+    let files = ["both", "full", "music"].map(|name| format!("samples/adverts/{name}.mp3"));
+    let output = program().args(["raise", "--user", "adverts", "--by", "3", "--dry-run"]).args(files).output().unwrap();
+    let (out, status) = said(&output);
+    assert_eq!((out.lines().count(), status), (4, 1));
+    let shown: String = out.lines().map(|line| format!("    {line}\n")).collect();
+    assert!(fs::read_to_string(root().join("README.md")).unwrap().contains(&shown), "{shown}");
+}
+
+#[test]
 fn a_raise_by_nothing_writes_nothing() {
     let (path, bytes) = copied("raise-by-0", "adverts/full.mp3");
     let old = SystemTime::UNIX_EPOCH + Duration::from_secs(1_000_000_000);
