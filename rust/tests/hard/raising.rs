@@ -86,6 +86,9 @@ fn field(tag: &[u8], user: &[u8]) -> Result<Range<usize>, u32> {
     }
 }
 
+/// A frame: its id, empty where it is compressed, and where its body is.
+type Frame<'a> = (&'a [u8], Range<usize>);
+
 /// What was met on the way through a tag.
 struct Look<'a> {
     tag: &'a [u8],
@@ -102,16 +105,14 @@ impl<'a> Look<'a> {
     fn frames(&mut self, mut places: Range<usize>, depth: usize) -> Result<(), u32> {
         while let Some((id, body)) = self.frame(places.clone(), depth)? {
             places.start = body.end;
-            if let Some(id) = id {
-                self.body(id, body, depth)?;
-            }
+            self.body(id, body, depth)?;
         }
         self.plain &= depth > 1 || self.tag[places].iter().all(|byte| *byte == 0);
         Ok(())
     }
 
-    /// The frame that begins at a place: its id, none where it is compressed, and where its body is.
-    fn frame(&mut self, places: Range<usize>, depth: usize) -> Result<Option<(Option<&'a [u8]>, Range<usize>)>, u32> {
+    /// The frame that begins at a place, if one does.
+    fn frame(&mut self, places: Range<usize>, depth: usize) -> Result<Option<Frame<'a>>, u32> {
         let s = &self.tag[places.clone()];
         let (id_len, head_len) = if self.edition == 2 { (3, 6) } else { (4, 10) };
         if s.len() < head_len || s[0] == 0 {
@@ -119,13 +120,8 @@ impl<'a> Look<'a> {
         }
         let bits = [[0; 5], [0x40, 0x20, 0x80, 0x80, 0], [0x04, 0x40, 0x08, 0x01, 0x02]][self.edition - 2];
         let [encrypted, grouped, compressed, has_length, flagged] = bits.map(|bit| bit != 0 && s[9] & bit != 0);
-        let size = s[id_len..2 * id_len].iter().fold(0, |size, byte| {
-            if self.edition == 4 {
-                size << 7 | usize::from(*byte)
-            } else {
-                size << 8 | usize::from(*byte)
-            }
-        });
+        let shift = if self.edition == 4 { 7 } else { 8 };
+        let size = s[id_len..2 * id_len].iter().fold(0, |size, byte| size << shift | usize::from(*byte));
         let extra = if has_length { 4 } else { 0 };
         let (start, len) = (head_len + extra, size.saturating_sub(extra));
         let short = s.len() < start + len;
@@ -144,48 +140,57 @@ impl<'a> Look<'a> {
         }
         self.plain &= !compressed && !short;
         let end = places.end.min(places.start + start + len);
-        Ok(Some(((!compressed).then_some(&s[..id_len]), places.start + start..end)))
+        Ok(Some((if compressed { &[] } else { &s[..id_len] }, places.start + start..end)))
     }
 
-    /// Looks at a body by its kind.
+    /// Looks at a body by its kind, and goes through the frames inside it.
     fn body(&mut self, id: &[u8], body: Range<usize>, depth: usize) -> Result<(), u32> {
         let b = &self.tag[body.clone()];
         let zero = b.iter().position(|byte| *byte == 0).unwrap_or(b.len());
         let run = match id {
-            b"TXX" | b"TXXX" => None,
-            [b'T', ..] if b.is_empty() => return Err(SV_MISSING_FIELD),
-            [b'T', ..] if b[0] > 3 => return Err(SV_UNKNOWN_ENCODING),
+            b"TXX" | b"TXXX" => return Ok(()),
+            [b'T', ..] => return text(b),
+            b"MLL" | b"MLLT" => return widths(b),
             b"POP" | b"POPM" => {
                 let field = b.get(zero + 2..).ok_or(SV_MISSING_FIELD)?;
                 number(field).ok_or(SV_COUNTER_TOO_LARGE)?;
                 if depth == 1 && b[..zero] == *self.user {
                     self.fields.push(body.start + zero + 2..body.end);
                 }
-                None
+                return Ok(());
             }
-            b"MLL" | b"MLLT" => {
-                let [.., bytes, millis] = *b.first_chunk::<10>().ok_or(SV_MISSING_FIELD)?;
-                match (1..=32).contains(&bytes) && (1..=32).contains(&millis) {
-                    false => return Err(SV_WRONG_WIDTH),
-                    true if (bytes + millis) % 4 > 0 => return Err(SV_WIDTHS_NOT_IN_FOURS),
-                    true => None,
-                }
-            }
-            b"CHAP" => Some(zero + 17),
-            b"CTOC" => {
-                let names = b.get(zero + 3..).ok_or(SV_MISSING_FIELD)?;
-                let mut ends = (0..names.len()).filter(|at| names[*at] == 0).map(|at| zero + 4 + at);
-                match b[zero + 2] {
-                    0 => Some(zero + 3),
-                    count => Some(ends.nth(usize::from(count) - 1).ok_or(SV_MISSING_FIELD)?),
-                }
-            }
-            _ => None,
+            b"CHAP" => zero + 17,
+            b"CTOC" => zero + 3 + names(b.get(zero + 2..).unwrap_or(&[]))?,
+            _ => return Ok(()),
         };
-        match run {
-            Some(run) if b.len() < run => Err(SV_MISSING_FIELD),
-            Some(run) => self.frames(body.start + run..body.end, depth + 1),
-            None => Ok(()),
+        if b.len() < run {
+            return Err(SV_MISSING_FIELD);
         }
+        self.frames(body.start + run..body.end, depth + 1)
     }
+}
+
+/// A text has an encoding.
+fn text(body: &[u8]) -> Result<(), u32> {
+    match body.first() {
+        None => Err(SV_MISSING_FIELD),
+        Some(4..) => Err(SV_UNKNOWN_ENCODING),
+        Some(_) => Ok(()),
+    }
+}
+
+/// A lookup table has two widths.
+fn widths(body: &[u8]) -> Result<(), u32> {
+    let [.., bytes, millis] = *body.first_chunk::<10>().ok_or(SV_MISSING_FIELD)?;
+    if [bytes, millis].iter().any(|width| !(1..=32).contains(width)) {
+        return Err(SV_WRONG_WIDTH);
+    }
+    ((bytes + millis) % 4 == 0).then_some(()).ok_or(SV_WIDTHS_NOT_IN_FOURS)
+}
+
+/// How many bytes the children take, from the byte on that counts them.
+fn names(counted: &[u8]) -> Result<usize, u32> {
+    let (count, names) = counted.split_first().ok_or(SV_MISSING_FIELD)?;
+    let mut ends = [0].into_iter().chain((0..names.len()).filter(|at| names[*at] == 0).map(|at| at + 1));
+    ends.nth(usize::from(*count)).ok_or(SV_MISSING_FIELD)
 }
