@@ -772,7 +772,7 @@ fn a_write_that_fails_or_stops_is_told_and_the_file_stays() {
     let place = 23;
     fs::write(&path, &bytes).unwrap();
     for (end, why) in
-        [(place, "File too large"), (place + 1, "the write stopped after 1 bytes of the counter, which were put back")]
+        [(place, "File too large"), (place + 1, "only 1 of 2 counter bytes were written, and put back as they were\n")]
     {
         let mut command = raising("a", "1", &[&path]);
         limit(&mut command, end);

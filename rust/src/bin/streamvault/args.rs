@@ -107,7 +107,7 @@ Exit status:
        file was named twice to be raised; or not all could be printed
     2  bad usage
     3  a file or a folder could not be read or written, whatever else was listed:
-       make it readable and run again
+       make it so and run again, a raise only for the files that were not raised
 ";
 
 /// How a sum is printed.

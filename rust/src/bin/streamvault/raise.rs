@@ -175,7 +175,7 @@ impl<'p> Song<'p> {
         let (old, new) = (&before[changed.clone()], &after[changed.clone()]);
         let written = self.file.write_at(new, changed.start as u64).map_err(Failure::Unwritten)?;
         if written < new.len() {
-            return Err(self.put_back(changed.start, &old[..written]));
+            return Err(self.put_back(changed, &old[..written]));
         }
         self.file.sync_data().map_err(Failure::Unsure)
     }
@@ -191,12 +191,12 @@ impl<'p> Song<'p> {
         Ok(there == tag)
     }
 
-    /// Puts the bytes back that a write replaced before it stopped.
-    fn put_back(&self, place: usize, old: &[u8]) -> Failure {
-        let stopped = format!("the write stopped after {} bytes of the counter", old.len());
-        Failure::Unwritten(io::Error::other(match self.file.write_all_at(old, place as u64) {
-            Ok(()) => format!("{stopped}, which were put back"),
-            Err(error) => format!("{stopped}, which are wrong now, at byte {place}: {error}"),
+    /// Puts the bytes back that a write replaced which stopped too early, and says so.
+    fn put_back(&self, wanted: Range<usize>, old: &[u8]) -> Failure {
+        let stopped = format!("only {} of {} counter bytes were written", old.len(), wanted.len());
+        Failure::Unwritten(io::Error::other(match self.file.write_all_at(old, wanted.start as u64) {
+            Ok(()) => format!("{stopped}, and put back as they were"),
+            Err(error) => format!("{stopped}, and are wrong now, at byte {}: {error}", wanted.start),
         }))
     }
 }
