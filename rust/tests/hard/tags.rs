@@ -78,7 +78,7 @@ pub fn with_counters(numbers: &mut Numbers) -> Vec<u8> {
     tag
 }
 
-/// A tag that is mostly plain, with popularimeters of these users, and now and then a frame of any sort.
+/// A tag that is mostly plain, with popularimeters of these users, now and then inside a chapter, and a frame of any sort.
 pub fn with_users(numbers: &mut Numbers, users: &[&[u8]]) -> Vec<u8> {
     let edition = 2 + numbers.below(3) as u8;
     let id = if edition == 2 { id3(b"POP") } else { id4(b"POPM") };
@@ -87,7 +87,11 @@ pub fn with_users(numbers: &mut Numbers, users: &[&[u8]]) -> Vec<u8> {
         let len = numbers.below(10);
         let some = numbers.bytes(1 + len);
         let body = [numbers.one(users), &b"\0"[..], &rating_and_counter(numbers, some)].concat();
-        frames.extend([head(edition, id, body.len(), 0), body].concat());
+        let mut made = [head(edition, id, body.len(), 0), body].concat();
+        if edition > 2 && numbers.once_in(6) {
+            made = [head(edition, id4(b"CHAP"), 17 + made.len(), 0), vec![0; 17], made].concat();
+        }
+        frames.extend(made);
         if numbers.once_in(6) {
             frames.extend(frame(numbers, edition, 2));
         }
