@@ -245,6 +245,7 @@ fn list(words: &[OsString]) -> Result<Command, String> {
     }
 }
 
+/// A raise: the user and the amount are given once, the files as often as wanted.
 fn raise(words: &[OsString]) -> Result<Command, String> {
     let (mut user, mut amount, mut dry_run, mut files) = (None, None, false, Vec::new());
     let mut words = Words::of(words);
