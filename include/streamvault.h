@@ -21,6 +21,7 @@
  * Reading: sv_open, then sv_step with the same tag, work buffer and reader until it answers something other than 0.
  * Counters alone: sv_meter_open, then sv_meter_next in the same way; the meter's marks then say whether some may be missing.
  * Writing: sv_begin or sv_begin_plain, sv_add for each record, sv_finish.
+ * A counter in a tag that is there: sv_raise.
  */
 #ifndef STREAMVAULT_H
 #define STREAMVAULT_H
@@ -76,6 +77,13 @@ extern "C" {
 
 /* Refusals of popularimeters, on reading. */
 #define SV_COUNTER_TOO_LARGE 35    /* a popularimeter's counter does not fit 64 bits */
+
+/* Refusals of raising a counter, after those of reading. */
+#define SV_NOT_PLAIN 40            /* the tag is not plain: cut, extended, unsynchronised, a frame compressed or short, or padding not zero */
+#define SV_USER_ABSENT 41          /* no popularimeter of the top level has this user */
+#define SV_USER_TWICE 42           /* two or more popularimeters of the top level have this user */
+#define SV_SUM_TOO_LARGE 43        /* the counter and the amount sum to more than 64 bits hold */
+#define SV_COUNTER_TOO_SHORT 44    /* the counter has too few bytes for the sum */
 
 /* ---- the words of a header */
 
@@ -188,6 +196,10 @@ extern "C" {
 
 #define SV_COUNT_WORDS 1
 
+/* ---- the word of a counter */
+
+#define SV_COUNTER_WORDS 1
+
 /* ---- reading */
 
 /* The fields of the header at the front of a tag. A refusal changes nothing. */
@@ -263,6 +275,28 @@ uint32_t sv_add(const uint64_t *record, size_t record_len, const uint8_t *name, 
 uint32_t sv_finish(uint64_t padding, const uint8_t *buffer, size_t buffer_len, uint8_t *output, size_t output_len,
                    const uint64_t *writer, size_t writer_len, uint64_t *count, size_t count_len);
 
+/* ---- raising a counter in place */
+
+/*
+ * Adds an amount to the counter of the one popularimeter of the top level that has this user, in the tag at the front of the
+ * bytes lent. What follows the tag, sound as a rule, may be lent with it and is not looked at. No work buffer is needed.
+ *
+ * Where it answers 0, the new counter is the word of the counter and stands in the counter's bytes in the tag, with zeros in
+ * front, as many bytes as they were. No other byte changes: the tag reads as before with that one counter replaced.
+ * Anything else is a refusal, and then nothing at all has changed, neither the tag nor the word. In this order:
+ *
+ * - What reading the whole tag is refused with, as sv_open and sv_step go through it. Where they would resynchronise it is
+ *   SV_NOT_PLAIN at once: for a 2.2 or 2.3 tag that is unsynchronised after the checks of its header, for a 2.4 frame,
+ *   also inside a chapter, when it is met.
+ * - SV_NOT_PLAIN, where a byte of the tag is missing, it has an extended header or the header's flag of unsynchronisation, a
+ *   frame is compressed, unsynchronised or short, also inside a chapter, or a byte after the last frame is not 0.
+ * - SV_USER_ABSENT, SV_USER_TWICE. Users are compared byte for byte. Those inside chapters do not count, and one that holds
+ *   a zero is in no tag.
+ * - SV_SUM_TOO_LARGE; SV_COUNTER_TOO_SHORT: n bytes hold what is below 256^n, and a counter without bytes holds 0 only.
+ */
+uint32_t sv_raise(uint8_t *tag, size_t tag_len, const uint8_t *user, size_t user_len, uint64_t amount, uint64_t *counter,
+                  size_t counter_len);
+
 /*
  * ---- conveniences
  *
@@ -311,6 +345,11 @@ static inline const char *sv_meaning(uint32_t number)
     case SV_WRONG_DEVIATION: return "a deviation lacks its pair or does not fit its width, or a step is 2^24 or more";
     case SV_ODD_REFERENCES: return "the widths sum to 4 and the references are odd in number";
     case SV_COUNTER_TOO_LARGE: return "a popularimeter's counter does not fit 64 bits";
+    case SV_NOT_PLAIN: return "the tag is not plain: cut, extended, unsynchronised, a frame compressed or short, or padding not zero";
+    case SV_USER_ABSENT: return "no popularimeter of the top level has this user";
+    case SV_USER_TWICE: return "two or more popularimeters of the top level have this user";
+    case SV_SUM_TOO_LARGE: return "the counter and the amount sum to more than 64 bits hold";
+    case SV_COUNTER_TOO_SHORT: return "the counter has too few bytes for the sum";
     default: return "a number that is none";
     }
 }

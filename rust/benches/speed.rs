@@ -20,6 +20,7 @@ fn main() {
     }
     for version in [Version::Id3v23, Version::Id3v24] {
         small_tags(version);
+        raising(version);
     }
     raw_bodies();
     for (name, bytes) in
@@ -154,6 +155,33 @@ fn plain_counter(body: &[u8]) -> Option<u64> {
     let zeros = counter.iter().take_while(|byte| **byte == 0).count();
     let counter = &counter[zeros..];
     (counter.len() <= 8).then(|| counter.iter().fold(0, |n, byte| n << 8 | u64::from(*byte)))
+}
+
+// ---- a counter raised in place, beside reading the same tags
+
+fn raising(version: Version) {
+    // counters of six bytes, which stay so
+    let mut tags: Vec<_> = (0..TAGS).map(|i| small_tag(version, (1 << 40) + i as u64 * 977)).collect();
+    let (_, sum) = library_walk(&tags);
+    assert_eq!(library_raise(&mut tags), sum + TAGS as u64);
+    assert_eq!(library_walk(&tags).1, sum + TAGS as u64);
+    let raise = best(|| library_raise(black_box(&mut tags)));
+    let walk = best(|| library_walk(black_box(&tags)));
+    let meter = best(|| library_meter(black_box(&tags)));
+    println!("{TAGS} small tags, {version}, raised by 1:");
+    println!("  {:.1} ns for a tag", raise / TAGS as f64);
+    println!("  {:.2} times open and step to the end, where at most 2.00 is wanted", raise / walk);
+    println!("  {:.2} times the meter to the end", raise / meter);
+}
+
+/// The sum of all counters, each raised by 1.
+fn library_raise(tags: &mut [Vec<u8>]) -> u64 {
+    let mut counter = [0; SV_COUNTER_WORDS];
+    let raised = tags.iter_mut().map(|tag| {
+        assert_eq!(calls::raise(tag, b"room 7", 1, &mut counter), 0);
+        counter[0]
+    });
+    raised.sum()
 }
 
 // ---- a raw body is not looked at

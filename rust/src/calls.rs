@@ -158,3 +158,19 @@ pub fn finish(padding: u64, buffer: &[u8], output: &mut [u8], writer: &[u64], co
         )
     }
 }
+
+/// Adds an amount to the counter of a user's popularimeter, in place.
+pub fn raise(tag: &mut [u8], user: &[u8], amount: u64, counter: &mut [u64]) -> u32 {
+    // SAFETY: pointers and lengths are those of live slices, and those written are borrowed alone.
+    unsafe {
+        sys::sv_raise(
+            tag.as_mut_ptr(),
+            tag.len(),
+            user.as_ptr(),
+            user.len(),
+            amount,
+            counter.as_mut_ptr(),
+            counter.len(),
+        )
+    }
+}

@@ -6,6 +6,7 @@
 //! - [`Meter`] reads the counters of a tag that lies in memory, and nothing else.
 //! - [`header`] and [`Reader`] read all of it frame by frame, [`read`] at once.
 //! - [`Writer`] makes a tag of records.
+//! - [`raise`] adds to a counter in a tag, in place.
 //! - [`references`] unpacks a lookup table, [`Content::subframes`] what a chapter holds.
 //! - A [`Refusal`] is a number with its name and its meaning.
 //!
@@ -34,6 +35,7 @@ pub mod calls;
 mod id;
 mod kinds;
 mod meter;
+mod raise;
 mod reader;
 mod record;
 mod refusal;
@@ -46,6 +48,7 @@ mod writer;
 pub use id::Id;
 pub use kinds::{Encoding, Kind, Mode, Version};
 pub use meter::{Ending, Meter, Popularimeter};
+pub use raise::raise;
 pub use reader::{header, read, Header, Reader, Records};
 pub use record::{references, Content, Frame, Record, Reference, Table};
 pub use refusal::Refusal;

@@ -153,6 +153,16 @@ names! {
     ODD_REFERENCES = 34;
     /// a popularimeter's counter does not fit 64 bits
     COUNTER_TOO_LARGE = 35;
+    /// the tag is not plain: cut, extended, unsynchronised, a frame compressed or short, or padding not zero
+    NOT_PLAIN = 40;
+    /// no popularimeter of the top level has this user
+    USER_ABSENT = 41;
+    /// two or more popularimeters of the top level have this user
+    USER_TWICE = 42;
+    /// the counter and the amount sum to more than 64 bits hold
+    SUM_TOO_LARGE = 43;
+    /// the counter has too few bytes for the sum
+    COUNTER_TOO_SHORT = 44;
 }
 
 #[cfg(test)]
@@ -184,7 +194,7 @@ mod tests {
     #[test]
     fn other_numbers_say_that_they_are_none() {
         assert_eq!(Refusal::new(99).to_string(), "refused 99: a number that is none");
-        for number in [0, 15, 19, 36, 99, crate::sys::SV_END] {
+        for number in [0, 15, 19, 36, 39, 45, 99, crate::sys::SV_END] {
             assert_eq!(Refusal::from_number(number), None);
         }
     }

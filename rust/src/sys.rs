@@ -101,6 +101,17 @@ extern "C" {
         count: *mut u64,
         count_len: usize,
     ) -> u32;
+
+    /// Adds an amount to a counter in a tag, in place.
+    pub fn sv_raise(
+        tag: *mut u8,
+        tag_len: usize,
+        user: *const u8,
+        user_len: usize,
+        amount: u64,
+        counter: *mut u64,
+        counter_len: usize,
+    ) -> u32;
 }
 
 // ---- answers besides 0
@@ -179,6 +190,16 @@ refusals! {
     pub const SV_ODD_REFERENCES: u32 = 34;
     /// a popularimeter's counter does not fit 64 bits
     pub const SV_COUNTER_TOO_LARGE: u32 = 35;
+    /// the tag is not plain: cut, extended, unsynchronised, a frame compressed or short, or padding not zero
+    pub const SV_NOT_PLAIN: u32 = 40;
+    /// no popularimeter of the top level has this user
+    pub const SV_USER_ABSENT: u32 = 41;
+    /// two or more popularimeters of the top level have this user
+    pub const SV_USER_TWICE: u32 = 42;
+    /// the counter and the amount sum to more than 64 bits hold
+    pub const SV_SUM_TOO_LARGE: u32 = 43;
+    /// the counter has too few bytes for the sum
+    pub const SV_COUNTER_TOO_SHORT: u32 = 44;
 }
 
 // ---- the words of a header
@@ -381,3 +402,8 @@ pub const SV_MODE_STANDARD: u64 = 2;
 
 /// Words of a count.
 pub const SV_COUNT_WORDS: usize = 1;
+
+// ---- the word of a counter
+
+/// Words of a counter.
+pub const SV_COUNTER_WORDS: usize = 1;

@@ -207,7 +207,7 @@ fn numbers(constants: &Constants) -> BTreeMap<&str, u64> {
 
 // ---- the comparisons
 
-const EXPORTED: [&str; 10] = [
+const EXPORTED: [&str; 11] = [
     "sv_add",
     "sv_begin",
     "sv_begin_plain",
@@ -216,6 +216,7 @@ const EXPORTED: [&str; 10] = [
     "sv_meter_next",
     "sv_meter_open",
     "sv_open",
+    "sv_raise",
     "sv_references",
     "sv_step",
 ];

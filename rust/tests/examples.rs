@@ -6,6 +6,9 @@ mod common;
 #[path = "../examples/minutes.rs"]
 mod minutes;
 #[allow(dead_code)]
+#[path = "../examples/raise.rs"]
+mod raise;
+#[allow(dead_code)]
 #[path = "../examples/write.rs"]
 mod write;
 
@@ -13,7 +16,7 @@ use common::{command, compile, folder, root, said, Language};
 use std::io::Write;
 use std::path::{Path, PathBuf};
 use std::process::Stdio;
-use streamvault::{read, Content, Encoding, Record, Version};
+use streamvault::{read, Content, Encoding, Record, Refusal, Version};
 
 /// Compiles an example as C.
 fn compiled(name: &str, into: &Path) -> PathBuf {
@@ -105,4 +108,63 @@ fn what_write_made_is_read_back() {
     assert_eq!(records[1].content, Content::Popularimeter { user: b"room 7".to_vec(), rating: 0, counter: 65_280 });
     let subframes: Result<Vec<_>, _> = records[3].content.subframes(Version::Id3v24).collect();
     assert_eq!(subframes.unwrap(), [Record::new(b"TIT2", title("Part one"))]);
+}
+
+/// Raises in a copy of a sample by the C example: what it prints, its status, and the file then.
+fn raised_in_c(program: &Path, sample: &str, user: &str, amount: u64, into: &Path) -> (String, i32, Vec<u8>) {
+    let file = into.join("song.mp3");
+    std::fs::copy(root().join("samples").join(sample), &file).unwrap();
+    let (text, status) = said(&command(program).args([user, &amount.to_string()]).arg(&file).output().unwrap());
+    (text, status, std::fs::read(&file).unwrap())
+}
+
+/// The same by the Rust example, in the C example's words.
+fn raised_in_rust(sample: &str, user: &str, amount: u64, into: &Path) -> (String, i32, Vec<u8>) {
+    let file = into.join("song.mp3");
+    std::fs::copy(root().join("samples").join(sample), &file).unwrap();
+    let (text, status) = match raise::raise_in(&file, user.as_bytes(), amount) {
+        Ok(counter) => (format!("{counter}\n"), 0),
+        Err(error) => (format!("{error}\n"), 1),
+    };
+    (text, status, std::fs::read(&file).unwrap())
+}
+
+#[test]
+fn raise_adds_to_the_counter_in_the_file() {
+    let folder = folder("raise-example");
+    let program = compiled("raise", &folder);
+    for (sample, user, amount, want) in [
+        ("adverts/both.mp3", "adverts", 300, Ok(312)),
+        ("adverts/both.mp3", "room 1", 0, Ok(300)),
+        ("adverts/both.mp3", "room 1", 1, Ok(301)),
+        ("march/box.mp3", "room 3", u64::MAX - 720_000, Ok(u64::MAX)),
+        ("march/box.mp3", "room 3", u64::MAX, Err(Refusal::SUM_TOO_LARGE)),
+        ("adverts/full.mp3", "adverts", 1, Err(Refusal::COUNTER_TOO_SHORT)),
+        ("adverts/music.mp3", "adverts", 1, Err(Refusal::USER_ABSENT)),
+        ("march/third.mp3", "room 2", 1, Err(Refusal::NOT_PLAIN)),
+        ("march/no-tag.mp3", "room 2", 1, Err(Refusal::NO_TAG)),
+        ("damaged/cut-at-once.mp3", "room 2", 1, Err(Refusal::NO_TAG)),
+    ] {
+        let mut bytes = std::fs::read(root().join("samples").join(sample)).unwrap();
+        assert_eq!(streamvault::raise(&mut bytes, user.as_bytes(), amount), want);
+        let said = want.map_or_else(|refusal| refusal.to_string(), |counter| counter.to_string());
+        let want = (format!("{said}\n"), i32::from(want.is_err()), bytes);
+        assert_eq!(raised_in_c(&program, sample, user, amount, &folder), want);
+        assert_eq!(raised_in_rust(sample, user, amount, &folder), want);
+    }
+}
+
+#[test]
+fn raise_takes_no_amount_that_is_not_a_number_of_64_bits() {
+    let folder = folder("raise-amounts");
+    let (program, file) = (compiled("raise", &folder), folder.join("song.mp3"));
+    let song = root().join("samples/adverts/both.mp3");
+    std::fs::copy(&song, &file).unwrap();
+    for amount in ["", "-1", "+1", "1.5", "18446744073709551616", "99999999999999999999"] {
+        let output = command(&program).args(["adverts", amount]).arg(&file).output().unwrap();
+        assert_eq!(said(&output), (String::new(), 2), "{amount}");
+    }
+    assert_eq!(std::fs::read(&file).unwrap(), std::fs::read(&song).unwrap());
+    let output = command(&program).args(["room 1", "18446744073709551615"]).arg(&file).output().unwrap();
+    assert_eq!(said(&output), (format!("{}\n", Refusal::SUM_TOO_LARGE), 1));
 }

@@ -8,10 +8,12 @@ use std::fs::{self, File};
 use std::io::Read;
 use std::os::fd::AsRawFd;
 use std::os::unix::ffi::OsStrExt;
-use std::os::unix::fs::{symlink, OpenOptionsExt};
-use std::path::Path;
+use std::os::unix::fs::{symlink, OpenOptionsExt, PermissionsExt};
+use std::os::unix::process::CommandExt;
+use std::path::{Path, PathBuf};
 use std::process::{Command, Output, Stdio};
-use streamvault::{Content, Version, Writer};
+use std::time::{Duration, SystemTime};
+use streamvault::{read, Content, Mode, Refusal, Version, Writer};
 
 fn program() -> Command {
     let mut command = command(env!("CARGO_BIN_EXE_streamvault"));
@@ -29,7 +31,7 @@ fn err(output: &Output) -> String {
 
 /// A tag with a popularimeter of each user, all with the same counter.
 fn tag(users: &[&str], counter: u64) -> Vec<u8> {
-    let mut writer = Writer::new(Version::Id3v24);
+    let mut writer = Writer::new(Version::Id3v24).mode(Mode::Off);
     for user in users {
         writer.add(b"POPM", &Content::Popularimeter { user: user.as_bytes(), rating: 0, counter }).unwrap();
     }
@@ -64,7 +66,7 @@ fn the_sum_as_comma_separated_values() {
 fn the_sum_of_all_samples_lists_the_damaged_ones() {
     let output = run(&["sum", "samples", "--csv"]);
     let want =
-        "user,popularimeters,counter\nhex:636166E9,1,0\nroom 1,34,4294967655\nroom 2,11,67983\nroom 3,1,720000\n";
+        "user,popularimeters,counter\nadverts,2,267\nhex:636166E9,1,0\nroom 1,37,4294968555\nroom 2,11,67983\nroom 3,1,720000\n";
     assert_eq!(said(&output), (want.to_string(), 1));
     let listed = err(&output);
     assert!(listed.lines().all(|line| line.starts_with("samples/damaged/")), "{listed}");
@@ -78,8 +80,8 @@ fn the_sum_as_json() {
     let (out, status) = said(&run(&["sum", "--json", "samples"]));
     assert_eq!(status, 1);
     for part in [
-        r#"{"user": "room 1", "popularimeters": 34, "counter": "4294967655"}"#,
-        r#""tags": 43,"#,
+        r#"{"user": "room 1", "popularimeters": 37, "counter": "4294968555"}"#,
+        r#""tags": 46,"#,
         r#""without_tag": 3,"#,
         r#"{"file": "samples/damaged/cut-in-popularimeter-2.3.mp3", "number": 5, "meaning": "#,
         r#"{"file": "samples/damaged/refused-counter.mp3", "number": 35, "meaning": "#,
@@ -462,6 +464,10 @@ fn every_status() {
         (&["list", "samples/damaged/refused-counter.mp3"], 1),
         (&["list", "samples/damaged/cut-in-padding-2.4.mp3"], 1),
         (&["list", "samples/damaged/short-frame.mp3"], 1),
+        (&["raise", "--user", "adverts", "--by", "1", "--dry-run", "samples/adverts/both.mp3"], 0),
+        (&["raise", "--user", "adverts", "--by", "1", "--dry-run", "samples/adverts/full.mp3"], 1),
+        (&["raise", "--user", "adverts", "--by", "1", "--dry-run", "samples/no such"], 3),
+        (&["raise", "--user", "adverts", "--by", "1"], 2),
         (&["sum"], 2),
         (&["list", "samples/march/first.mp3", "samples/march/third.mp3"], 2),
         (&["sum", "samples/no such"], 3),
@@ -515,10 +521,292 @@ fn what_cannot_be_told_leaves_the_status() {
 
 #[test]
 fn bad_usage_is_status_2() {
-    for words in [&["sum"][..], &["list"], &["sum", "--xml", "."], &["sum", "--jobs", "0", "."], &["help!"]] {
+    let raises = [&["raise", "--user", "u", "."][..], &["raise", "--user", "u", "--by", "1", "-"]];
+    let others = [&["sum"][..], &["list"], &["sum", "--xml", "."], &["sum", "--jobs", "0", "."], &["help!"]];
+    for words in others.into_iter().chain(raises) {
         let output = run(words);
         assert_eq!(said(&output), (String::new(), 2), "{words:?}");
         assert!(err(&output).contains("usage: "), "{words:?}");
     }
     assert_eq!(said(&run(&["--help"])).1, 0);
+}
+
+// ---- raising
+
+/// A copy of a sample in a folder of this name, and its bytes.
+fn copied(name: &str, sample: &str) -> (PathBuf, Vec<u8>) {
+    let bytes = fs::read(root().join("samples").join(sample)).unwrap();
+    let path = folder(name).join("song.mp3");
+    fs::write(&path, &bytes).unwrap();
+    (path, bytes)
+}
+
+/// The command that raises a user's counter in these files.
+fn raising(user: &str, by: &str, files: &[&Path]) -> Command {
+    let mut command = program();
+    command.args(["raise", "--user", user, "--by", by]).args(files);
+    command
+}
+
+fn raise(user: &str, by: &str, files: &[&Path]) -> Output {
+    raising(user, by, files).output().unwrap()
+}
+
+/// Where the counter of a user begins in these bytes.
+fn counter_at(bytes: &[u8], user: &str) -> usize {
+    let named = [user.as_bytes(), b"\0\0"].concat();
+    bytes.windows(named.len()).position(|some| some == named).unwrap() + named.len()
+}
+
+/// The same bytes with others at a place.
+fn with(bytes: &[u8], place: usize, others: &[u8]) -> Vec<u8> {
+    let mut bytes = bytes.to_vec();
+    bytes[place..][..others.len()].copy_from_slice(others);
+    bytes
+}
+
+#[test]
+fn a_raise_changes_the_counter_and_nothing_else() {
+    let (path, bytes) = copied("raise", "adverts/both.mp3");
+    let output = raise("adverts", "300", &[&path]);
+    let line = format!("{}: raised by 300 from 12 to 312\n1 file raised, 0 refused\n", path.display());
+    assert_eq!((said(&output), err(&output).as_str()), ((line, 0), ""));
+    let adverts = with(&bytes, counter_at(&bytes, "adverts"), &[0, 0, 1, 0x38]);
+    assert_eq!(fs::read(&path).unwrap(), adverts);
+    // the other team's, then
+    assert_eq!(said(&raise("room 1", "1000000", &[&path])).1, 0);
+    assert_eq!(fs::read(&path).unwrap(), with(&adverts, counter_at(&bytes, "room 1"), &[0, 0x0F, 0x43, 0x6C]));
+    let want = "user,popularimeters,counter\nadverts,1,312\nroom 1,1,1000300\n";
+    assert_eq!(said(&run(&["sum", "--csv", path.to_str().unwrap()])), (want.to_string(), 0));
+}
+
+#[test]
+fn a_raise_that_is_only_tried_changes_nothing() {
+    let (path, bytes) = copied("raise-tried", "adverts/both.mp3");
+    let output = raising("adverts", "3", &[&path]).arg("--dry-run").output().unwrap();
+    let want = "would be raised by 3 from 12 to 15\n1 file would be raised, 0 refused; nothing was changed\n";
+    assert_eq!(said(&output), (format!("{}: {want}", path.display()), 0));
+    assert_eq!(fs::read(&path).unwrap(), bytes);
+}
+
+#[test]
+fn the_readme_shows_what_a_raise_prints() {
+    let files = ["both", "full", "music"].map(|name| format!("samples/adverts/{name}.mp3"));
+    let output = program().args(["raise", "--user", "adverts", "--by", "3", "--dry-run"]).args(files).output().unwrap();
+    let (out, status) = said(&output);
+    assert_eq!((out.lines().count(), status), (4, 1));
+    let shown: String = out.lines().map(|line| format!("    {line}\n")).collect();
+    assert!(fs::read_to_string(root().join("README.md")).unwrap().contains(&shown), "{shown}");
+}
+
+#[test]
+fn a_raise_by_nothing_writes_nothing() {
+    let (path, bytes) = copied("raise-by-0", "adverts/full.mp3");
+    let old = SystemTime::UNIX_EPOCH + Duration::from_secs(1_000_000_000);
+    File::options().write(true).open(&path).unwrap().set_modified(old).unwrap();
+    let modified = || fs::metadata(&path).unwrap().modified().unwrap();
+    let want = format!("{}: raised by 0 from 255 to 255\n1 file raised, 0 refused\n", path.display());
+    assert_eq!(said(&raise("adverts", "0", &[&path])), (want, 0));
+    assert_eq!((fs::read(&path).unwrap(), modified()), (bytes, old));
+    assert_eq!(said(&raise("room 1", "1", &[&path])).1, 0);
+    assert!(modified() > old);
+}
+
+#[test]
+fn what_is_not_raised_says_why_and_stays() {
+    let folder = folder("raise-refused");
+    let files: Vec<_> = [
+        ("adverts/full.mp3", 44),
+        ("adverts/music.mp3", 41),
+        ("march/third.mp3", 40),
+        ("march/second.mp3", 40),
+        ("march/no-tag.mp3", 1),
+        ("damaged/refused-edition.mp3", 2),
+        ("damaged/refused-encrypted.mp3", 8),
+        ("damaged/refused-counter.mp3", 35),
+        ("damaged/cut-at-once.mp3", 1),
+        ("damaged/cut-in-extended-header.mp3", 5),
+        ("damaged/cut-in-padding-2.2.mp3", 40),
+        ("damaged/cut-in-padding-2.3.mp3", 40),
+        ("damaged/cut-in-popularimeter-2.3.mp3", 5),
+        ("damaged/cut-in-popularimeter-2.4.mp3", 40),
+        ("damaged/compressed-2.3.mp3", 40),
+        ("damaged/small-size-2.4.mp3", 40),
+        ("damaged/behind-padding-2.2.mp3", 40),
+    ]
+    .map(|(sample, number)| (fs::read(root().join("samples").join(sample)).unwrap(), number))
+    .into_iter()
+    .chain([(tag(&["adverts", "room 1", "adverts"], 7), 42), (tag(&["adverts"], u64::MAX), 43)])
+    .collect();
+    let paths: Vec<_> = (0..files.len()).map(|number| folder.join(format!("{number}.mp3"))).collect();
+    let mut want = String::new();
+    for (path, (bytes, number)) in paths.iter().zip(&files) {
+        fs::write(path, bytes).unwrap();
+        want += &format!("{}: {}\n", path.display(), Refusal::from_number(*number).unwrap());
+    }
+    want += &format!("0 files raised, {} refused\n", files.len());
+    let output = raise("adverts", "1", &paths.iter().map(PathBuf::as_path).collect::<Vec<_>>());
+    assert_eq!((said(&output), err(&output).as_str()), ((want, 1), ""));
+    for (path, (bytes, _)) in paths.iter().zip(&files) {
+        assert_eq!(&fs::read(path).unwrap(), bytes, "{}", path.display());
+    }
+}
+
+#[test]
+fn every_file_that_can_be_raised_is() {
+    let folder = folder("raise-several");
+    let place = |name: &str| folder.join(name);
+    for name in ["a.mp3", "b.mp3", "c.mp3"] {
+        fs::write(place(name), tag(&["adverts"], if name == "b.mp3" { 255 } else { 7 })).unwrap();
+    }
+    symlink("gone", place("dangling.mp3")).unwrap();
+    let names = ["a.mp3", "b.mp3", ".", "dangling.mp3", "c.mp3"].map(place);
+    let output = raise("adverts", "2", &names.each_ref().map(PathBuf::as_path));
+    let (out, status) = said(&output);
+    assert_eq!(status, 3);
+    let lines: Vec<_> = out.lines().collect();
+    for (line, (path, want)) in lines.iter().zip(names.iter().zip([
+        "raised by 2 from 7 to 9",
+        "refused 44: ",
+        "not readable: not a file",
+        "not readable: No such file",
+        "raised by 2 from 7 to 9",
+    ])) {
+        assert!(line.starts_with(&format!("{}: {want}", path.display())), "{line}");
+    }
+    assert_eq!(lines[5..], ["2 files raised, 1 refused, 2 not read or written"]);
+    assert_eq!(fs::read(place("c.mp3")).unwrap(), tag(&["adverts"], 9));
+}
+
+#[test]
+fn a_file_is_raised_once_by_whatever_names() {
+    let (path, bytes) = copied("raise-twice", "adverts/both.mp3");
+    let beside = |name: &str| path.with_file_name(name);
+    symlink("song.mp3", beside("link.mp3")).unwrap();
+    fs::hard_link(&path, beside("name.mp3")).unwrap();
+    // the name given first is that which is raised: here the link, which stays one
+    let names = [beside("link.mp3"), path.clone(), path.clone(), beside("name.mp3"), beside("./song.mp3")];
+    let (out, status) = said(&raise("adverts", "1", &names.each_ref().map(PathBuf::as_path)));
+    assert_eq!(status, 1);
+    let mut want = format!("{}: raised by 1 from 12 to 13\n", names[0].display());
+    for again in &names[1..] {
+        want += &format!("{}: the same file as {}, taken once\n", again.display(), names[0].display());
+    }
+    assert_eq!(out, want + "1 file raised, 0 refused, 4 named again\n");
+    assert_eq!(fs::read(&path).unwrap(), with(&bytes, counter_at(&bytes, "adverts"), &[0, 0, 0, 13]));
+    assert!(fs::symlink_metadata(beside("link.mp3")).unwrap().is_symlink());
+}
+
+#[test]
+fn users_are_any_bytes() {
+    let folder = folder("raise-users");
+    let song = |name: &str, user: &[u8]| {
+        let mut writer = Writer::new(Version::Id3v22).mode(Mode::Off);
+        writer.add(b"POP", &Content::Popularimeter { user, rating: 9, counter: 0xF0 }).unwrap();
+        fs::write(folder.join(name), writer.finish(3).unwrap()).unwrap();
+        folder.join(name)
+    };
+    let raised = |path: &Path, option: &str, user: &OsStr| {
+        let output = program().args(["raise", option]).arg(user).args(["--by", "2"]).arg(path).output().unwrap();
+        (read(&fs::read(path).unwrap()).unwrap().remove(0).content, said(&output).1)
+    };
+    for (name, user) in [("latin", &b"caf\xE9"[..]), ("none", b""), ("hex", b"hex:00"), ("option", b"--by")] {
+        let path = song(name, user);
+        let want = |counter| Content::Popularimeter { user: user.to_vec(), rating: 9, counter };
+        assert_eq!(raised(&path, "--user", OsStr::from_bytes(user)), (want(0xF2), 0));
+        let hex: String = user.iter().map(|byte| format!("{byte:02X}")).collect();
+        assert_eq!(raised(&path, "--user-hex", OsStr::new(&hex)), (want(0xF4), 0));
+        assert_eq!(raised(&path, "--user-hex", OsStr::new(&format!("hex:{hex}"))), (want(0xF6), 0));
+        // as text it is another user
+        assert_eq!(raised(&path, "--user", OsStr::new(&format!("hex:{hex}"))), (want(0xF6), 1));
+    }
+}
+
+#[test]
+fn only_the_tag_of_a_large_file_is_touched() {
+    let (path, bytes) = copied("raise-large", "adverts/both.mp3");
+    File::options().write(true).open(&path).unwrap().set_len(1 << 40).unwrap();
+    assert_eq!(said(&raise("adverts", "1", &[&path])).1, 0);
+    let mut front = vec![0; bytes.len()];
+    File::open(&path).unwrap().read_exact(&mut front).unwrap();
+    assert_eq!(front, with(&bytes, counter_at(&bytes, "adverts"), &[0, 0, 0, 13]));
+    assert_eq!(fs::metadata(&path).unwrap().len(), 1 << 40);
+}
+
+#[test]
+fn a_file_that_may_not_be_written_stays() {
+    let (path, bytes) = copied("raise-read-only", "adverts/both.mp3");
+    fs::set_permissions(&path, fs::Permissions::from_mode(0o444)).unwrap();
+    assert_eq!(said(&raising("adverts", "1", &[&path]).arg("--dry-run").output().unwrap()).1, 0);
+    // who may do everything may write it nevertheless
+    let may = File::options().write(true).open(&path).is_ok();
+    let (out, status) = said(&raise("adverts", "1", &[&path]));
+    let failed = out.contains(": not raised: ") && out.ends_with("0 files raised, 0 refused, 1 not read or written\n");
+    assert_eq!((status, failed), if may { (0, false) } else { (3, true) }, "{out}");
+    assert_eq!(fs::read(&path).unwrap() == bytes, !may);
+}
+
+extern "C" {
+    fn setrlimit(resource: i32, limits: &[u64; 2]) -> i32;
+    fn signal(number: i32, action: usize) -> usize;
+}
+
+/// Lets a command write to no file beyond this byte: a write that begins before it is cut there.
+fn limit(command: &mut Command, end: usize) {
+    const SIGXFSZ: i32 = 25;
+    const IGNORED: usize = 1;
+    const RLIMIT_FSIZE: i32 = 1;
+    let limited = move || {
+        // SAFETY: both calls may be made between fork and exec, and the limits are lent.
+        let done = unsafe { signal(SIGXFSZ, IGNORED) != usize::MAX && setrlimit(RLIMIT_FSIZE, &[end as u64; 2]) == 0 };
+        done.then_some(()).ok_or_else(std::io::Error::last_os_error)
+    };
+    // SAFETY: it makes those calls and nothing else.
+    unsafe { command.pre_exec(limited) };
+}
+
+#[test]
+fn a_write_that_fails_or_stops_is_told_and_the_file_stays() {
+    let path = folder("raise-unwritten").join("song.mp3");
+    let bytes = [&b"ID3\x04\0\0\0\0\0\x0FPOPM\0\0\0\x05\0\0a\0\0\0\xFF"[..], b"sound"].concat();
+    let place = 23;
+    fs::write(&path, &bytes).unwrap();
+    for (end, why) in
+        [(place, "File too large"), (place + 1, "only 1 of 2 counter bytes were written, and put back as they were\n")]
+    {
+        let mut command = raising("a", "1", &[&path]);
+        limit(&mut command, end);
+        let (out, status) = said(&command.output().unwrap());
+        assert_eq!(status, 3, "{out}");
+        assert!(out.starts_with(&format!("{}: not raised: {why}", path.display())), "{out}");
+        assert!(out.ends_with("\n0 files raised, 0 refused, 1 not read or written\n"), "{out}");
+        assert_eq!(fs::read(&path).unwrap(), bytes);
+    }
+    let mut command = raising("a", "1", &[&path]);
+    limit(&mut command, place + 2);
+    assert_eq!(said(&command.output().unwrap()).1, 0);
+    assert_eq!(fs::read(&path).unwrap(), with(&bytes, place, &[1, 0]));
+}
+
+#[test]
+fn a_raise_that_cannot_be_printed_is_told_and_is_the_last() {
+    let folder = folder("raise-unprinted");
+    let [first, second] = ["a.mp3", "b.mp3"].map(|name| folder.join(name));
+    // a pipe that nothing reads any more
+    let mut reader = Command::new("true").stdin(Stdio::piped()).spawn().unwrap();
+    let pipe = reader.stdin.take().unwrap();
+    reader.wait().unwrap();
+    let full = File::options().write(true).open("/dev/full").unwrap();
+    for out in [Stdio::from(full), File::open("/dev/null").unwrap().into(), pipe.into()] {
+        for path in [&first, &second] {
+            fs::write(path, tag(&["adverts"], 7)).unwrap();
+        }
+        let mut command = raising("adverts", "1", &[&first, &second]);
+        let output = command.stdout(out).stderr(Stdio::piped()).output().unwrap();
+        assert_eq!(output.status.code(), Some(1));
+        let told = format!("streamvault: {}: raised by 1 from 7 to 8\nstreamvault: no further file", first.display());
+        assert!(err(&output).starts_with(&told), "{}", err(&output));
+        assert_eq!(fs::read(&first).unwrap(), tag(&["adverts"], 8));
+        assert_eq!(fs::read(&second).unwrap(), tag(&["adverts"], 7));
+    }
 }

@@ -88,6 +88,8 @@ fn the_names_are_constants() {
     assert_eq!(Refusal::NO_ROOM.number(), 20);
     assert_eq!(Refusal::ODD_REFERENCES.number(), 34);
     assert_eq!(Refusal::COUNTER_TOO_LARGE.number(), 35);
+    assert_eq!(Refusal::NOT_PLAIN.number(), 40);
+    assert_eq!(Refusal::COUNTER_TOO_SHORT.number(), 44);
     let is_about_tables = |refusal| matches!(refusal, Refusal::WRONG_WIDTH | Refusal::WIDTHS_NOT_IN_FOURS);
     assert!(is_about_tables(Refusal::WRONG_WIDTH) && !is_about_tables(Refusal::ENCRYPTED));
 }

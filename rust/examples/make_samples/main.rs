@@ -1,4 +1,5 @@
-//! Makes the files below `samples/`: a month's folder that is read whole, and files that are damaged.
+//! Makes the files below `samples/`: a month's folder that is read whole, songs with adverts, whose counters can be raised
+//! or cannot, and files that are damaged.
 //!
 //!     cargo run --example make_samples -- ../samples
 //!
@@ -37,7 +38,7 @@ fn write(path: &Path, bytes: &[u8]) -> io::Result<()> {
 pub fn samples() -> Result<Vec<(PathBuf, Vec<u8>)>, Refusal> {
     let damaged = damaged::files()?.into_iter();
     let damaged = damaged.map(|(name, bytes)| (format!("damaged/{name}.mp3").into(), bytes));
-    Ok(march()?.into_iter().chain(damaged).collect())
+    Ok(march()?.into_iter().chain(adverts()?).chain(damaged).collect())
 }
 
 /// A month's folder.
@@ -57,14 +58,36 @@ fn march() -> Result<Vec<(PathBuf, Vec<u8>)>, Refusal> {
     ])
 }
 
-/// A tag of the family of boxes that starts with a counter of twelve bytes, mostly zeros: here 720,000. The library
-/// writes no zeros in front of a counter, so that the popularimeter is laid out here.
+/// Songs that the advert team counts in too: one where its counter can be raised, one where it has no room to grow, and one
+/// without it.
+fn adverts() -> Result<Vec<(PathBuf, Vec<u8>)>, Refusal> {
+    let room: (&[u8], &[u8]) = (b"room 1", &[0, 0, 1, 0x2C]);
+    let both = laid_out("Both", &[room, (b"adverts", &[0, 0, 0, 12])])?;
+    let full = laid_out("Full", &[room, (b"adverts", &[255])])?;
+    let music = laid_out("Music alone", &[room])?;
+    Ok(vec![
+        ("adverts/both.mp3".into(), file(&both)),
+        ("adverts/full.mp3".into(), file(&full)),
+        ("adverts/music.mp3".into(), file(&music)),
+    ])
+}
+
+/// A tag of the family of boxes that starts with a counter of twelve bytes, mostly zeros: here 720,000.
 fn box_tag() -> Result<Vec<u8>, Refusal> {
+    laid_out("Box song", &[(b"room 3", &[0, 0, 0, 0, 0, 0, 0, 0, 0, 0x0A, 0xFC, 0x80])])
+}
+
+/// A 2.3 tag with a title and popularimeters of these counter bytes. The library writes no zeros in front of a counter, so
+/// that the popularimeters are laid out here.
+fn laid_out(title: &str, users: &[(&[u8], &[u8])]) -> Result<Vec<u8>, Refusal> {
     let mut writer = Writer::new(Version::Id3v23).mode(Mode::Off);
-    add_title(&mut writer, "Box song")?;
-    let title = writer.finish(0)?;
-    let counter = [0, 0, 0, 0, 0, 0, 0, 0, 0, 0x0A, 0xFC, 0x80];
-    let mut tag = [&title[..], b"POPM\0\0\0\x14\0\0room 3\0\0", &counter, &[0; PADDING]].concat();
+    add_title(&mut writer, title)?;
+    let mut tag = writer.finish(0)?;
+    for (user, counter) in users {
+        let size = (user.len() + 2 + counter.len()) as u8;
+        tag.extend([b"POPM\0\0\0", &[size][..], b"\0\0", user, b"\0\0", counter].concat());
+    }
+    tag.extend([0; PADDING]);
     let len = tag.len();
     set_size(&mut tag, len);
     Ok(tag)

@@ -1,6 +1,8 @@
 //! What several tests use: running and compiling programs, a folder of one's own, long counters, and a generator of numbers.
 #![allow(dead_code)]
 
+pub mod layout;
+
 use std::fs;
 use std::path::{Path, PathBuf};
 use std::process::{Command, Output};

@@ -78,6 +78,32 @@ pub fn with_counters(numbers: &mut Numbers) -> Vec<u8> {
     tag
 }
 
+/// A tag that is mostly plain, with popularimeters of these users, now and then inside a chapter, and a frame of any sort.
+pub fn with_users(numbers: &mut Numbers, users: &[&[u8]]) -> Vec<u8> {
+    let edition = 2 + numbers.below(3) as u8;
+    let id = if edition == 2 { id3(b"POP") } else { id4(b"POPM") };
+    let mut frames = Vec::new();
+    for _ in 0..numbers.below(4) {
+        let len = numbers.below(10);
+        let some = numbers.bytes(1 + len);
+        let body = [numbers.one(users), &b"\0"[..], &rating_and_counter(numbers, some)].concat();
+        let mut made = [head(edition, id, body.len(), 0), body].concat();
+        if edition > 2 && numbers.once_in(6) {
+            made = [head(edition, id4(b"CHAP"), 17 + made.len(), 0), vec![0; 17], made].concat();
+        }
+        frames.extend(made);
+        if numbers.once_in(6) {
+            frames.extend(frame(numbers, edition, 2));
+        }
+    }
+    if numbers.once_in(4) {
+        return around(numbers, edition, &frames);
+    }
+    frames.extend(vec![0; numbers.below(12)]);
+    let behind = if numbers.once_in(8) { numbers.bytes(3) } else { Vec::new() };
+    [&[b'I', b'D', b'3', edition, 0, 0], &synchsafe(frames.len())[..], &frames, &behind].concat()
+}
+
 /// Cuts one tag in four, and changes some bytes of another.
 fn spoil(numbers: &mut Numbers, tag: &mut Vec<u8>) {
     match numbers.below(4) {

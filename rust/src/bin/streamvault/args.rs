@@ -1,13 +1,16 @@
 //! The words of the command line.
 
+use crate::raise::Order;
 use crate::show;
 use std::ffi::{OsStr, OsString};
+use std::os::unix::ffi::OsStrExt;
 use std::path::PathBuf;
 
 /// What is printed where the words make no command.
 pub const USAGE: &str = "\
 usage: streamvault sum [--csv | --json] [--jobs N] PATH...
        streamvault list FILE
+       streamvault raise (--user U | --user-hex U) --by N [--dry-run] FILE...
        streamvault --help | --version";
 
 /// What `--help` prints.
@@ -72,14 +75,39 @@ streamvault list FILE
     A refusal is the last line. What else sum would list of this tag is said on
     standard error. Further tags are not looked for.
 
+streamvault raise (--user U | --user-hex U) --by N [--dry-run] FILE...
+
+    Adds N to the counter of the user U in the tag at the front of each file, in
+    place: no other byte of the file changes, and nothing of the sound is read.
+
+    - One popularimeter of the top level has that user, and the sum fits the bytes
+      of its counter. The tag is plain: whole, without extended header,
+      unsynchronisation and compression, and with zeros alone after its frames.
+      Else the file is refused, with the number and its meaning, and stays as it
+      was.
+    - The changed bytes are written by one write, and only if the file still has
+      its length and the tag that was read.
+    - A file that is named twice, by whatever name, is raised once. The second name
+      counts as not raised.
+    - Links to files are followed. Folders are not entered.
+
+    A line for each file says the old and the new counter, or why it was not raised.
+    The last line counts. A raise adds each time: run again only what was not raised.
+
+    --user U      the bytes of the user as they are given, which may be none
+    --user-hex U  the same in hexadecimal, as list prints it, or sum after hex:
+    --by N        0 to 18446744073709551615
+    --dry-run     opens the files for reading only, changes nothing, and says what
+                  would be
+
 Exit status:
 
-    0  all was read to its end, and printed
-    1  something was refused or cut, or may be missing from the sum or the list;
-       or not all could be printed
+    0  all was read to its end, and printed; every file that was named was raised
+    1  something was refused or cut, or may be missing from the sum or the list; a
+       file was named twice to be raised; or not all could be printed
     2  bad usage
-    3  a file or a folder could not be read, whatever else was listed: make it
-       readable and run again
+    3  a file or a folder could not be read or written, whatever else was listed:
+       make it so and run again, a raise only for the files that were not raised
 ";
 
 /// How a sum is printed.
@@ -107,6 +135,8 @@ pub enum Command {
     Sum { format: Format, jobs: Option<usize>, paths: Vec<PathBuf> },
     /// List one file.
     List { file: PathBuf },
+    /// Raise a counter in each file.
+    Raise { order: Order, files: Vec<PathBuf> },
 }
 
 /// The command that the words make, or why they make none.
@@ -118,6 +148,7 @@ pub fn parse(words: &[OsString]) -> Result<Command, String> {
         Some("--version" | "-V") => Ok(Command::Version),
         Some("sum") => sum(rest),
         Some("list") => list(rest),
+        Some("raise") => raise(rest),
         _ => Err(format!("unknown command: {}", shown(first))),
     }
 }
@@ -142,8 +173,8 @@ impl<'a> Words<'a> {
     }
 
     /// What follows an option.
-    fn value(&mut self) -> Option<&'a str> {
-        self.rest.next()?.to_str()
+    fn value(&mut self) -> Option<&'a OsString> {
+        self.rest.next()
     }
 }
 
@@ -193,8 +224,8 @@ fn only(before: Format, named: Format) -> Result<Format, String> {
 }
 
 /// The number of threads that a word says.
-fn threads(word: Option<&str>) -> Result<usize, String> {
-    let number = word.and_then(|word| word.parse().ok());
+fn threads(word: Option<&OsString>) -> Result<usize, String> {
+    let number = word.and_then(|word| word.to_str()?.parse().ok());
     let number = number.filter(|number| (1..=MOST_JOBS).contains(number));
     number.ok_or_else(|| format!("--jobs needs a number from 1 to {MOST_JOBS}"))
 }
@@ -212,6 +243,58 @@ fn list(words: &[OsString]) -> Result<Command, String> {
         Ok([file]) => Ok(Command::List { file }),
         Err(_) => Err("list needs one file".to_string()),
     }
+}
+
+/// A raise: the user and the amount are given once, the files as often as wanted.
+fn raise(words: &[OsString]) -> Result<Command, String> {
+    let (mut user, mut amount, mut dry_run, mut files) = (None, None, false, Vec::new());
+    let mut words = Words::of(words);
+    while let Some(word) = words.next() {
+        match word {
+            Word::Path(file) if file == "-" => return Err("raise changes files, not standard input".to_string()),
+            Word::Path(file) => files.push(PathBuf::from(file)),
+            Word::Option(option) => match option.to_str() {
+                Some("--user") => once(&mut user, bytes(words.value())?, "a user")?,
+                Some("--user-hex") => once(&mut user, from_hex(words.value())?, "a user")?,
+                Some("--by") => once(&mut amount, whole_number(words.value())?, "--by")?,
+                Some("--dry-run") => dry_run = true,
+                Some("--help" | "-h") => return Ok(Command::Help),
+                _ => return Err(no_option(option)),
+            },
+        }
+    }
+    let user = user.ok_or("raise needs --user or --user-hex")?;
+    let amount = amount.ok_or("raise needs --by")?;
+    if files.is_empty() {
+        return Err("raise needs a file".to_string());
+    }
+    Ok(Command::Raise { order: Order { user, amount, dry_run }, files })
+}
+
+/// Takes what may be given once.
+fn once<T>(place: &mut Option<T>, given: T, what: &str) -> Result<(), String> {
+    match place.replace(given) {
+        None => Ok(()),
+        Some(_) => Err(format!("{what} is given twice")),
+    }
+}
+
+/// The bytes of a word.
+fn bytes(word: Option<&OsString>) -> Result<Vec<u8>, String> {
+    word.map(|word| word.as_bytes().to_vec()).ok_or_else(|| "--user needs a user".to_string())
+}
+
+/// The bytes that a word has in hexadecimal, two digits each, as `list` prints them or `sum` after `hex:`.
+fn from_hex(word: Option<&OsString>) -> Result<Vec<u8>, String> {
+    word.and_then(|word| show::unhex(word.to_str()?))
+        .ok_or_else(|| "--user-hex needs pairs of hexadecimal digits".to_string())
+}
+
+/// The number that digits say.
+fn whole_number(word: Option<&OsString>) -> Result<u64, String> {
+    let digits = word.and_then(|word| word.to_str()).filter(|word| word.bytes().all(|byte| byte.is_ascii_digit()));
+    let number = digits.and_then(|digits| digits.parse().ok());
+    number.ok_or_else(|| format!("--by needs a number from 0 to {}", u64::MAX))
 }
 
 fn no_option(option: &OsStr) -> String {
@@ -259,9 +342,61 @@ mod tests {
     }
 
     #[test]
+    fn a_raise_has_a_user_an_amount_and_files() {
+        let want = |user: &[u8], amount, dry_run| {
+            let files = vec![PathBuf::from("a"), PathBuf::from("b")];
+            Ok(Command::Raise { order: Order { user: user.to_vec(), amount, dry_run }, files })
+        };
+        assert_eq!(parsed(&["raise", "--user", "room 7", "--by", "3", "a", "b"]), want(b"room 7", 3, false));
+        assert_eq!(parsed(&["raise", "a", "--dry-run", "--by", "0", "b", "--user", ""]), want(b"", 0, true));
+        assert_eq!(parsed(&["raise", "--user", "--by", "--by", "1", "a", "b"]), want(b"--by", 1, false));
+        for hex in ["636166E9", "hex:636166E9", "636166e9"] {
+            assert_eq!(parsed(&["raise", "--user-hex", hex, "--by", "1", "a", "b"]), want(b"caf\xE9", 1, false));
+        }
+        let most = u64::MAX.to_string();
+        assert_eq!(parsed(&["raise", "--user-hex", "", "--by", &most, "a", "b"]), want(b"", u64::MAX, false));
+    }
+
+    #[test]
+    fn a_user_is_any_bytes() {
+        let user = OsStr::from_bytes(b"caf\xE9").to_os_string();
+        let words = ["raise".into(), "--user".into(), user, "--by".into(), "1".into(), "a".into()];
+        let order = Order { user: b"caf\xE9".to_vec(), amount: 1, dry_run: false };
+        assert_eq!(parse(&words), Ok(Command::Raise { order, files: vec![PathBuf::from("a")] }));
+    }
+
+    #[test]
+    fn what_makes_no_raise_says_why() {
+        let by = "--by needs a number from 0 to 18446744073709551615";
+        for (words, why) in [
+            (&["raise", "--by", "1", "a"][..], "raise needs --user or --user-hex"),
+            (&["raise", "--user", "u", "a"], "raise needs --by"),
+            (&["raise", "--user", "u", "--by", "1"], "raise needs a file"),
+            (&["raise", "--user", "u", "--by", "1", "-"], "raise changes files, not standard input"),
+            (&["raise", "--user", "u", "--user", "u", "--by", "1", "a"], "a user is given twice"),
+            (&["raise", "--user", "u", "--user-hex", "75", "--by", "1", "a"], "a user is given twice"),
+            (&["raise", "--user", "u", "--by", "1", "--by", "1", "a"], "--by is given twice"),
+            (&["raise", "--by", "1", "a", "--user"], "--user needs a user"),
+            (&["raise", "--user-hex", "7", "--by", "1", "a"], "--user-hex needs pairs of hexadecimal digits"),
+            (&["raise", "--user-hex", "+7", "--by", "1", "a"], "--user-hex needs pairs of hexadecimal digits"),
+            (&["raise", "--user-hex", "u\u{308}", "--by", "1", "a"], "--user-hex needs pairs of hexadecimal digits"),
+            (&["raise", "--user", "u", "--by", "", "a"], by),
+            (&["raise", "--user", "u", "--by", "+1", "a"], by),
+            (&["raise", "--user", "u", "--by", "-1", "a"], by),
+            (&["raise", "--user", "u", "--by", "1.5", "a"], by),
+            (&["raise", "--user", "u", "--by", "18446744073709551616", "a"], by),
+            (&["raise", "--user", "u", "--by"], by),
+            (&["raise", "--users", "u"], "unknown option: --users"),
+        ] {
+            assert_eq!(parsed(words), Err(why.to_string()), "{words:?}");
+        }
+    }
+
+    #[test]
     fn help_is_found_after_a_command() {
         assert_eq!(parsed(&["sum", "--help"]), Ok(Command::Help));
         assert_eq!(parsed(&["list", "-h"]), Ok(Command::Help));
+        assert_eq!(parsed(&["raise", "--help"]), Ok(Command::Help));
     }
 
     #[test]

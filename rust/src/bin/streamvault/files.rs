@@ -22,9 +22,10 @@ pub enum Met {
 }
 
 /// Device and number, which a file or a folder keeps under every name.
-type Identity = (u64, u64);
+pub type Identity = (u64, u64);
 
-fn identity(metadata: &Metadata) -> Identity {
+/// Of a file or a folder that was looked at.
+pub fn identity(metadata: &Metadata) -> Identity {
     (metadata.dev(), metadata.ino())
 }
 

@@ -1,4 +1,4 @@
-//! Sums the popularimeters of sound files by user, and lists the frames of a tag.
+//! Sums the popularimeters of sound files by user, lists the frames of a tag, and raises counters in place.
 
 mod args;
 mod files;
@@ -6,6 +6,7 @@ mod left;
 mod list;
 mod parts;
 mod progress;
+mod raise;
 mod report;
 mod show;
 mod sum;
@@ -13,23 +14,24 @@ mod sum;
 use args::{Command, Format};
 use files::Files;
 use progress::Progress;
+use raise::{Order, Raiser};
 use std::ffi::OsString;
 use std::fs::File;
 use std::io::{self, BufWriter, ErrorKind, IsTerminal, Write};
 use std::num::NonZero;
 use std::os::fd::AsFd;
-use std::path::Path;
+use std::path::{Path, PathBuf};
 use std::process::ExitCode;
 use std::thread;
 use sum::{Lack, Sum, TooLarge};
 
-/// Everything was read and printed.
+/// Everything was read, or raised, and printed.
 const ALL_READ: u8 = 0;
-/// Something was refused or cut, may be missing from the sum, or was not printed.
+/// Something was refused or cut, may be missing from the sum, was not raised, or was not printed.
 const NOT_ALL: u8 = 1;
 /// The words given make no command.
 const BAD_USAGE: u8 = 2;
-/// A file or a folder could not be read, whatever else holds.
+/// A file or a folder could not be read or written, whatever else holds.
 const UNREADABLE: u8 = 3;
 
 fn main() -> ExitCode {
@@ -79,6 +81,7 @@ fn run(words: &[OsString], to: &mut Outputs<'_>, progress: Progress) -> io::Resu
             show_sum(format, sum, to)
         }
         Ok(Command::List { file }) => run_list(&file, to),
+        Ok(Command::Raise { order, files }) => run_raise(&order, &files, to, progress),
         Err(message) => {
             tell(to.err, &format!("{message}\n\n{}", args::USAGE));
             Ok(BAD_USAGE)
@@ -149,6 +152,28 @@ fn read_tag(file: &Path, tag: &mut Vec<u8>) -> io::Result<()> {
     read.map(|_| ())
 }
 
+/// Raises a counter in each file. A line is printed before the next file is looked at: where it cannot be, it is told, and
+/// no further file is raised.
+fn run_raise(order: &Order, files: &[PathBuf], to: &mut Outputs<'_>, mut progress: Progress) -> io::Result<u8> {
+    let mut raiser = Raiser::new(order);
+    for path in files {
+        let line = raiser.file(path);
+        writeln!(to.out, "{line}").and_then(|()| to.out.flush()).inspect_err(|_| {
+            tell(to.err, &line);
+            tell(to.err, "no further file was raised");
+        })?;
+        if !to.terminal {
+            progress.file();
+        }
+    }
+    writeln!(to.out, "{}", raiser.counts())?;
+    Ok(match (raiser.any_failed(), raiser.all_raised()) {
+        (true, _) => UNREADABLE,
+        (false, true) => ALL_READ,
+        (false, false) => NOT_ALL,
+    })
+}
+
 #[cfg(test)]
 mod tests {
     use super::*;
@@ -163,11 +188,12 @@ mod tests {
     }
 
     #[test]
-    fn help_names_both_commands_and_every_status() {
+    fn help_names_every_command_and_every_status() {
         let (status, out, err) = said(&["--help"]);
         assert_eq!((status, err.as_str()), (ALL_READ, ""));
         let parts = ["streamvault sum", "streamvault list", "--csv", "--json", "--jobs N", "inside chapters", "hex:"];
-        for part in parts.into_iter().chain(["\n    0  ", "\n    1  ", "\n    2  ", "\n    3  "]) {
+        let raise = ["streamvault raise", "--user U", "--user-hex U", "--by N", "--dry-run", "named twice"];
+        for part in parts.into_iter().chain(raise).chain(["\n    0  ", "\n    1  ", "\n    2  ", "\n    3  "]) {
             assert!(out.contains(part), "{part}");
         }
     }
@@ -182,7 +208,9 @@ mod tests {
 
     #[test]
     fn bad_usage_is_status_2_and_prints_nothing() {
-        for words in [&[][..], &["sum"], &["list"], &["list", "a", "b"], &["sum", "--xml", "a"], &["drop", "a"]] {
+        let raises = [&["raise"][..], &["raise", "a"], &["raise", "--user", "u", "a"], &["raise", "--by", "1", "a"]];
+        let others = [&[][..], &["sum"], &["list"], &["list", "a", "b"], &["sum", "--xml", "a"], &["drop", "a"]];
+        for words in others.into_iter().chain(raises) {
             let (status, out, err) = said(words);
             assert_eq!((status, out.as_str()), (BAD_USAGE, ""), "{words:?}");
             assert!(err.starts_with("streamvault: "), "{words:?}");
@@ -198,6 +226,10 @@ mod tests {
         let (status, out, err) = said(&["list", missing]);
         assert_eq!((status, out.as_str()), (UNREADABLE, ""));
         assert!(err.contains(missing));
+        let (status, out, err) = said(&["raise", "--user", "u", "--by", "1", missing]);
+        assert_eq!((status, err.as_str()), (UNREADABLE, ""));
+        assert!(out.contains(missing));
+        assert!(out.ends_with("\n0 files raised, 0 refused, 1 not read or written\n"), "{out}");
     }
 
     #[test]
@@ -237,8 +269,8 @@ mod tests {
 
     #[test]
     fn what_cannot_be_printed_is_an_error() {
-        for words in [&["sum", "no such"][..], &["sum", "--csv", "no such"], &["sum", "--json", "no such"], &["--help"]]
-        {
+        let sums = [&["sum", "no such"][..], &["sum", "--csv", "no such"], &["sum", "--json", "no such"]];
+        for words in sums.into_iter().chain([&["--help"][..], &["raise", "--user", "u", "--by", "1", "no such"]]) {
             let words: Vec<OsString> = words.iter().map(OsString::from).collect();
             let mut outputs = Outputs { out: &mut Full, terminal: false, err: &mut Vec::new() };
             assert!(run(&words, &mut outputs, Progress::new(false)).is_err());

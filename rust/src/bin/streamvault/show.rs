@@ -15,6 +15,17 @@ pub fn hex(bytes: &[u8]) -> String {
     })
 }
 
+/// The bytes that pairs of hexadecimal digits say, also after `hex:`; nothing where they are no such pairs.
+pub fn unhex(text: &str) -> Option<Vec<u8>> {
+    let digits = text.strip_prefix(HEX).unwrap_or(text).as_bytes();
+    let digit = |byte: u8| char::from(byte).to_digit(16);
+    let pairs = digits.chunks(2).map(|pair| match *pair {
+        [high, low] => Some((digit(high)? << 4 | digit(low)?) as u8),
+        _ => None,
+    });
+    pairs.collect()
+}
+
 /// The same after `hex:`.
 fn marked_hex(bytes: &[u8]) -> String {
     format!("{HEX}{}", hex(bytes))
@@ -123,6 +134,18 @@ mod tests {
         assert_eq!(user(b""), "hex:");
         assert_eq!(user(b"\xFFa\n"), "hex:FF610A");
         assert_eq!(user(b"hex:00"), "hex:6865783A3030");
+    }
+
+    #[test]
+    fn hexadecimal_goes_there_and_back() {
+        let all: Vec<u8> = (0..=255).collect();
+        assert_eq!(unhex(&hex(&all)), Some(all));
+        for (text, want) in [("", Some(&b""[..])), ("hex:", Some(b"")), ("hex:6a6B", Some(b"jk")), ("6A6", None)] {
+            assert_eq!(unhex(text).as_deref(), want, "{text}");
+        }
+        for none in ["6", "6G", "+6", "hex:hex:", "6A ", "\u{e9}"] {
+            assert_eq!(unhex(none), None, "{none}");
+        }
     }
 
     #[test]
