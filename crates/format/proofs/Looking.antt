@@ -6,8 +6,8 @@ use native.Mathlib.Omega.{arith}
 use mathlib.Core.Bool.{Bool, true, false, not, _||_, or-true}
 use mathlib.Core.List.{List, [], _∷_}
 use lib.ListN.{length, take, drop, length-take, length-drop}
-use lib.Dec.{ltb, eqb}
-use borrow.Author.Tests.{eqb-true, le-ltb}
+use lib.Dec.{eqb}
+use borrow.Author.Tests.{eqb-true}
 use Rattle.laws.proofs.Bools.{false-not-true}
 use Rattle.format.specs.Bytes.{pick, zeros}
 use Rattle.format.specs.Frame.{headOf}
@@ -15,7 +15,6 @@ use Rattle.format.specs.Record.{bodyRefusal, runOf}
 use Rattle.format.specs.Walk.{Out, isResynced, shownKind, insideOf, bodyOf, andThen, walked}
 use Rattle.format.specs.declared.Version.{Version}
 use Rattle.format.specs.declared.Version.the-variants.{Id3v22, Id3v23, Id3v24}
-use Rattle.format.specs.declared.Kind.{Kind}
 use Rattle.format.specs.declared.Head.{Head}
 use Rattle.format.specs.declared.Look.{Look}
 use Rattle.format.proofs.Heads.{stands, lies}

@@ -10,7 +10,6 @@ use Rattle.format.specs.Frame.{headOf}
 use Rattle.format.specs.Record.{bodyRefusal, runOf}
 use Rattle.format.specs.Walk.{isResynced, shownKind}
 use Rattle.format.specs.declared.Version.{Version}
-use Rattle.format.specs.declared.Kind.{Kind}
 use Rattle.format.specs.declared.Head.{Head}
 use Rattle.format.specs.declared.Look.{Look}
 

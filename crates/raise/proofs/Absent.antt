@@ -8,10 +8,9 @@ use lib.ListN.{length, take, drop}
 use lib.Dec.{eqb}
 use Rattle.format.specs.Bytes.{pick, zeroAt}
 use Rattle.format.specs.declared.Version.{Version}
-use Rattle.promises.specs.Reading.{Reading, readAll}
+use Rattle.promises.specs.Reading.{Reading}
 use Rattle.blocks.proofs.Plain.{plain-reads}
-use Rattle.format.specs.Looks.{tagLook}
-use Rattle.raise.specs.Raise.{isMine, userOf, placesFrom, tagVersion, tagBlocks, raisedOf}
+use Rattle.raise.specs.Raise.{isMine, userOf, placesFrom, raisedOf}
 use Rattle.raise.specs.Promises.{recordsFrom, SearchReads, ZeroAbsent}
 use Rattle.raise.proofs.Plainness.{PlainBlock, AllPlain, tag-plain}
 use Rattle.raise.proofs.Stored.{mine-user}

@@ -1,32 +1,31 @@
 -- The tag after an accepted raise: plain, with that one block changed, and read with that one counter. Assumes nothing.
-use mathlib.Core.Path.{_≡_, refl, sym, ap, _∙_, subst}
-use Prim.Native.Nat.{ℕ, zero, suc, _+_, _-_, _^_, _≤_, _<_}
+use mathlib.Core.Path.{_≡_, sym, ap, _∙_, subst}
+use Prim.Native.Nat.{ℕ, suc, _+_, _^_, _≤_, _<_}
 use native.Mathlib.Omega.{arith}
 use mathlib.Core.Bool.{Bool, true, false}
-use mathlib.Core.List.{List, [], _∷_, _++_}
-use lib.ListN.{length, take, drop, getD, set, length-append, length-drop, length-take}
-use lib.Seq.{sets, length-sets, getD-set-same}
+use mathlib.Core.List.{List, [], _∷_}
+use lib.ListN.{length, take, drop, getD, set, length-append, length-take}
+use lib.Seq.{sets, length-sets}
 use Rattle.laws.proofs.Stores.{take-sets}
 use Rattle.format.specs.Bytes.{has, zeros, zeroAt}
 use Rattle.format.specs.Header.{flagsOf, sizeOf}
 use Rattle.format.specs.Popularimeter.{ratingIn, counterOf}
-use Rattle.format.specs.Record.{Rec, Content, popularimeter}
+use Rattle.format.specs.Record.{Rec, popularimeter}
 use Rattle.format.specs.Walk.{isResynced, shownKind, shownBody}
 use Rattle.format.specs.declared.Version.{Version}
 use Rattle.format.specs.declared.Kind.{Kind}
-use Rattle.promises.specs.Reading.{ended, readAll}
-use Rattle.blocks.specs.Blocks.{Block, joined, blocksIn, Reads, PlainTag, splice, regionIn}
+use Rattle.blocks.specs.Blocks.{Block, joined, blocksIn, PlainTag, splice, regionIn}
 use Rattle.blocks.proofs.Fronts.{front-byte}
 use Rattle.blocks.proofs.Seen.{contentIn}
 use Rattle.blocks.proofs.Edits.{splice-one}
 use Rattle.blocks.proofs.Bodies.{reads-length}
-use Rattle.blocks.proofs.Plain.{plain-reads, plain-blocks, plain-count}
+use Rattle.blocks.proofs.Plain.{plain-blocks, plain-count}
 use Rattle.blocks.proofs.Places.{within-blocks}
 use Rattle.format.specs.Looks.{lookAt, tagLook}
-use Rattle.raise.specs.Raise.{userOf, isMine, fieldIn, fieldAt, fieldOf, placesFrom, blockAt, placeOf, countedTag, tagVersion, tagBlocks}
+use Rattle.raise.specs.Raise.{isMine, fieldIn, fieldAt, fieldOf, placesFrom, blockAt, placeOf, countedTag, tagVersion, tagBlocks}
 use Rattle.raise.specs.Promises.{counted}
 use Rattle.format.proofs.Looking.{Plainly, frame-plain}
-use Rattle.raise.proofs.Plainness.{PlainBlock, plain-at, plain-set, recordIn, recordsOf, records-at, Plain, tag-plain, plain-tag, AllPlain}
+use Rattle.raise.proofs.Plainness.{PlainBlock, plain-at, plain-set, recordsOf, records-at, Plain, tag-plain, plain-tag}
 use Rattle.raise.proofs.Fields.{field-length, field-counter}
 use Rattle.raise.proofs.Stored.{field-is, at-is, mine-kind, mine-user, kind-taken, field-ends, long-is, new-plain, new-mine}
 use Rattle.raise.proofs.Search.{found, places-set}

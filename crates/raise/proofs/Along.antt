@@ -1,25 +1,22 @@
 -- The search along the frames finds what the places of the blocks say. Assumes nothing.
 use mathlib.Core.Path.{_≡_, refl, sym, ap, _∙_}
-use Prim.Native.Nat.{ℕ, zero, suc, _+_, _-_, _^_, _≤_, _<_}
+use Prim.Native.Nat.{ℕ, suc, _+_, _-_, _≤_, _<_}
 use native.Mathlib.Omega.{arith}
 use mathlib.Core.Bool.{Bool, true, false}
 use mathlib.Core.List.{List, [], _∷_, _++_, map}
-use lib.ListN.{length, take, drop, getD, length-append, length-take, length-drop}
-use lib.Seq.{sets, take-all}
-use lib.Dec.{ltb}
+use lib.ListN.{length, take, drop, length-append, length-take}
+use lib.Seq.{take-all}
 use Rattle.format.specs.Bytes.{pick, zeros}
-use Rattle.format.specs.Numbers.{bytesOf}
 use Rattle.format.specs.Header.{sizeOf}
 use Rattle.format.specs.Popularimeter.{counterOf}
 use Rattle.format.specs.Looks.{tagLook}
 use Rattle.format.specs.declared.Version.{Version}
 use Rattle.format.specs.declared.Look.{Look}
-use Rattle.blocks.specs.Blocks.{joined, regionIn}
-use Rattle.raise.specs.declared.Raised.{Raised}
+use Rattle.blocks.specs.Blocks.{joined}
 use Rattle.raise.specs.declared.users.Found.{Found}
 use Rattle.raise.specs.declared.seeking.Sought.{Sought}
-use Rattle.raise.specs.Raise.{isMine, fieldIn, fieldAt, placesFrom, blockAt, countedTag, Answer, raiseTo, onPlaces, onTag, tagVersion, tagBlocks, raisedOf}
-use Rattle.raise.specs.Seeks.{alsoOf, alsoIn, foundOn, soughtBy, soughtAs, soughtOf, raisedAt, raisedBy}
+use Rattle.raise.specs.Raise.{isMine, fieldIn, fieldAt, placesFrom, blockAt, countedTag, raiseTo, onPlaces, onTag, tagVersion, tagBlocks, raisedOf}
+use Rattle.raise.specs.Seeks.{alsoOf, foundOn, soughtBy, soughtAs, soughtOf, raisedAt, raisedBy}
 use Rattle.raise.proofs.Plainness.{PlainBlock, plain-at, Plain, tag-plain}
 use Rattle.raise.proofs.Stored.{mine-kind, field-ends}
 use Rattle.raise.proofs.Search.{found}

@@ -11,7 +11,7 @@ use Rattle.format.specs.Chapter.{namesLen}
 use Rattle.format.specs.Record.{bodyRefusal, runOf}
 use Rattle.blocks.specs.Blocks.{blocksFor}
 use Rattle.format.specs.Looks.{allZero, frameLook, onLook, lookFor, lookAt, tagLook}
-use Rattle.raise.specs.Raise.{bodyIn, isMine, fieldIn, fieldAt, placesFrom, countedTag, raiseTo, Answer, raisedOf}
+use Rattle.raise.specs.Raise.{bodyIn, isMine, fieldIn, fieldAt, placesFrom, countedTag, raiseTo, raisedOf}
 use Rattle.raise.specs.declared.Raised.{Raised}
 
 -- a 2.4 tag: header with its size, then these bytes

@@ -1,40 +1,35 @@
 -- What is seen of a frame of the top level says of the look and of the blocks, and one turn of the search. Assumes nothing.
 use mathlib.Core.Path.{_≡_, refl, sym, ap, _∙_, subst}
-use Prim.Native.Nat.{ℕ, zero, suc, _+_, _-_, _≤_, _<_}
+use Prim.Native.Nat.{ℕ, _+_, _≤_}
 use native.Mathlib.Omega.{arith}
-use mathlib.Core.Bool.{Bool, true, false, not, _&&_, _||_}
-use mathlib.Core.List.{List, [], _∷_, _++_}
-use lib.ListN.{length, take, drop, length-take, take-append-drop}
+use mathlib.Core.Bool.{Bool, true, false, not, _&&_}
+use mathlib.Core.List.{List, _∷_, _++_}
+use lib.ListN.{length, take, drop, take-append-drop}
 use lib.Seq.{slice, length-slice, take-take}
-use lib.Dec.{ltb}
-use Rattle.laws.proofs.Bools.{false-not-true, or-false}
 use Rattle.laws.proofs.Slices.{slice-drop, take-drop-take}
 use Rattle.laws.proofs.Cuts.{take-drop}
-use Rattle.format.specs.Bytes.{pick, span, zeroAt}
+use Rattle.format.specs.Bytes.{span, zeroAt}
 use Rattle.format.specs.Frame.{headOf}
-use Rattle.format.specs.Popularimeter.{ratingIn, counterIn, counterOf}
-use Rattle.format.specs.Walk.{isResynced, shownKind}
-use Rattle.format.specs.Looks.{both, plainIf, allZero, frameLook, onLook, lookAt}
+use Rattle.format.specs.Popularimeter.{counterIn, counterOf}
+use Rattle.format.specs.Walk.{shownKind}
+use Rattle.format.specs.Looks.{both, plainIf, frameLook, onLook, lookAt}
 use Rattle.format.specs.declared.Version.{Version}
 use Rattle.format.specs.declared.Kind.{Kind}
 use Rattle.format.specs.declared.Span.{Span}
 use Rattle.format.specs.declared.Head.{Head}
 use Rattle.format.specs.declared.Look.{Look}
-use Rattle.format.proofs.Looking.{look-head, if-plain, frame-plain}
+use Rattle.format.proofs.Looking.{look-head, frame-plain}
 use Rattle.walk.specs.declared.plain.Seen.{Seen}
 use Rattle.walk.specs.Plain.{seenKind, seenAs, onSeen, seenOf}
 use Rattle.walk.proofs.Onwards.{Placed, placed}
-use Rattle.walk.proofs.Looks.{both-stop, turned-on}
-use Rattle.blocks.specs.Blocks.{Block, NoBlock, blockLen, blocksIn}
-use Rattle.blocks.proofs.Apart.{block-there}
+use Rattle.blocks.specs.Blocks.{Block, blocksIn}
 use Rattle.blocks.proofs.Seen.{zero-le}
 use Rattle.blocks.proofs.Fronts.{same-head}
 use Rattle.raise.specs.declared.users.Found.{Found}
-use Rattle.raise.specs.declared.seeking.Sought.{Sought}
 use Rattle.raise.specs.Raise.{isPopularimeter, sameBytes, userOf, isMine, fieldIn, fieldAt}
-use Rattle.raise.specs.Seeks.{alsoOf, alsoIn, foundOn, soughtBy, soughtAs, endedAs, soughtIn}
+use Rattle.raise.specs.Seeks.{alsoOf, foundOn}
 use Rattle.raise.proofs.Stored.{mine-is, field-is, at-is}
-use Rattle.raise.proofs.Steps.{blocks-next, blocks-none}
+use Rattle.raise.proofs.Steps.{blocks-next}
 
 -- ---- what is seen
 

@@ -1,25 +1,24 @@
 -- Two raises: for two users the order does not matter, for one user the amounts add up. Assumes nothing.
 use mathlib.Core.Path.{_≡_, refl, sym, ap, _∙_, subst}
-use Prim.Native.Nat.{ℕ, zero, suc, _+_, _^_, _≤_, _<_}
+use Prim.Native.Nat.{ℕ, _+_, _^_, _≤_, _<_}
 use native.Mathlib.Omega.{arith}
 use mathlib.Core.Bool.{Bool, true, false}
 use mathlib.Core.List.{List, [], _∷_}
-use lib.ListN.{length, take, drop, getD, set}
-use lib.Seq.{sets, getD-set-same, getD-set-other}
+use lib.ListN.{length, set}
+use lib.Seq.{getD-set-same, getD-set-other}
 use lib.Dec.{ltb}
 use borrow.Author.Tests.{ltb-true, ltb-false}
 use Rattle.format.specs.Bytes.{pick}
 use Rattle.format.specs.Popularimeter.{counterOf}
 use Rattle.format.specs.declared.Version.{Version}
-use Rattle.blocks.specs.Blocks.{joined}
 use Rattle.format.specs.Looks.{tagLook}
-use Rattle.raise.specs.Raise.{isMine, fieldOf, fieldIn, fieldAt, placesFrom, blockAt, placeOf, countedTag, Answer, raiseTo, onPlaces, onTag, tagVersion, tagBlocks, raisedOf}
+use Rattle.raise.specs.Raise.{isMine, fieldOf, fieldIn, fieldAt, placesFrom, blockAt, placeOf, countedTag, Answer, raiseTo, onPlaces, tagVersion, tagBlocks, raisedOf}
 use Rattle.raise.specs.Promises.{OtherSame, RaisesCommute, RaisesAdd}
 use Rattle.raise.proofs.Fields.{field-length, field-counter, field-again}
 use Rattle.raise.proofs.Stored.{one-user, field-ends, new-at, new-field}
 use Rattle.raise.proofs.Search.{found}
 use Rattle.raise.proofs.Stores.{sets-twice, sets-comm, same-begin, ends-before}
-use Rattle.raise.proofs.Accepting.{sumAt, tagAfter, Accepted, accept, Gives, accepted, refused-same}
+use Rattle.raise.proofs.Accepting.{sumAt, tagAfter, Accepted, accept, accepted, refused-same}
 use Rattle.raise.proofs.After.{lt, mine, at-block, kind, long, small, blockAfter, version-same, after-blocks, after-looks, after-places, block-length}
 use Rattle.format.specs.declared.Look.{Look}
 use Rattle.raise.specs.declared.Raised.{Raised}

@@ -1,24 +1,23 @@
 -- A plain tag is plain block by block, and reads as the records of its blocks. Assumes nothing.
-use mathlib.Core.Path.{_≡_, refl, sym, ap, _∙_, subst}
+use mathlib.Core.Path.{_≡_, refl, sym, ap, _∙_}
 use Prim.Native.Nat.{ℕ, zero, suc, _+_, _≤_, _<_}
 use native.Mathlib.Omega.{arith}
-use mathlib.Core.Bool.{Bool, true, false, not, _&&_, _||_}
+use mathlib.Core.Bool.{false, not}
 use mathlib.Core.List.{List, [], _∷_, _++_, append-assoc}
 use lib.ListN.{length, take, drop, getD, set, length-drop}
 use lib.Seq.{take-all, take-at, drop-at, drop-append-le}
-use lib.Dec.{ltb, leb, eqb}
+use lib.Dec.{leb}
 use borrow.Author.Tests.{leb-true, le-leb, not-true}
 use Rattle.laws.proofs.Bools.{and-true, false-not-true}
-use Rattle.format.specs.Bytes.{pick, has, zeros}
+use Rattle.format.specs.Bytes.{has, zeros}
 use Rattle.format.specs.Header.{editionOf, flagsOf, sizeOf, versionOf, isWhole, isExtended, headerRefusal, regionOf}
 use Rattle.format.specs.Frame.{headOf}
-use Rattle.format.specs.Record.{Rec, bodyRefusal, runOf}
-use Rattle.format.specs.Walk.{Out, isResynced, shownKind, insideOf, walked}
+use Rattle.format.specs.Record.{Rec, runOf}
+use Rattle.format.specs.Walk.{Out, shownKind, insideOf, walked}
 use Rattle.format.specs.declared.Version.{Version}
 use Rattle.format.specs.declared.Head.{Head}
-use Rattle.format.proofs.Heads.{stands, lies}
 use Rattle.format.proofs.Strict.{inside-run}
-use Rattle.blocks.specs.Blocks.{Block, NoBlock, Sight, shows, sightOf, joined, AllBlocks, blocksIn, Reads, PlainTag, regionIn, Shows}
+use Rattle.blocks.specs.Blocks.{Block, NoBlock, Sight, sightOf, joined, AllBlocks, blocksIn, Reads, PlainTag, regionIn, Shows}
 use Rattle.blocks.proofs.Fronts.{same-head}
 use Rattle.blocks.proofs.Reading.{block-front}
 use Rattle.blocks.proofs.Sights.{outOf, recIn, verdict, sight-is}
@@ -27,9 +26,9 @@ use Rattle.blocks.proofs.Edits.{zeros-quiet}
 use Rattle.blocks.proofs.Headers.{same-region}
 use Rattle.blocks.proofs.Tails.{no-block-short}
 use Rattle.blocks.proofs.CutUp.{cut-up}
-use Rattle.format.specs.Looks.{both, plainIf, unless, allZero, frameLook, onLook, lookAt, isSimple, tagLook}
+use Rattle.format.specs.Looks.{both, plainIf, allZero, frameLook, onLook, lookAt, isSimple, tagLook}
 use Rattle.raise.specs.Raise.{tagVersion, tagBlocks}
-use Rattle.format.proofs.Looking.{look-head, both-plain, if-plain, unless-plain, picked-plain, Plainly, frame-plain, walk-plain, zero-zeros, zeros-zero, not-plain}
+use Rattle.format.proofs.Looking.{look-head, both-plain, if-plain, unless-plain, picked-plain, frame-plain, walk-plain, zero-zeros, zeros-zero, not-plain}
 use Rattle.format.specs.declared.Look.{Look}
 
 -- ---- a block

@@ -4,17 +4,16 @@ use Prim.Native.Nat.{ℕ, zero, suc, _+_, _≤_, _<_}
 use native.Mathlib.Omega.{arith}
 use mathlib.Core.Bool.{Bool, true, false}
 use mathlib.Core.List.{List, [], _∷_}
-use lib.ListN.{length, take, drop, getD, set}
+use lib.ListN.{length, drop, getD, set}
 use lib.Seq.{sets, drop-set-lt}
 use Rattle.laws.proofs.Stores.{take-sets}
-use Rattle.format.specs.Bytes.{pick}
 use Rattle.format.specs.Popularimeter.{counterOf}
 use Rattle.format.specs.Record.{Rec}
 use Rattle.promises.specs.Reading.{Reading, readAll}
 use Rattle.blocks.proofs.Bodies.{reads-length}
 use Rattle.blocks.proofs.Plain.{plain-reads}
 use Rattle.raise.specs.Raise.{fieldIn, fieldOf, blockAt, placeOf, countedTag, sameBytes, tagVersion, tagBlocks, raisedOf}
-use Rattle.raise.specs.Promises.{counted, isUsers, theirsIn, Raising, RaiseReads, RefusedSame, OthersRead}
+use Rattle.raise.specs.Promises.{isUsers, theirsIn, Raising, RaiseReads, RefusedSame, OthersRead}
 use Rattle.raise.proofs.Accepting.{sumAt, tagAfter, Accepted, accepted, refused-same}
 use Rattle.raise.proofs.Stored.{same-true}
 use Rattle.raise.proofs.Records.{places-records}

@@ -1,16 +1,15 @@
 -- The search among blocks is the search among the records that they read as. Assumes nothing.
 use mathlib.Core.Path.{_≡_, refl, sym, ap, _∙_}
-use Prim.Native.Nat.{ℕ, zero, suc, _≤_}
+use Prim.Native.Nat.{ℕ, suc}
 use native.Mathlib.Omega.{arith}
-use mathlib.Core.Bool.{Bool, true, false, _&&_}
-use mathlib.Core.List.{List, [], _∷_}
+use mathlib.Core.Bool.{Bool, false, _&&_}
+use mathlib.Core.List.{List, []}
 use lib.ListN.{drop}
-use Rattle.format.specs.Bytes.{pick}
-use Rattle.format.specs.Record.{Rec, Content}
+use Rattle.format.specs.Record.{Rec}
 use Rattle.format.specs.Walk.{isResynced, shownKind, shownBody}
 use Rattle.format.specs.declared.Version.{Version}
 use Rattle.format.specs.declared.Kind.{Kind}
-use Rattle.blocks.specs.Blocks.{Sight, shows, Reads}
+use Rattle.blocks.specs.Blocks.{shows, Reads}
 use Rattle.blocks.proofs.Seen.{contentIn}
 use Rattle.format.specs.Looks.{lookAt}
 use Rattle.raise.specs.Raise.{isPopularimeter, sameBytes, userOf, isMine, placesFrom}

@@ -19,15 +19,13 @@ use Rattle.format.specs.Popularimeter.{counterOf}
 use Rattle.format.specs.Record.{Rec, bodyRefusal, runOf}
 use Rattle.format.specs.Walk.{Out, andThen, insideOf, bodyOf, isResynced, shownKind, walked}
 use Rattle.format.specs.declared.Version.{Version}
-use Rattle.format.specs.declared.Kind.{Kind}
 use Rattle.format.specs.declared.Head.{Head}
 use Rattle.format.proofs.Heads.{stands, lies}
 use Rattle.format.proofs.Walks.{run-shorter, walk-nothing, walk-refused, walk-found}
 use Rattle.reader.specs.Reader.{openOf}
-use Rattle.reader.specs.declared.Opened.{Opened}
-use Rattle.promises.specs.Reading.{Reading, Ending, ended, refused, andRecord, onOpen, readFrom, readFor, readAll}
+use Rattle.promises.specs.Reading.{Reading, Ending, ended, refused, readFrom, readFor, readAll}
 use Rattle.promises.proofs.Stepping.{reader}
-use Rattle.blocks.specs.Blocks.{Sight, refuses, shows, sightOf, onSight}
+use Rattle.blocks.specs.Blocks.{Sight, refuses, shows, onSight}
 use Rattle.blocks.proofs.Sights.{outOf, recIn, verdict, sight-is}
 use Rattle.blocks.proofs.Reading.{first-read, end-read, refused-read}
 use Rattle.blocks.proofs.Regions.{steps-all}

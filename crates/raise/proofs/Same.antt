@@ -4,15 +4,14 @@ use Prim.Native.Nat.{ℕ, _+_, _≤_, _<_}
 use native.Mathlib.Omega.{arith}
 use mathlib.Core.Bool.{Bool, true, false, _&&_}
 use mathlib.Core.List.{List, [], _∷_}
-use lib.ListN.{length, drop, getD, length-drop, drop-of-length-le}
-use lib.Seq.{slice, length-slice}
+use lib.ListN.{length, drop, getD, drop-of-length-le}
+use lib.Seq.{slice}
 use lib.Dec.{eqb}
 use borrow.Author.Tests.{eq-eqb, ne-eqb}
 use denote.Enum.Declared.{tagOf}
 use types.Run.{OneOf, miss}
 use Rattle.laws.proofs.Slices.{slice-next, slice-none}
 use Rattle.laws.proofs.Cuts.{drop-next}
-use Rattle.laws.proofs.Bools.{false-not-true}
 use Rattle.raise.specs.declared.users.Found.{Found}
 use Rattle.raise.specs.Raise.{sameBytes}
 use Rattle.raise.specs.Seeks.{alsoOf}

@@ -1,8 +1,8 @@
 -- The promise of written tags speaks of something: in each edition the sample of all kinds, written with mode off, has its counters raised. Assumes nothing.
 use mathlib.Core.Path.{_≡_, refl}
-use Prim.Native.Nat.{ℕ, _+_, _^_, _<_}
+use Prim.Native.Nat.{_+_, _^_, _<_}
 use native.Mathlib.Omega.{arith}
-use mathlib.Core.List.{List, [], _∷_}
+use mathlib.Core.List.{[]}
 use lib.ListN.{length}
 use Rattle.format.specs.Bytes.{first, zeroAt, zerosIn, named}
 use Rattle.format.specs.Numbers.{digits, onto}
@@ -15,7 +15,7 @@ use Rattle.format.specs.Chapter.{namesLen}
 use Rattle.format.specs.Record.{bodyRefusal, runOf}
 use Rattle.format.specs.Encode.{bodyBytes, encode}
 use Rattle.promises.specs.Samples.{inner, sampleOf}
-use Rattle.promises.proofs.Samples.{Sampled, off-22, off-23, off-24}
+use Rattle.promises.proofs.Samples.{off-22, off-23, off-24}
 use Rattle.format.specs.Looks.{allZero, frameLook, onLook, lookFor, lookAt}
 use Rattle.raise.specs.Raise.{raisedOf}
 use Rattle.raise.specs.Promises.{recordsFrom, PlainRuns, none, also}

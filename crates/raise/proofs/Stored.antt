@@ -1,19 +1,19 @@
 -- A popularimeter's block with another counter: plain still, of the same user, with that counter's bytes. Assumes nothing.
-use mathlib.Core.Path.{_≡_, refl, sym, ap, _∙_, subst}
-use Prim.Native.Nat.{ℕ, zero, suc, _+_, _-_, _^_, _≤_, _<_}
+use mathlib.Core.Path.{_≡_, refl, sym, ap, _∙_}
+use Prim.Native.Nat.{ℕ, suc, _+_, _-_, _^_, _<_}
 use native.Mathlib.Omega.{arith}
 use mathlib.Core.Bool.{Bool, true, false, _&&_}
 use mathlib.Core.List.{List, [], _∷_, _++_, append-nil}
-use lib.ListN.{length, take, drop, getD, set, length-drop, drop-of-length-le}
-use lib.Seq.{sets, sets-eq, length-sets, length-take-le, drop-set-add, set-comm, drop-nil}
+use lib.ListN.{length, take, drop, set, length-drop, drop-of-length-le}
+use lib.Seq.{sets, sets-eq, length-sets, length-take-le, drop-set-add}
 use lib.Dec.{eqb}
 use borrow.Author.Tests.{eqb-true, eq-eqb}
 use Rattle.laws.proofs.Bools.{and-true, false-not-true}
 use Rattle.laws.proofs.Stores.{take-sets}
 use Rattle.format.specs.Bytes.{zeroAt}
 use Rattle.format.specs.Frame.{headLen, headOf}
-use Rattle.format.specs.Popularimeter.{popularimeterRefusal, ratingIn, counterIn, counterOf}
-use Rattle.format.specs.Record.{Content, popularimeter, bodyRefusal, runOf}
+use Rattle.format.specs.Popularimeter.{popularimeterRefusal, counterOf}
+use Rattle.format.specs.Record.{popularimeter, bodyRefusal, runOf}
 use Rattle.format.specs.Walk.{shownKind}
 use Rattle.format.specs.declared.Version.{Version}
 use Rattle.format.specs.declared.Kind.{Kind}
@@ -21,13 +21,12 @@ use Rattle.format.specs.declared.Head.{Head}
 use Rattle.format.proofs.Heads.{stands, lies}
 use Rattle.blocks.specs.Blocks.{Block}
 use Rattle.blocks.proofs.Bodies.{head-by}
-use Rattle.format.proofs.Popularimeter.{Counted, taken-counted}
+use Rattle.format.proofs.Popularimeter.{taken-counted}
 use Rattle.blocks.proofs.Counters.{stored-taken, counted}
-use Rattle.blocks.proofs.Seen.{contentIn}
 use Rattle.format.specs.Looks.{frameLook, lookFor, lookAt}
 use Rattle.raise.specs.Raise.{headStart, headKind, isPopularimeter, sameBytes, userOf, bodyIn, isMine, fieldIn, fieldAt}
 use Rattle.format.proofs.Looking.{Plainly, frame-plain, plain-frame}
-use Rattle.raise.proofs.Plainness.{PlainBlock, blockLook}
+use Rattle.raise.proofs.Plainness.{PlainBlock}
 use Rattle.format.specs.declared.Look.{Look}
 
 -- ---- stores

@@ -1,16 +1,16 @@
 -- What the search through the frames comes to, and what that says of the tag. Assumes nothing.
 use mathlib.Core.Path.{_≡_, refl, sym, ap, _∙_}
-use Prim.Native.Nat.{ℕ, zero, suc, _+_, _≤_, _<_, min}
+use Prim.Native.Nat.{ℕ, zero, suc, _+_, _≤_}
 use native.Mathlib.Omega.{arith}
-use mathlib.Core.Bool.{Bool, true, false, not, _&&_, _||_}
+use mathlib.Core.Bool.{Bool, true, false, not}
 use mathlib.Core.List.{List, []}
-use lib.ListN.{length, take, drop, length-take}
+use lib.ListN.{length, length-take}
 use lib.Seq.{slice}
-use lib.Dec.{ltb, leb, eqb}
-use borrow.Author.Tests.{leb-true, not-true, eqb-true}
+use lib.Dec.{leb, eqb}
+use borrow.Author.Tests.{leb-true, not-true}
 use Rattle.laws.proofs.Bools.{and-true}
 use Rattle.format.specs.Bytes.{pick, has}
-use Rattle.format.specs.Header.{editionOf, flagsOf, sizeOf, versionOf, isWhole, isExtended, extOf, headerRefusal, cutOf, regionStart, regionEnd, regionOf}
+use Rattle.format.specs.Header.{editionOf, flagsOf, sizeOf, versionOf, isWhole, isExtended, extOf, headerRefusal, regionStart, regionEnd, regionOf}
 use Rattle.format.specs.Frame.{headOf}
 use Rattle.format.specs.Looks.{both, plainIf, unless, allZero, onLook, lookAt, isSimple, tagLook}
 use Rattle.format.specs.declared.Version.{Version}
@@ -25,7 +25,7 @@ use Rattle.reader.specs.Reader.{fieldsOf, headerOf}
 use Rattle.reader.specs.Headers.{isWholeIn}
 use Rattle.reader.proofs.Refusals.{accepted}
 use Rattle.reader.proofs.Opens.{found, whole-in}
-use Rattle.blocks.specs.Blocks.{NoBlock, blockLen, blocksIn, regionIn}
+use Rattle.blocks.specs.Blocks.{blockLen, blocksIn, regionIn}
 use Rattle.blocks.proofs.Headers.{same-region}
 use Rattle.raise.specs.declared.users.Found.{Found}
 use Rattle.raise.specs.declared.seeking.Sought.{Sought}

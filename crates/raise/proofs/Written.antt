@@ -1,22 +1,21 @@
 -- Tags that were written with mode off are plain, and raising in them is accepted whenever the sum fits. Assumes nothing.
 use mathlib.Core.Path.{_≡_, refl, sym, ap, _∙_, subst}
-use Prim.Native.Nat.{ℕ, zero, suc, _+_, _^_, _≤_, _<_}
+use Prim.Native.Nat.{ℕ, zero, suc, _+_, _^_, _<_}
 use native.Mathlib.Omega.{arith}
-use mathlib.Core.Bool.{Bool, true, false}
+use mathlib.Core.Bool.{Bool, false}
 use mathlib.Core.List.{List, [], _∷_, _++_, append-nil}
-use lib.ListN.{length, take, drop, getD, length-drop, length-append}
+use lib.ListN.{length, take, drop, getD, length-drop}
 use lib.Seq.{length-take-le, drop-append-add, take-all, take-length}
 use Rattle.format.specs.Bytes.{has, zeroAt}
 use Rattle.format.specs.Numbers.{digits}
 use Rattle.format.specs.Header.{flagsOf, versionOf}
-use Rattle.format.specs.Frame.{headLen, headOf}
-use Rattle.format.specs.Popularimeter.{popularimeterRefusal, ratingIn, counterOf, counterBytes}
+use Rattle.format.specs.Frame.{headLen}
+use Rattle.format.specs.Popularimeter.{popularimeterRefusal, counterOf, counterBytes}
 use Rattle.format.specs.Record.{Rec, Content, popularimeter, bodyRefusal, runOf}
 use Rattle.format.specs.Walk.{shownKind}
 use Rattle.format.specs.Encode.{kindIn, bodyBytes, storedOf, encode, tagOf}
 use Rattle.format.specs.declared.Version.{Version}
 use Rattle.format.specs.declared.Version.the-variants.{Id3v22, Id3v23, Id3v24}
-use Rattle.format.specs.declared.Mode.{Mode}
 use Rattle.format.specs.declared.Mode.the-variants.{Off}
 use Rattle.format.specs.declared.Kind.{Kind}
 use Rattle.format.specs.declared.Head.{Head}
@@ -25,18 +24,17 @@ use Rattle.format.proofs.Accepted.{Sound}
 use Rattle.format.proofs.ReadBack.{ReadBack}
 use Rattle.format.proofs.Frames.{plain-stored}
 use Rattle.promises.specs.Promises.{framesOf}
-use Rattle.promises.specs.Written.{Written}
 use Rattle.promises.proofs.Adding.{told-written}
 use Rattle.promises.proofs.Sounds.{Sounds}
-use Rattle.blocks.specs.Blocks.{Block, PlainTag, blocksIn, regionIn}
+use Rattle.blocks.specs.Blocks.{Block, blocksIn, regionIn}
 use Rattle.blocks.proofs.Encoded.{encoded}
 use Rattle.blocks.proofs.Bodies.{reads-length}
 use Rattle.blocks.proofs.Plain.{plain-blocks}
 use Rattle.blocks.proofs.Writes.{written-plain}
-use Rattle.format.proofs.Popularimeter.{Counted, taken-counted}
+use Rattle.format.proofs.Popularimeter.{taken-counted}
 use Rattle.blocks.proofs.Seen.{contentIn, seen-is}
 use Rattle.format.specs.Looks.{lookAt}
-use Rattle.raise.specs.Raise.{fieldIn, placesFrom, blockAt, Answer, tagVersion, tagBlocks, raisedOf}
+use Rattle.raise.specs.Raise.{fieldIn, placesFrom, blockAt, Answer, tagVersion, tagBlocks}
 use Rattle.raise.specs.Promises.{counted, recordsFrom, runWithin, PlainRuns, WrittenRaises}
 use Rattle.format.proofs.Looking.{plain-frame}
 use Rattle.raise.proofs.Plainness.{PlainBlock, AllPlain, recordsOf, plain-read, plain-tag}

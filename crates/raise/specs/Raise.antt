@@ -1,7 +1,7 @@
 -- Raising a counter in place: found by its user among the top-level frames of a plain tag (document 02, f). Assumes nothing.
-use Prim.Native.Nat.{ℕ, zero, suc, _+_, _^_, min}
+use Prim.Native.Nat.{ℕ, zero, suc, _+_, _^_}
 use mathlib.Core.Bool.{Bool, true, false, _&&_}
-use mathlib.Core.List.{List, [], _∷_, _++_}
+use mathlib.Core.List.{List, [], _∷_}
 use lib.ListN.{length, take, drop, getD}
 use lib.Seq.{sets}
 use lib.Dec.{ltb, eqb}

@@ -2,22 +2,22 @@
 use mathlib.Core.Path.{_≡_, refl, sym, ap, _∙_}
 use Prim.Native.Nat.{ℕ, zero, suc, _+_, _≤_, _<_}
 use native.Mathlib.Omega.{arith}
-use mathlib.Core.Bool.{Bool, true, false, not, _||_, or-true}
+use mathlib.Core.Bool.{Bool, true, false, not, _||_}
 use mathlib.Core.List.{List, [], _∷_}
-use lib.ListN.{length, take, drop}
+use lib.ListN.{length}
 use lib.Seq.{slice}
-use lib.Dec.{ltb, eqb}
+use lib.Dec.{eqb}
 use borrow.Author.Tests.{lt-ltb, ne-eqb}
 use denote.Enum.Declared.{tagOf}
 use types.Run.{OneOf, miss}
 use Rattle.laws.proofs.Slices.{slice-none}
 use Rattle.format.proofs.Kind as kinds
 use Rattle.format.proofs.Fields.{the-type}
-use Rattle.format.specs.Bytes.{pick, zeroAt}
+use Rattle.format.specs.Bytes.{pick}
 use Rattle.format.specs.Frame.{headOf}
 use Rattle.format.specs.Record.{bodyRefusal, runOf, partsOf}
 use Rattle.format.specs.Walk.{isResynced, shownKind}
-use Rattle.format.specs.Looks.{both, plainIf, unless, allZero, frameLook, onLook, lookFor, lookAt}
+use Rattle.format.specs.Looks.{both, plainIf, unless, frameLook, onLook, lookFor, lookAt}
 use Rattle.format.specs.declared.Version.{Version}
 use Rattle.format.specs.declared.Kind.{Kind}
 use Rattle.format.specs.declared.Fields.{Fields}
@@ -33,9 +33,9 @@ use Rattle.walk.specs.declared.plain.Ahead.{Ahead}
 use Rattle.walk.specs.declared.plain.Turn.{Turn}
 use Rattle.walk.specs.declared.plain.Seen.{Seen}
 use Rattle.walk.specs.Insides.{insideAt}
-use Rattle.walk.specs.Plain.{seenKind, seenAs, onSeen, seenOf, isOdd, onAhead, aheadOf, insideLook, turnOf, passedBy, passedAs, countedBy, countedAs}
+use Rattle.walk.specs.Plain.{seenKind, seenAs, onSeen, seenOf, isOdd, onAhead, aheadOf, insideLook, turnOf, passedAs, countedBy, countedAs}
 use Rattle.walk.proofs.Insides.{looked-run, run-at}
-use Rattle.walk.proofs.Onwards.{Placed, placed}
+use Rattle.walk.proofs.Onwards.{placed}
 
 -- ---- what lies ahead
 

@@ -1,6 +1,5 @@
 -- `raise::raise` meets its contract. Assumes nothing.
 use mathlib.Core.Path.{_≡_, sym, ap, _∙_}
-use native.Mathlib.Omega.{arith}
 use borrow.Author.Needs.{needs}
 use Rattle.raise.specs.declared.seeking.Sought.{Sought}
 use Rattle.raise.specs.Seeks.{soughtOf, raisedBy}

@@ -1,13 +1,9 @@
 -- `raise::raise_at` meets its contract. Assumes nothing.
-use mathlib.Core.Path.{_≡_, sym, ap, _∙_}
-use Prim.Native.Nat.{ℕ, _+_, _-_, _^_, _<_}
+use mathlib.Core.Path.{sym, _∙_}
+use Prim.Native.Nat.{_+_, _^_, _<_}
 use native.Mathlib.Omega.{arith}
-use mathlib.Core.Bool.{true, false}
-use mathlib.Core.List.{List}
 use borrow.Author.Needs.{needs}
 use borrow.Author.Tests.{not-true, not-false}
-use Rattle.raise.specs.declared.Raised.{Raised}
-use Rattle.raise.specs.Raise.{Answer}
 use Rattle.raise.proofs.Sums.{sum-large, sum-wide, sum-stored}
 use Rattle.raise.proofs.raise_at.Statement.{statement}
 use Rattle.raise.proofs.raise_at.Tie as tie

@@ -1,6 +1,6 @@
 -- `raise::counter::fits` meets its contract. Assumes nothing.
 use mathlib.Core.Path.{_≡_, sym, ap, _∙_}
-use Prim.Native.Nat.{ℕ, _+_, _-_, _/_, _^_, _≤_}
+use Prim.Native.Nat.{ℕ, _-_, _/_, _^_, _≤_}
 use native.Mathlib.Nat.{pow-zero, div-one}
 use native.Mathlib.Omega.{arith}
 use lib.Dec.{eqb}

@@ -1,12 +1,11 @@
 -- `raise::counter::put_value` meets its contract: what was stored is the value's last bytes, and the rest of the value is left. Assumes nothing.
-use mathlib.Core.Path.{_≡_, refl, sym, ap, _∙_}
+use mathlib.Core.Path.{_≡_, sym, ap, _∙_}
 use Prim.Native.Nat.{ℕ, suc, _+_, _-_, _/_, _%_, _^_, _≤_}
 use native.Mathlib.Nat.{pow-zero, div-one}
 use native.Mathlib.Omega.{arith}
 use mathlib.Core.List.{List}
 use lib.ListN.{length, set}
 use lib.Seq.{sets, length-sets}
-use borrow.Author.Needs.{needs}
 use Rattle.format.specs.Numbers.{digits, bytesOf}
 use Rattle.raise.proofs.Values.{next-left, put-turn}
 use Rattle.raise.proofs.counter.put_value.Statement.{statement}

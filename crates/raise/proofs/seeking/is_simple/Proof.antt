@@ -1,7 +1,7 @@
 -- `raise::seeking::is_simple` meets its contract. Assumes nothing.
-use mathlib.Core.Path.{_≡_, sym, ap, _∙_}
+use mathlib.Core.Path.{sym, ap, _∙_}
 use native.Mathlib.Omega.{arith}
-use mathlib.Core.Bool.{Bool, not}
+use mathlib.Core.Bool.{not}
 use borrow.Author.Needs.{needs}
 use Rattle.raise.proofs.Simple.{bytes-missing, has-extended, says-simple}
 use Rattle.raise.proofs.seeking.is_simple.Statement.{statement}

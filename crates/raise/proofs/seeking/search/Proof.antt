@@ -17,7 +17,7 @@ use Rattle.walk.specs.Plain.{seenOf}
 use Rattle.walk.proofs.Looks.{turned-on}
 use Rattle.blocks.specs.Blocks.{blocksIn}
 use Rattle.raise.specs.declared.users.Found.{Found}
-use Rattle.raise.specs.Seeks.{alsoOf, foundOn}
+use Rattle.raise.specs.Seeks.{foundOn}
 use Rattle.raise.proofs.Looked.{Met, MetOther, MetMeter, says, says-end, says-stops, says-other, says-meter, later, within, look-on, user-fits, other-turn, meter-turn}
 use Rattle.raise.proofs.Turns.{sought-stops, sought-ends}
 use Rattle.raise.proofs.seeking.search.Statement.{statement}

@@ -1,5 +1,5 @@
 -- `raise::seeking::seek` meets its contract. Assumes nothing.
-use mathlib.Core.Path.{_≡_, sym, _∙_}
+use mathlib.Core.Path.{sym, _∙_}
 use borrow.Author.Needs.{needs}
 use Rattle.raise.proofs.Turns.{header-refuses}
 use Rattle.raise.proofs.seeking.seek.Statement.{statement}

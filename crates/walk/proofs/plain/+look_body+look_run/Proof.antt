@@ -1,8 +1,7 @@
 -- `walk::plain::look_body` and `look_run` meet their contracts. Each call has fewer bytes than the last, two for each byte, so that a body
 -- is more than its run. Assumes nothing.
-use mathlib.Core.Path.{_≡_, refl, sym, ap, _∙_}
-use mathlib.Core.Bool.{Bool, false, not}
-use mathlib.Core.List.{List}
+use mathlib.Core.Path.{_≡_, sym, ap, _∙_}
+use mathlib.Core.Bool.{not}
 use Prim.Native.Nat.{ℕ, _+_, _-_, _*_, _≤_, _<_}
 use native.Mathlib.Omega.{arith}
 use borrow.Author.Needs.{needs}
@@ -14,7 +13,6 @@ use Rattle.format.specs.declared.Look.{Look}
 use Rattle.walk.specs.Insides.{insideAt}
 use Rattle.walk.specs.Plain.{insideLook, turnOf}
 use Rattle.walk.specs.declared.inside.Inside.{Inside}
-use Rattle.walk.specs.declared.plain.Turn.{Turn}
 use Rattle.walk.proofs.Insides.{run-from}
 use Rattle.walk.proofs.Looks.{look-ended, look-stopped, Goes, goes, turn-stop, turn-on, both-end, both-stop, body-stopped, body-run, body-none}
 use borrow.Fn.Kinds.{In}

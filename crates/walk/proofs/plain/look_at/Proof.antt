@@ -1,9 +1,8 @@
 -- `walk::plain::look_at` meets its contract. Assumes nothing.
 use mathlib.Core.Path.{_≡_, sym, ap, _∙_}
-use Prim.Native.Nat.{ℕ, _+_, _≤_}
+use Prim.Native.Nat.{ℕ}
 use native.Mathlib.Omega.{arith}
 use mathlib.Core.Bool.{not}
-use lib.ListN.{length}
 use lib.Seq.{slice}
 use Rattle.laws.proofs.Slices.{slice-cut}
 use Rattle.format.specs.Looks.{both, plainIf, lookAt}

@@ -1,6 +1,5 @@
 -- `walk::plain::turned` meets its contract. Assumes nothing.
 use mathlib.Core.Path.{sym, ap, _∙_}
-use mathlib.Core.Bool.{Bool}
 use Rattle.format.specs.declared.Look.{Look}
 use Rattle.walk.specs.declared.plain.Turn.{Turn}
 use Rattle.walk.specs.Plain.{turnOf}
