@@ -107,7 +107,7 @@ fn field(tag: &[u8], of: &[u8]) -> std::ops::Range<usize> {
     panic!("no popularimeter of that user");
 }
 
-/// What document 02 has for a tag that is plain, from what is read of it.
+/// What request f has for a tag that is plain, from what is read of it.
 fn wanted(tag: &[u8], user: &[u8], amount: u64) -> Result<u64, u32> {
     let (count, counter) = counters(&everything(tag), user);
     match count {

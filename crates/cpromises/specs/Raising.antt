@@ -1,4 +1,4 @@
--- What is promised of the exported function that raises a counter (document 02, f). Assumes nothing.
+-- What is promised of the exported function that raises a counter (document 01, "Raising a counter"; request f). Assumes nothing.
 use mathlib.Core.Path.{_≡_}
 use Prim.Native.Nat.{ℕ, suc, _+_, _^_, _≤_, _<_}
 use mathlib.Core.List.{List, [], _∷_}

@@ -1,4 +1,4 @@
--- Tags that are changed in place: the reading of a whole tag without a work buffer, and whether it is of the plain sort (document 02, f). Assumes nothing.
+-- Tags that are changed in place: the reading of a whole tag without a work buffer, and whether it is of the plain sort (document 01, "Raising a counter"; request f). Assumes nothing.
 use Prim.Native.Nat.{ℕ, zero, suc, _+_}
 use mathlib.Core.Bool.{Bool, true, false, not, _&&_, _||_}
 use mathlib.Core.List.{List, [], _∷_}

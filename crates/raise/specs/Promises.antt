@@ -1,4 +1,4 @@
--- What is promised of raising a counter, on the definitions alone (document 02, f). Assumes nothing.
+-- What is promised of raising a counter, on the definitions alone (document 01, "Raising a counter"; request f). Assumes nothing.
 use mathlib.Core.Path.{_≡_}
 use Prim.Native.Nat.{ℕ, zero, suc, _+_, _^_, _≤_, _<_}
 use mathlib.Core.Bool.{Bool, false}

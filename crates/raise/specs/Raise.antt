@@ -1,4 +1,4 @@
--- Raising a counter in place: found by its user among the top-level frames of a plain tag (document 02, f). Assumes nothing.
+-- Raising a counter in place: found by its user among the top-level frames of a plain tag (document 01, "Raising a counter"; request f). Assumes nothing.
 use Prim.Native.Nat.{ℕ, zero, suc, _+_, _^_}
 use mathlib.Core.Bool.{Bool, true, false, _&&_}
 use mathlib.Core.List.{List, [], _∷_}

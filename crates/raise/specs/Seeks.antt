@@ -1,4 +1,4 @@
--- How a raise comes to its answer: the search goes along with the look, frame by frame (document 02, f). Assumes nothing.
+-- How a raise comes to its answer: the search goes along with the look, frame by frame (document 01, "Raising a counter"; request f). Assumes nothing.
 use Prim.Native.Nat.{ℕ, _+_, _-_, _^_}
 use mathlib.Core.Bool.{Bool, true, false, not}
 use mathlib.Core.List.{List, [], _∷_}

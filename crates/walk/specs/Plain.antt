@@ -1,4 +1,4 @@
--- What a look at frames meets, and what is seen of a frame of the top level (document 02, f). Assumes nothing.
+-- What a look at frames meets, and what is seen of a frame of the top level (document 01, "Raising a counter"; request f). Assumes nothing.
 use Prim.Native.Nat.{ℕ, _+_}
 use mathlib.Core.Bool.{Bool, true, false, _||_}
 use mathlib.Core.List.{List}
