@@ -12,6 +12,7 @@ pub mod Walks
 pub mod Moves
 pub mod Strict
 pub mod Looking
+pub mod LookCases
 pub mod Zeros
 pub mod ReadBack
 pub mod Text

@@ -78,11 +78,6 @@ placesFrom v user k (b ∷ bs) = let on = placesFrom v user (suc k) bs in pick (
 
 -- ---- the raise
 
--- the answer as a number: 0, or the refusal
-abbrev pub raisedNumber : Raised → ℕ
-raisedNumber (Raised.Counts n) = 0
-raisedNumber (Raised.Refused k) = k
-
 abbrev pub blockAt : List (List ℕ) → ℕ → List ℕ
 blockAt bs i = getD bs i []
 
