@@ -1,5 +1,6 @@
 -- The numbers below 40 are those of reading: the look at a tag and its reading agree until something would be resynchronised. Assumes nothing.
 use mathlib.Core.Path.{_≡_, refl, sym, ap, _∙_, subst}
+use mathlib.Core.Logic.{_⊎_, inl, inr}
 use Prim.Native.Nat.{ℕ, zero, suc, _+_, _-_, _^_, _≤_, _<_, min}
 use native.Mathlib.Omega.{arith}
 use mathlib.Core.Bool.{Bool, true, false, not, _||_}
@@ -32,7 +33,7 @@ use Rattle.blocks.proofs.Regions.{steps-all}
 use Rattle.blocks.proofs.Opens.{opened}
 use Rattle.format.specs.Looks.{both, plainIf, unless, allZero, frameLook, onLook, lookAt, isSimple, tagLook}
 use Rattle.raise.specs.Raise.{Answer, onTag, onPlaces, raiseTo, fieldIn, blockAt, countedTag, placesFrom, tagVersion, tagBlocks, raisedOf}
-use Rattle.raise.specs.Promises.{RefusedAsReading, RefusedNumber}
+use Rattle.raise.specs.Promises.{RefusedAsReading, RefusedNumber, ReadingRefused}
 use Rattle.format.proofs.Looking.{look-head}
 use Rattle.format.specs.declared.Look.{Look}
 use Rattle.raise.specs.declared.Raised.{Raised}
@@ -265,6 +266,26 @@ refused-as-reading tag user amount k tag′ work e lt =
     let bs = tagBlocks tag in
     let x = tag-under tag tag′ k _ (tagLook tag) (places-over v bs amount tag tag′ k (placesFrom v user 0 bs)) e lt in
     ends-refused (subst (λ (y : Look). Ends y (readAll tag work .1)) x (tag-ends tag work)) lt
+
+-- ---- where reading is refused
+
+ends-stops : {x : Look} {e : Ending} (k : ℕ) → Ends x e → e ≡ refused k → (x ≡ Look.Stops k) ⊎ (x ≡ Look.Stops 40)
+ends-stops k (Ends.halts j ne) h = let z : j ≡ k = cc in inl (ap Look.Stops z)
+ends-stops k (Ends.at-once e) h = inr refl
+ends-stops k Ends.oddly h = absurd (let z : _≡_ {A = ℕ} 0 1 = cc in omega arith)
+ends-stops k Ends.plainly h = absurd (let z : _≡_ {A = ℕ} 0 1 = cc in omega arith)
+
+stopped : (tag user : List ℕ) (amount k : ℕ) → tagLook tag ≡ Look.Stops k → raisedOf tag user amount ≡ (Raised.Refused k, tag)
+unfolding raisedOf
+stopped tag user amount k e = rw e
+
+pub reading-refused : ReadingRefused
+reading-refused tag user amount k work e = by (ends-stops k (tag-ends tag work) e)
+  where
+    by : (tagLook tag ≡ Look.Stops k) ⊎ (tagLook tag ≡ Look.Stops 40)
+        → (raisedOf tag user amount ≡ (Raised.Refused k, tag)) ⊎ (raisedOf tag user amount ≡ (Raised.Refused 40, tag))
+    by (inl f) = inl (stopped tag user amount k f)
+    by (inr f) = inr (stopped tag user amount 40 f)
 
 -- ---- a refusal has a number
 

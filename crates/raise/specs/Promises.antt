@@ -1,5 +1,6 @@
 -- What is promised of raising a counter, on the definitions alone (document 01, "Raising a counter"; request f). Assumes nothing.
 use mathlib.Core.Path.{_≡_}
+use mathlib.Core.Logic.{_⊎_}
 use Prim.Native.Nat.{ℕ, zero, suc, _+_, _^_, _≤_, _<_}
 use mathlib.Core.Bool.{Bool, false}
 use mathlib.Core.List.{List, [], _∷_}
@@ -80,6 +81,11 @@ RefusedNumber = (tag user : List ℕ) (amount k : ℕ) (tag′ : List ℕ) → r
 abbrev pub RefusedAsReading : Type 0
 RefusedAsReading = (tag user : List ℕ) (amount k : ℕ) (tag′ work : List ℕ) → raisedOf tag user amount ≡ (Raised.Refused k, tag′) → k < 40
     → readAll tag work .1 ≡ refused k
+
+-- Where reading the tag is refused, with whatever work buffer, so is a raise, before 41 to 44: with that number, or with 40 at once.
+abbrev pub ReadingRefused : Type 0
+ReadingRefused = (tag user : List ℕ) (amount k : ℕ) (work : List ℕ) → readAll tag work .1 ≡ refused k
+    → (raisedOf tag user amount ≡ (Raised.Refused k, tag)) ⊎ (raisedOf tag user amount ≡ (Raised.Refused 40, tag))
 
 -- The search is one among the records that reading gives, with any work buffer.
 abbrev pub SearchReads : Type 0
