@@ -31,6 +31,11 @@ flaggedBy Id3v22 m = false
 flaggedBy Id3v23 m = false
 flaggedBy Id3v24 m = isOn m
 
+pub off-flagged : (v : Version) → flaggedBy v Off ≡ false
+off-flagged Id3v22 = refl
+off-flagged Id3v23 = refl
+off-flagged Id3v24 = refl
+
 -- what a size has to be below
 abbrev pub sizeLimit : Version → ℕ
 sizeLimit Id3v22 = 2 ^ 24

@@ -79,6 +79,11 @@ wholeBy Id3v22 m = isOn m
 wholeBy Id3v23 m = isOn m
 wholeBy Id3v24 m = false
 
+pub off-whole : (v : Version) → wholeBy v Off ≡ false
+off-whole Id3v22 = refl
+off-whole Id3v23 = refl
+off-whole Id3v24 = refl
+
 whole-is : (v : Version) (m : Mode) → (has 0x80 (flagsByte m) && not (eqb (editionByte v) 4)) ≡ wholeBy v m
 whole-is Id3v22 Off = refl
 whole-is Id3v22 Crate = refl

@@ -1,12 +1,12 @@
 -- Laws on the rest of a list from a place on, and on slices whose ends lie anywhere. Assumes nothing.
-use mathlib.Core.Path.{_≡_, ap, _∙_}
+use mathlib.Core.Path.{_≡_, sym, ap, _∙_}
 use Prim.Native.Nat.{ℕ, zero, suc, _+_, _-_, _≤_, _<_, min}
 use native.Mathlib.Numerals.{add-one}
 use native.Mathlib.Omega.{arith}
-use mathlib.Core.List.{List, [], _∷_}
-use lib.ListN.{length, take, drop, getD, length-take, length-drop}
+use mathlib.Core.List.{List, [], _∷_, _++_}
+use lib.ListN.{length, take, drop, getD, length-take, length-drop, take-append-drop}
 use lib.Seq.{drop-cons, take-nil, slice}
-use Rattle.laws.proofs.Slices.{take-cut, drop-cut}
+use Rattle.laws.proofs.Slices.{take-cut, drop-cut, take-drop-take, slice-drop}
 
 -- ---- from a place on
 
@@ -32,6 +32,12 @@ pub take-drop : (k a : ℕ) (l : List ℕ) → take k (drop a l) ≡ slice a (a 
 take-drop k zero l = let e : 0 + k ≡ k = omega arith in rw e
 take-drop k (suc a) [] = rw (take-nil k, take-nil (suc a + k))
 take-drop k (suc a) (x ∷ l) = let e : suc a + k ≡ suc (a + k) = omega arith in rw e (take-drop k a l)
+
+-- a part in two
+pub cut-in-two : (at n end : ℕ) (l : List ℕ) → at + n ≤ end → slice at end l ≡ slice at (at + n) l ++ slice (at + n) end l
+cut-in-two at n end l h =
+    let front : take n (slice at end l) ≡ slice at (at + n) l = take-drop-take n at end l h ∙ take-drop n at l in
+    rw (← front, slice-drop) (sym (take-append-drop n (slice at end l)))
 
 -- a part whose ends were moved into the list
 pub part-cut : (f t a e : ℕ) (l : List ℕ) → e ≡ min t (length l) → a ≡ min f e → take (e - a) (drop a l) ≡ slice f t l

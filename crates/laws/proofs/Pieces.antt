@@ -2,7 +2,7 @@
 use mathlib.Core.Path.{_≡_, subst}
 use Prim.Native.Nat.{ℕ, _+_, _≤_, _<_}
 use native.Mathlib.Omega.{arith}
-use mathlib.Core.List.{List, [], _∷_}
+use mathlib.Core.List.{List, []}
 use lib.ListN.{length, drop, getD, set, drop-of-length-le}
 use Rattle.laws.proofs.Cuts.{drop-next}
 use Rattle.laws.proofs.Stores.{Storing, same-list, put}

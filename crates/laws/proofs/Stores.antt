@@ -5,7 +5,7 @@ use native.Mathlib.Numerals.{add-one}
 use native.Mathlib.Omega.{arith}
 use mathlib.Core.List.{List, [], _∷_, _++_, append-assoc}
 use lib.ListN.{length, set, getD, take, drop, length-set, length-append}
-use lib.Seq.{slice, length-slice, sets, sets-eq, length-sets, length-take-le, take-at, drop-at, drop-drop, take-set-le, set-set, set-comm}
+use lib.Seq.{slice, length-slice, sets, sets-eq, length-sets, length-take-le, take-at, drop-at, drop-drop, take-set-le, drop-set-lt, set-set, set-comm}
 use Rattle.laws.proofs.Slices.{slice-none, slice-next}
 
 -- ---- a list that is stored
@@ -22,6 +22,11 @@ pub take-sets : (n : ℕ) (o : List ℕ) (p : ℕ) (l : List ℕ) → n ≤ p �
 take-sets n o p [] h = refl
 take-sets n o p (x ∷ l) h = take-sets n (set o p x) (suc p) l (omega arith) ∙ take-set-le n o p x h
 
+-- what lies behind it stays
+pub drop-behind : (n : ℕ) (o : List ℕ) (p : ℕ) (l : List ℕ) → p + length l ≤ n → drop n (sets o p l) ≡ drop n o
+drop-behind n o p [] h = refl
+drop-behind n o p (x ∷ l) h = drop-behind n (set o p x) (suc p) l (omega arith) ∙ drop-set-lt n o p x (omega arith)
+
 -- what lies before it, then the part that starts there with the list at its front
 pub sets-in : (o : List ℕ) (p : ℕ) (l : List ℕ) → p + length l ≤ length o → sets o p l ≡ take p o ++ (l ++ drop (length l) (drop p o))
 sets-in o p l h =
@@ -35,6 +40,12 @@ set-sets o p q x [] h = refl
 set-sets o p q x (y ∷ l) h =
     let apart : q ≡ p → ⊥ = λ e. omega (arith, e) in
     set-sets (set o q y) p (suc q) x l (omega arith) ∙ ap (λ (m : List ℕ). sets m (suc q) l) (set-comm o q p y x apart)
+
+-- lists that are stored one behind the other are stored in any order
+pub sets-comm : (o : List ℕ) (p q : ℕ) (l m : List ℕ) → p + length l ≤ q → sets (sets o q m) p l ≡ sets (sets o p l) q m
+sets-comm o p q [] m h = refl
+sets-comm o p q (x ∷ l) m h =
+    ap (λ (k : List ℕ). sets k (suc p) l) (set-sets o p q x m (omega arith)) ∙ sets-comm (set o p x) (suc p) q l m (omega arith)
 
 -- it is a part of the whole then
 pub slice-sets : (o : List ℕ) (p : ℕ) (l : List ℕ) → p + length l ≤ length o → slice p (p + length l) (sets o p l) ≡ l

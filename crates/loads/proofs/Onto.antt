@@ -9,8 +9,8 @@ use lib.ListN.{length, take, drop, getD, length-take, length-drop, take-append-d
 use lib.Pow.{pow-add, field, shl-shr}
 use lib.Seq.{slice, take-all, getD-take, length-slice}
 use Rattle.laws.proofs.Parts.{each-take, each-drop}
-use Rattle.laws.proofs.Cuts.{drop-next, length-cut, take-drop}
-use Rattle.laws.proofs.Slices.{slice-drop, take-drop-take}
+use Rattle.laws.proofs.Cuts.{drop-next, length-cut, cut-in-two}
+use Rattle.laws.proofs.Slices.{slice-drop}
 use Rattle.format.specs.Numbers.{onto, number}
 use Rattle.format.proofs.Numbers.{Digits, onto-sum, onto-digits, digits-onto}
 
@@ -65,17 +65,13 @@ module _ (at m n : ℕ) (l : List ℕ) (h : at + (m + n) ≤ length l) where
   same-end : at + m + n ≡ at + (m + n)
   same-end = omega arith
 
-  cut-in-two : slice at (at + (m + n)) l ≡ slice at (at + m) l ++ slice (at + m) (at + m + n) l
-  cut-in-two =
-      let whole : List ℕ = slice at (at + (m + n)) l in
-      let front : take m whole ≡ slice at (at + m) l = take-drop-take m at (at + (m + n)) l (omega arith) ∙ take-drop m at l in
-      rw (← front, same-end, slice-drop) (sym (take-append-drop m whole))
-
   pub number-in-two : number (slice at (at + m) l) * 256 ^ n + number (slice (at + m) (at + m + n) l) ≡ number (slice at (at + (m + n)) l)
   number-in-two =
       let b : List ℕ = slice (at + m) (at + m + n) l in
       let e : length b ≡ n = length-slice (at + m) (at + m + n) l (omega arith) ∙ omega arith in
-      rw (cut-in-two, onto-append) (sym (rw e at (onto-sum 256 (number (slice at (at + m) l)) b)))
+      let parts : slice at (at + (m + n)) l ≡ slice at (at + m) l ++ b =
+      cut-in-two at m (at + (m + n)) l (omega arith) ∙ ap (λ (k : ℕ). slice at (at + m) l ++ slice (at + m) k l) (sym same-end) in
+      rw (parts, onto-append) (sym (rw e at (onto-sum 256 (number (slice at (at + m) l)) b)))
 
 -- ---- the last bytes
 

@@ -1,5 +1,5 @@
 -- Reading a written tag with any work buffer. Assumes nothing.
-use mathlib.Core.Path.{_≡_, refl, sym, ap, _∙_, subst}
+use mathlib.Core.Path.{_≡_, sym, ap, _∙_, subst}
 use mathlib.Core.Logic.{_⊎_, inl, inr}
 use Prim.Native.Nat.{ℕ, zero, suc, _^_, _<_}
 use native.Mathlib.Omega.{arith}
@@ -13,12 +13,11 @@ use Rattle.format.specs.Numbered.{modeOf}
 use Rattle.format.specs.Record.{Rec}
 use Rattle.format.specs.Encode.{encode, regionBytes, tagOf}
 use Rattle.format.specs.declared.Version.{Version}
-use Rattle.format.specs.declared.Version.the-variants.{Id3v22, Id3v23, Id3v24}
 use Rattle.format.specs.declared.Mode.{Mode}
 use Rattle.format.specs.declared.Mode.the-variants.{Off}
-use Rattle.format.proofs.Encoded.{flaggedBy}
+use Rattle.format.proofs.Encoded.{flaggedBy, off-flagged}
 use Rattle.format.proofs.Accepted.{Sound}
-use Rattle.format.proofs.Tags.{wholeBy}
+use Rattle.format.proofs.Tags.{wholeBy, off-whole}
 use Rattle.reader.specs.Reader.{openOf, Stepped}
 use Rattle.reader.specs.declared.Opened.{Opened}
 use Rattle.promises.specs.Reading.{Reading, ended, andRecord, onStep, readFrom, onOpen, readFor, readAll}
@@ -102,16 +101,6 @@ module _ (v : Version) (m : Mode) (p : ℕ) (rs : List Rec) (work : List ℕ) (s
       ∙ reads-plain v m (o .begin) (o .end) (o .padding) tag f (length tag) (o .begin) (o .left) ss (fewer v m p rs small) (o .lies)
 
 -- ---- the promises
-
-off-whole : (v : Version) → wholeBy v Off ≡ false
-off-whole Id3v22 = refl
-off-whole Id3v23 = refl
-off-whole Id3v24 = refl
-
-off-flagged : (v : Version) → flaggedBy v Off ≡ false
-off-flagged Id3v22 = refl
-off-flagged Id3v23 = refl
-off-flagged Id3v24 = refl
 
 pub kept-any-room : KeptAnyRoom
 kept-any-room version mode padding altered records tag work w =

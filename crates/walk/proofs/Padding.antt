@@ -4,11 +4,11 @@ use Prim.Native.Nat.{ℕ, _+_, _-_, _≤_, _<_, min}
 use native.Mathlib.Omega.{arith}
 use mathlib.Core.Bool.{Bool, true, false, _&&_}
 use mathlib.Core.List.{List, [], _∷_, _++_}
-use lib.ListN.{length, take, getD, take-append-drop}
+use lib.ListN.{length, getD}
 use lib.Seq.{slice}
 use lib.Dec.{eqb}
-use Rattle.laws.proofs.Slices.{slice-next, slice-drop, take-drop-take}
-use Rattle.laws.proofs.Cuts.{take-drop, part-cut}
+use Rattle.laws.proofs.Slices.{slice-next}
+use Rattle.laws.proofs.Cuts.{take-drop, cut-in-two, part-cut}
 use Rattle.format.specs.Bytes.{pick}
 use Rattle.format.specs.Looks.{allZero}
 
@@ -43,14 +43,8 @@ zero-append (x ∷ l) m = by (eqb x 0) (zero-append l m)
     by false e = refl
 
 module _ (s : List ℕ) (at end n : ℕ) (h : at + n ≤ end) where
-  cut-in-two : slice at end s ≡ slice at (at + n) s ++ slice (at + n) end s
-  cut-in-two =
-      let whole : List ℕ = slice at end s in
-      let front : take n whole ≡ slice at (at + n) s = take-drop-take n at end s h ∙ take-drop n at s in
-      rw (← front, slice-drop) (sym (take-append-drop n whole))
-
   pub zero-parts : allZero (slice at end s) ≡ (allZero (slice at (at + n) s) && allZero (slice (at + n) end s))
-  zero-parts = ap allZero cut-in-two ∙ zero-append (slice at (at + n) s) (slice (at + n) end s)
+  zero-parts = ap allZero (cut-in-two at n end s h) ∙ zero-append (slice at (at + n) s) (slice (at + n) end s)
 
   -- a part that is not all zeros decides it
   pub zero-not : allZero (slice at (at + n) s) ≡ false → allZero (slice at end s) ≡ false
