@@ -1,0 +1,3 @@
+-- The proofs of moving bytes.
+pub mod Moves
+pub mod Cases

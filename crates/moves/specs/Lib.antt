@@ -1,0 +1,2 @@
+-- Moving bytes inside one buffer.
+pub mod Moves
