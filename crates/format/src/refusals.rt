@@ -94,3 +94,8 @@ pub const USER_TWICE: u8 = 42;
 pub const SUM_TOO_LARGE: u8 = 43;
 // The new counter does not fit the counter's bytes that are there.
 pub const COUNTER_TOO_SHORT: u8 = 44;
+
+// Editing a tag in place.
+
+// The tag has no frame of this number.
+pub const NO_SUCH_FRAME: u8 = 46;
