@@ -1,17 +1,16 @@
 -- A body is its four pieces one after another, and a record that passed its checks can be put. Assumes nothing.
 use mathlib.Core.Path.{_≡_, refl, sym}
-use Prim.Native.Nat.{ℕ, suc, _+_, _%_, _^_, _≤_, _<_}
+use Prim.Native.Nat.{ℕ, _%_, _^_, _≤_}
 use native.Mathlib.Omega.{arith}
-use mathlib.Core.Bool.{true, _&&_}
+use mathlib.Core.Bool.{_&&_}
 use mathlib.Core.List.{List, [], _∷_, _++_, append-nil, append-assoc}
-use lib.ListN.{length, take, drop, getD}
+use lib.ListN.{length, take}
 use lib.Seq.{take-length}
 use lib.Dec.{eqb, leb, ltb}
-use borrow.Author.Tests.{eqb-true, leb-true, ne-eqb}
+use borrow.Author.Tests.{eqb-true, leb-true}
 use denote.Enum.Declared.{tagOf}
 use types.Run.{OneOf, miss}
 use Rattle.laws.proofs.Bools.{and-true}
-use Rattle.laws.proofs.Cuts.{drop-next}
 use Rattle.format.specs.Bytes.{first, zerosIn}
 use Rattle.format.specs.Popularimeter.{counterBytes}
 use Rattle.format.specs.Table.{fit, isWidth, widthChecks}
@@ -134,14 +133,3 @@ no-references (Fields.Table f b m v w) ds k = absurd (miss (0 ∷ 1 ∷ 3 ∷ 4 
 no-references (Fields.Chapter a b c d) ds k = refl
 no-references (Fields.Contents t o) ds k = refl
 no-references Fields.Raw ds k = refl
-
--- ---- zeros, one after the other
-
-module _ (s : List ℕ) (i : ℕ) (there : i < length s) where
-  pub zero-counts : getD s i 0 ≡ 0 → zerosIn (drop i s) ≡ suc (zerosIn (drop (i + 1) s))
-  unfolding zerosIn
-  zero-counts e = rw (drop-next s i there, e)
-
-  pub other-counts-not : (getD s i 0 ≡ 0 → ⊥) → zerosIn (drop i s) ≡ zerosIn (drop (i + 1) s)
-  unfolding zerosIn
-  other-counts-not e = rw (drop-next s i there, ne-eqb _ _ e)

@@ -10,3 +10,4 @@ pub mod Smalls
 pub mod Packs
 pub mod Heads
 pub mod Finishes
+pub mod Gaps

@@ -7,3 +7,4 @@ pub mod Smalls
 pub mod Packs
 pub mod Plans
 pub mod Finishes
+pub mod Between

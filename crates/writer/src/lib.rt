@@ -1,6 +1,7 @@
 // Writing a metered tag: the writer's state and its answers. What they mean stands in specs/.
 mod add;
 pub mod begin;
+pub mod between;
 mod bodies;
 mod counter;
 mod finish;
@@ -36,4 +37,10 @@ pub enum Added {
 pub enum Finished {
     Done(usize, Writer),
     Refused(u8, Writer),
+}
+
+// Whether a buffer was edited in place; refused, nothing of it has changed.
+pub enum Edited {
+    Done,
+    Refused(u8),
 }
