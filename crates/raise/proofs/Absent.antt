@@ -1,6 +1,6 @@
 -- The search is one among the records that reading gives; a user with a zero in it is in no tag. Assumes nothing.
 use mathlib.Core.Path.{_≡_, refl, sym, ap, _∙_}
-use Prim.Native.Nat.{ℕ, zero, suc, _<_}
+use Prim.Native.Nat.{ℕ, suc, _<_}
 use native.Mathlib.Omega.{arith}
 use mathlib.Core.Bool.{Bool, true, false}
 use mathlib.Core.List.{List, [], _∷_}
@@ -22,7 +22,7 @@ search-reads tag user work e =
     places-records user 0 (p .blocks) ∙ ap (λ (o : Reading). recordsFrom user 0 (o .0)) (sym (plain-reads (p .is) work))
 
 -- what stands before the first zero has none
-no-zero : (b : List ℕ) → zeroAt (userOf b) ≡ length (userOf b)
+pub no-zero : (b : List ℕ) → zeroAt (userOf b) ≡ length (userOf b)
 unfolding zeroAt
 no-zero [] = refl
 no-zero (x ∷ b) = by (eqb x 0) refl (no-zero b)

@@ -16,11 +16,13 @@ use Rattle.blocks.specs.Blocks.{joined}
 use Rattle.raise.specs.declared.users.Found.{Found}
 use Rattle.raise.specs.declared.seeking.Sought.{Sought}
 use Rattle.raise.specs.Raise.{isMine, fieldIn, fieldAt, placesFrom, blockAt, countedTag, raiseTo, onPlaces, onTag, tagVersion, tagBlocks, raisedOf}
-use Rattle.raise.specs.Seeks.{alsoOf, foundOn, soughtBy, soughtAs, soughtOf, raisedAt, raisedBy}
+use Rattle.raise.specs.Frames.{lookedAs}
+use Rattle.raise.specs.Seeks.{alsoOf, foundOn, soughtBy, soughtOn, soughtOf, raisedAt, raisedBy}
 use Rattle.raise.proofs.Plainness.{PlainBlock, plain-at, Plain, tag-plain}
 use Rattle.raise.proofs.Stored.{mine-kind, field-ends}
 use Rattle.raise.proofs.Search.{found}
 use Rattle.raise.proofs.Stores.{ends-before}
+use Rattle.raise.proofs.Sums.{field-there}
 
 -- ---- what was found, by the places
 
@@ -28,7 +30,7 @@ use Rattle.raise.proofs.Stores.{ends-before}
 abbrev pub foundAt : Version → ℕ → List (List ℕ) → List ℕ → Found
 foundAt v at bs [] = Found.None
 foundAt v at bs (i ∷ []) =
-    Found.One (at + (length (joined (take i bs)) + fieldAt v (blockAt bs i))) (at + (length (joined (take i bs)) + length (blockAt bs i))) (counterOf (fieldIn v (blockAt bs i)))
+    Found.One (at + length (joined (take i bs))) (at + (length (joined (take i bs)) + fieldAt v (blockAt bs i))) (at + (length (joined (take i bs)) + length (blockAt bs i))) (counterOf (fieldIn v (blockAt bs i)))
 foundAt v at bs (i ∷ j ∷ l) = Found.Many
 
 -- one and no other, or many
@@ -43,18 +45,18 @@ module _ (v : Version) (user : List ℕ) where
   many-stays at (b ∷ bs) = by (isMine v user b) (many-stays (at + length b) bs)
     where
       by : (t : Bool) → foundOn v user Found.Many (at + length b) bs ≡ Found.Many
-          → foundOn v user (alsoOf Found.Many t (at + fieldAt v b) (at + length b) (counterOf (fieldIn v b))) (at + length b) bs ≡ Found.Many
+          → foundOn v user (alsoOf Found.Many t at (at + fieldAt v b) (at + length b) (counterOf (fieldIn v b))) (at + length b) bs ≡ Found.Many
       by true e = e
       by false e = e
 
-  one-stays : (x y z : ℕ) (at k : ℕ) (bs : List (List ℕ)) → foundOn v user (Found.One x y z) at bs ≡ onlyIf (placesFrom v user k bs) (Found.One x y z)
+  one-stays : (w x y z : ℕ) (at k : ℕ) (bs : List (List ℕ)) → foundOn v user (Found.One w x y z) at bs ≡ onlyIf (placesFrom v user k bs) (Found.One w x y z)
   unfolding foundOn placesFrom
-  one-stays x y z at k [] = refl
-  one-stays x y z at k (b ∷ bs) = by (isMine v user b) (one-stays x y z (at + length b) (suc k) bs)
+  one-stays w x y z at k [] = refl
+  one-stays w x y z at k (b ∷ bs) = by (isMine v user b) (one-stays w x y z (at + length b) (suc k) bs)
     where
-      by : (t : Bool) → foundOn v user (Found.One x y z) (at + length b) bs ≡ onlyIf (placesFrom v user (suc k) bs) (Found.One x y z)
-          → foundOn v user (alsoOf (Found.One x y z) t (at + fieldAt v b) (at + length b) (counterOf (fieldIn v b))) (at + length b) bs
-          ≡ onlyIf (pick t (k ∷ placesFrom v user (suc k) bs) (placesFrom v user (suc k) bs)) (Found.One x y z)
+      by : (t : Bool) → foundOn v user (Found.One w x y z) (at + length b) bs ≡ onlyIf (placesFrom v user (suc k) bs) (Found.One w x y z)
+          → foundOn v user (alsoOf (Found.One w x y z) t at (at + fieldAt v b) (at + length b) (counterOf (fieldIn v b))) (at + length b) bs
+          ≡ onlyIf (pick t (k ∷ placesFrom v user (suc k) bs) (placesFrom v user (suc k) bs)) (Found.One w x y z)
       by true e = many-stays (at + length b) bs
       by false e = e
 
@@ -77,17 +79,20 @@ module _ (v : Version) (user : List ℕ) where
       let j = joined (take i bs) in
       let start : at + length b + (length j + fieldAt v (blockAt bs i)) ≡ at + (length (b ++ j) + fieldAt v (blockAt bs i)) = omega (arith, length-append b j) in
       let stop : at + length b + (length j + length (blockAt bs i)) ≡ at + (length (b ++ j) + length (blockAt bs i)) = omega (arith, length-append b j) in
-      ap (λ (n : ℕ). Found.One n (at + length b + (length j + length (blockAt bs i))) (counterOf (fieldIn v (blockAt bs i)))) start
-      ∙ ap (λ (n : ℕ). Found.One (at + (length (b ++ j) + fieldAt v (blockAt bs i))) n (counterOf (fieldIn v (blockAt bs i)))) stop
+      let begin : at + length b + length j ≡ at + length (b ++ j) = omega (arith, length-append b j) in
+      rw (start, stop, begin)
   behind-first at b bs (i ∷ k ∷ l) = refl
 
   -- the first is the user's
   first-found : (at : ℕ) (b : List ℕ) (bs : List (List ℕ)) (l : List ℕ)
-      → onlyIf l (Found.One (at + fieldAt v b) (at + length b) (counterOf (fieldIn v b))) ≡ foundAt v at (b ∷ bs) (0 ∷ l)
+      → onlyIf l (Found.One at (at + fieldAt v b) (at + length b) (counterOf (fieldIn v b))) ≡ foundAt v at (b ∷ bs) (0 ∷ l)
   first-found at b bs [] =
       let start : at + fieldAt v b ≡ at + (0 + fieldAt v b) = omega arith in
       let stop : at + length b ≡ at + (0 + length b) = omega arith in
-      ap (λ (n : ℕ). Found.One n (at + length b) (counterOf (fieldIn v b))) start ∙ ap (λ (n : ℕ). Found.One (at + (0 + fieldAt v b)) n (counterOf (fieldIn v b))) stop
+      let begin : at ≡ at + 0 = omega arith in
+      ap (λ (n : ℕ). Found.One n (at + fieldAt v b) (at + length b) (counterOf (fieldIn v b))) begin
+      ∙ ap (λ (n : ℕ). Found.One (at + 0) n (at + length b) (counterOf (fieldIn v b))) start
+      ∙ ap (λ (n : ℕ). Found.One (at + 0) (at + (0 + fieldAt v b)) n (counterOf (fieldIn v b))) stop
   first-found at b bs (i ∷ l) = refl
 
   pub found-places : (at : ℕ) (bs : List (List ℕ)) → foundOn v user Found.None at bs ≡ foundAt v at bs (placesFrom v user 0 bs)
@@ -96,9 +101,9 @@ module _ (v : Version) (user : List ℕ) where
   found-places at (b ∷ bs) = by (isMine v user b) (found-places (at + length b) bs)
     where
       by : (t : Bool) → foundOn v user Found.None (at + length b) bs ≡ foundAt v (at + length b) bs (placesFrom v user 0 bs)
-          → foundOn v user (alsoOf Found.None t (at + fieldAt v b) (at + length b) (counterOf (fieldIn v b))) (at + length b) bs
+          → foundOn v user (alsoOf Found.None t at (at + fieldAt v b) (at + length b) (counterOf (fieldIn v b))) (at + length b) bs
           ≡ foundAt v at (b ∷ bs) (pick t (0 ∷ placesFrom v user 1 bs) (placesFrom v user 1 bs))
-      by true e = one-stays (at + fieldAt v b) (at + length b) (counterOf (fieldIn v b)) (at + length b) 1 bs ∙ first-found at b bs (placesFrom v user 1 bs)
+      by true e = one-stays at (at + fieldAt v b) (at + length b) (counterOf (fieldIn v b)) (at + length b) 1 bs ∙ first-found at b bs (placesFrom v user 1 bs)
       by false e = e ∙ behind-first at b bs (placesFrom v user 0 bs) ∙ ap (foundAt v at (b ∷ bs)) (sym (places-shift 0 bs))
 
 -- ---- in a plain tag
@@ -141,55 +146,34 @@ module _ (tag user : List ℕ) (looks : tagLook tag ≡ Look.Plain) (i : ℕ) (l
 
 -- ---- the raise by what was sought
 
+-- where the last frame ends
+abbrev lastOf : List ℕ → ℕ
+lastOf tag = 10 + length (joined (tagBlocks tag))
+
 module _ (tag user : List ℕ) (amount : ℕ) where
   raised-places : (l : List ℕ) → placesFrom (tagVersion tag) user 0 (tagBlocks tag) ≡ l → tagLook tag ≡ Look.Plain
-      → onPlaces (tagVersion tag) (tagBlocks tag) amount tag l ≡ raisedBy (soughtBy (foundAt (tagVersion tag) 10 (tagBlocks tag) l)) amount tag
+      → onPlaces (tagVersion tag) (tagBlocks tag) amount tag l ≡ raisedBy (soughtBy (foundAt (tagVersion tag) 10 (tagBlocks tag) l) (lastOf tag)) amount tag
   unfolding raiseTo raisedAt countedTag
   raised-places [] is looks = refl
   raised-places (i ∷ []) is looks =
       let b = blockAt (tagBlocks tag) i in
       let j = length (joined (take i (tagBlocks tag))) in
       let n : length (fieldIn (tagVersion tag) b) ≡ 10 + (j + length b) - (10 + (j + fieldAt (tagVersion tag) b)) = omega (arith, ends-here tag user looks i [] is) in
-      rw n
+      let start = 10 + (j + fieldAt (tagVersion tag) b) in
+      let there = field-there start (10 + (j + length b)) tag (omega (arith, ends-here tag user looks i [] is)) (in-tag tag user looks i [] is) in
+      rw (n, there)
   raised-places (i ∷ k ∷ l) is looks = refl
 
   raised-look : (x : Look) → tagLook tag ≡ x
       → onTag tag (onPlaces (tagVersion tag) (tagBlocks tag) amount tag (placesFrom (tagVersion tag) user 0 (tagBlocks tag))) x
-      ≡ raisedBy (soughtAs x (soughtBy (foundOn (tagVersion tag) user Found.None 10 (tagBlocks tag)))) amount tag
+      ≡ raisedBy (lookedAs Sought.Refused x (soughtOn (tagVersion tag) user 10 (tagBlocks tag))) amount tag
+  unfolding soughtOn
   raised-look (Look.Stops k) e = refl
   raised-look Look.Odd e = refl
   raised-look Look.Plain e =
       raised-places (placesFrom (tagVersion tag) user 0 (tagBlocks tag)) refl e
-      ∙ ap (λ (f : Found). raisedBy (soughtBy f) amount tag) (sym (found-places (tagVersion tag) user 10 (tagBlocks tag)))
+      ∙ ap (λ (f : Found). raisedBy (soughtBy f (lastOf tag)) amount tag) (sym (found-places (tagVersion tag) user 10 (tagBlocks tag)))
 
   pub raised-sought : raisedOf tag user amount ≡ raisedBy (soughtOf tag user) amount tag
   unfolding raisedOf soughtOf
   raised-sought = raised-look (tagLook tag) refl
-
--- ---- what was sought lies in the tag
-
-refused-not : {A : Type 0} {k start stop counter : ℕ} → Sought.Refused k ≡ Sought.Counter start stop counter → A
-refused-not e = absurd (let z : _≡_ {A = ℕ} 0 1 = cc in omega arith)
-
-module _ (tag user : List ℕ) {start stop counter : ℕ} where
-  places-lie : (l : List ℕ) → placesFrom (tagVersion tag) user 0 (tagBlocks tag) ≡ l → tagLook tag ≡ Look.Plain
-      → soughtBy (foundAt (tagVersion tag) 10 (tagBlocks tag) l) ≡ Sought.Counter start stop counter → (start ≤ stop) × (stop ≤ length tag)
-  places-lie [] is looks e = refused-not e
-  places-lie (i ∷ []) is looks e =
-      let b = blockAt (tagBlocks tag) i in
-      let j = length (joined (take i (tagBlocks tag))) in
-      let a : 10 + (j + fieldAt (tagVersion tag) b) ≡ start = cc in
-      let o : 10 + (j + length b) ≡ stop = cc in
-      (omega (arith, ends-here tag user looks i [] is), omega (arith, in-tag tag user looks i [] is))
-  places-lie (i ∷ k ∷ l) is looks e = refused-not e
-
-  look-lies : (x : Look) → tagLook tag ≡ x → soughtAs x (soughtBy (foundOn (tagVersion tag) user Found.None 10 (tagBlocks tag))) ≡ Sought.Counter start stop counter
-      → (start ≤ stop) × (stop ≤ length tag)
-  look-lies (Look.Stops k) looks e = refused-not e
-  look-lies Look.Odd looks e = refused-not e
-  look-lies Look.Plain looks e =
-      places-lie (placesFrom (tagVersion tag) user 0 (tagBlocks tag)) refl looks (ap soughtBy (sym (found-places (tagVersion tag) user 10 (tagBlocks tag))) ∙ e)
-
-  pub sought-lies : Sought.Counter start stop counter ≡ soughtOf tag user → (start ≤ stop) × (stop ≤ length tag)
-  unfolding soughtOf
-  sought-lies e = look-lies (tagLook tag) refl (sym e)

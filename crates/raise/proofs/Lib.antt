@@ -9,6 +9,7 @@ pub mod After
 pub mod Pairs
 pub mod Records
 pub mod Promises
+pub mod OffFrames
 pub mod Written
 pub mod Refusing
 pub mod Cases
@@ -19,6 +20,9 @@ pub mod Along
 pub mod Values
 pub mod Same
 pub mod Simple
+pub mod Headed
 pub mod Looked
 pub mod Turns
+pub mod Aims
+pub mod OfScans
 pub mod Sums

@@ -2,12 +2,12 @@
 use mathlib.Core.Path.{_≡_, refl, sym, ap, _∙_, subst}
 use Prim.Native.Nat.{ℕ, _+_, _≤_}
 use native.Mathlib.Omega.{arith}
-use mathlib.Core.Bool.{Bool, true, false, not, _&&_}
+use mathlib.Core.Bool.{Bool, true, false, not, _&&_, _||_}
 use mathlib.Core.List.{List, _∷_, _++_}
-use lib.ListN.{length, take, drop, take-append-drop}
+use lib.ListN.{length, take, drop, length-append}
 use lib.Seq.{slice, length-slice, take-take}
 use Rattle.laws.proofs.Slices.{slice-drop, take-drop-take}
-use Rattle.laws.proofs.Cuts.{take-drop}
+use Rattle.laws.proofs.Cuts.{take-drop, cut-in-two}
 use Rattle.format.specs.Bytes.{span, zeroAt}
 use Rattle.format.specs.Frame.{headOf}
 use Rattle.format.specs.Popularimeter.{counterIn, counterOf}
@@ -22,7 +22,8 @@ use Rattle.format.proofs.Looking.{look-head, frame-plain}
 use Rattle.walk.specs.declared.plain.Seen.{Seen}
 use Rattle.walk.specs.Plain.{seenKind, seenAs, onSeen, seenOf}
 use Rattle.walk.proofs.Onwards.{Placed, placed}
-use Rattle.blocks.specs.Blocks.{Block, blocksIn}
+use Rattle.walk.proofs.Looks.{turned-on}
+use Rattle.blocks.specs.Blocks.{Block, joined, blocksIn}
 use Rattle.blocks.proofs.Seen.{zero-le}
 use Rattle.blocks.proofs.Fronts.{same-head}
 use Rattle.raise.specs.declared.users.Found.{Found}
@@ -141,13 +142,17 @@ module _ {v : Version} {at end : ℕ} {s : List ℕ} {next : ℕ} {odd : Bool} {
   rest-lies : drop (m .first + m .len) (slice at end s) ≡ slice next end s
   rest-lies = place .rest ∙ ap (λ (n : ℕ). slice n end s) (m .next-is)
 
+  next-at : at + (m .first + m .len) ≡ next
+  next-at = omega (arith, m .next-is)
+
   front-lies : take (m .first + m .len) (slice at end s) ≡ slice at next s
   front-lies =
-      let n : at + (m .first + m .len) ≡ next = omega (arith, m .next-is) in
-      take-drop-take (m .first + m .len) at end s (omega (arith, place .within)) ∙ take-drop (m .first + m .len) at s ∙ ap (λ (k : ℕ). slice at k s) n
+      take-drop-take (m .first + m .len) at end s (omega (arith, place .within)) ∙ take-drop (m .first + m .len) at s ∙ ap (λ (k : ℕ). slice at k s) next-at
 
   cut : slice at end s ≡ slice at next s ++ slice next end s
-  cut = sym (take-append-drop (m .first + m .len) (slice at end s)) ∙ rw (front-lies, rest-lies)
+  cut =
+      cut-in-two at (m .first + m .len) end s (omega (arith, place .within))
+      ∙ ap (λ (n : ℕ). slice at n s ++ slice n end s) next-at
 
   -- the look: at this frame, then on
   pub look-on : lookAt v 1 (slice at end s) ≡ both (plainIf (not odd)) (lookAt v 1 (slice next end s))
@@ -182,6 +187,12 @@ module _ {v : Version} {at end : ℕ} {s : List ℕ} {next : ℕ} {odd : Bool} {
     -- it is the first, and then come those after it
     pub blocks-on : blocksIn v (slice at end s) ≡ slice at next s ∷ blocksIn v (slice next end s)
     blocks-on = ap (blocksIn v) cut ∙ blocks-next block (slice next end s)
+
+    -- the last of them ends where it ended
+    pub last-on : next + length (joined (blocksIn v (slice next end s))) ≡ at + length (joined (blocksIn v (slice at end s)))
+    last-on =
+        let rest = joined (blocksIn v (slice next end s)) in
+        omega (arith, ap (λ (l : List (List ℕ)). length (joined l)) blocks-on, length-append (slice at next s) rest, long)
 
     pub body-same : drop (m .first) (slice at next s) ≡ bodyOf m
     body-same = sym (slice-drop at (m .first) next s) ∙ sym body-lies
@@ -221,6 +232,12 @@ user-lies {v} {at} {end} {s} {next} {odd} {name} {counter} le m =
 
 -- ---- a turn
 
+-- the look goes on after a frame
+pub look-again : {v : Version} {at end : ℕ} {s : List ℕ} {next : ℕ} {odd : Bool} {kind : Kind} (le : end ≤ length s) (m : Met v at end s next odd kind) (before : Bool) {w : Look}
+    → both (plainIf (not before)) (lookAt v 1 (slice at end s)) ≡ w → both (plainIf (not (before || odd))) (lookAt v 1 (slice next end s)) ≡ w
+look-again {v} {at} {end} {s} {next} {odd} le m before e =
+    sym (turned-on before odd (lookAt v 1 (slice next end s))) ∙ ap (both (plainIf (not before))) (sym (look-on le m)) ∙ e
+
 -- a frame of another kind changes nothing that was found
 pub other-turn : (v : Version) (user : List ℕ) (f : Found) {at end : ℕ} {s : List ℕ} {next : ℕ} {odd : Bool} (le : end ≤ length s) (m : MetOther v at end s next odd)
     → odd ≡ false → foundOn v user f next (blocksIn v (slice next end s)) ≡ foundOn v user f at (blocksIn v (slice at end s))
@@ -233,14 +250,14 @@ other-turn v user f {at} {end} {s} {next} le m even =
     let b = slice at next s in
     let rest = blocksIn v (slice next end s) in
     sym (ap (foundOn v user f at) (blocks-on le (m .met) even)
-    ∙ ap (λ (t : Bool). foundOn v user (alsoOf f t (at + fieldAt v b) (at + length b) (counterOf (fieldIn v b))) (at + length b) rest) not-mine
+    ∙ ap (λ (t : Bool). foundOn v user (alsoOf f t at (at + fieldAt v b) (at + length b) (counterOf (fieldIn v b))) (at + length b) rest) not-mine
     ∙ ap (λ (n : ℕ). foundOn v user f n rest) (long le (m .met) even))
 
 -- a popularimeter is one more of the user, or not
 pub meter-turn : (v : Version) (user : List ℕ) (f : Found) {at end : ℕ} {s : List ℕ} {next : ℕ} {odd : Bool} {name : Span} {counter : ℕ} (le : end ≤ length s)
     (m : MetMeter v at end s next odd name counter) (mine : Bool) (start : ℕ) → odd ≡ false
     → mine ≡ sameBytes (slice (name .start) (name .start + name .len) s) user → start ≡ name .start + name .len + 2
-    → foundOn v user (alsoOf f mine start next counter) next (blocksIn v (slice next end s)) ≡ foundOn v user f at (blocksIn v (slice at end s))
+    → foundOn v user (alsoOf f mine at start next counter) next (blocksIn v (slice next end s)) ≡ foundOn v user f at (blocksIn v (slice at end s))
 unfolding foundOn block
 meter-turn v user f {at} {end} {s} {next} {odd} {name} {counter} le m mine start even is begins =
     let t = m .met in
@@ -263,7 +280,7 @@ meter-turn v user f {at} {end} {s} {next} {odd} {name} {counter} le m mine start
     ap counterOf (field-is w) ∙ ap (λ (l : List ℕ). counterOf (drop (zeroAt l + 2) l)) same ∙ m .counter-is in
     let rest = blocksIn v (slice next end s) in
     sym (ap (foundOn v user f at) (blocks-on le t even)
-    ∙ ap (λ (x : Bool). foundOn v user (alsoOf f x (at + fieldAt v b) (at + length b) (counterOf (fieldIn v b))) (at + length b) rest) mine-eq
-    ∙ ap (λ (n : ℕ). foundOn v user (alsoOf f mine n (at + length b) (counterOf (fieldIn v b))) (at + length b) rest) field-eq
-    ∙ ap (λ (n : ℕ). foundOn v user (alsoOf f mine start (at + length b) n) (at + length b) rest) counter-eq
-    ∙ ap (λ (n : ℕ). foundOn v user (alsoOf f mine start n counter) n rest) (long le t even))
+    ∙ ap (λ (x : Bool). foundOn v user (alsoOf f x at (at + fieldAt v b) (at + length b) (counterOf (fieldIn v b))) (at + length b) rest) mine-eq
+    ∙ ap (λ (n : ℕ). foundOn v user (alsoOf f mine at n (at + length b) (counterOf (fieldIn v b))) (at + length b) rest) field-eq
+    ∙ ap (λ (n : ℕ). foundOn v user (alsoOf f mine at start (at + length b) n) (at + length b) rest) counter-eq
+    ∙ ap (λ (n : ℕ). foundOn v user (alsoOf f mine at start n counter) n rest) (long le t even))

@@ -8,6 +8,7 @@ use lib.ListN.{length, set}
 use lib.Seq.{getD-set-same, getD-set-other}
 use lib.Dec.{ltb}
 use borrow.Author.Tests.{ltb-true, ltb-false}
+use Rattle.laws.proofs.Stores.{sets-comm}
 use Rattle.format.specs.Bytes.{pick}
 use Rattle.format.specs.Popularimeter.{counterOf}
 use Rattle.format.specs.declared.Version.{Version}
@@ -17,7 +18,7 @@ use Rattle.raise.specs.Promises.{OtherSame, RaisesCommute, RaisesAdd}
 use Rattle.raise.proofs.Fields.{field-length, field-counter, field-again}
 use Rattle.raise.proofs.Stored.{one-user, field-ends, new-at, new-field}
 use Rattle.raise.proofs.Search.{found}
-use Rattle.raise.proofs.Stores.{sets-twice, sets-comm, same-begin, ends-before}
+use Rattle.raise.proofs.Stores.{sets-twice, same-begin, ends-before}
 use Rattle.raise.proofs.Accepting.{sumAt, tagAfter, Accepted, accept, accepted, refused-same}
 use Rattle.raise.proofs.After.{lt, mine, at-block, kind, long, small, blockAfter, version-same, after-blocks, after-looks, after-places, block-length}
 use Rattle.format.specs.declared.Look.{Look}
@@ -101,7 +102,7 @@ before : (v : Version) (bs : List (List ℕ)) (i j n k : ℕ) (tag : List ℕ) �
     → countedTag v bs i n (countedTag v bs j k tag) ≡ countedTag v bs j k (countedTag v bs i n tag)
 unfolding countedTag
 before v bs i j n k tag lt le ends =
-    sets-comm tag (placeOf v bs i) (fieldOf (fieldIn v (blockAt bs i)) n) (placeOf v bs j) (fieldOf (fieldIn v (blockAt bs j)) k)
+    sets-comm tag (placeOf v bs i) (placeOf v bs j) (fieldOf (fieldIn v (blockAt bs i)) n) (fieldOf (fieldIn v (blockAt bs j)) k)
     (omega (arith, ends-before bs i j lt le, field-length (fieldIn v (blockAt bs i)) n))
 
 either-order : (v : Version) (bs : List (List ℕ)) (i j n k : ℕ) (tag : List ℕ) → (i ≡ j → ⊥) → i < length bs → j < length bs

@@ -1,12 +1,11 @@
 -- An accepted raise: the tag reads as before with that one counter, and no other byte changes. A refused one leaves all as it was. Assumes nothing.
 use mathlib.Core.Path.{_≡_, refl, sym, ap, _∙_, subst}
-use Prim.Native.Nat.{ℕ, zero, suc, _+_, _≤_, _<_}
+use Prim.Native.Nat.{ℕ, zero, suc, _+_, _<_}
 use native.Mathlib.Omega.{arith}
 use mathlib.Core.Bool.{Bool, true, false}
 use mathlib.Core.List.{List, [], _∷_}
-use lib.ListN.{length, drop, getD, set}
-use lib.Seq.{sets, drop-set-lt}
-use Rattle.laws.proofs.Stores.{take-sets}
+use lib.ListN.{length, getD, set}
+use Rattle.laws.proofs.Stores.{take-sets, drop-behind}
 use Rattle.format.specs.Popularimeter.{counterOf}
 use Rattle.format.specs.Record.{Rec}
 use Rattle.promises.specs.Reading.{Reading, readAll}
@@ -19,11 +18,6 @@ use Rattle.raise.proofs.Stored.{same-true}
 use Rattle.raise.proofs.Records.{places-records}
 use Rattle.raise.proofs.After.{was-plain, lt, at-block, long, recordsBefore, rating, record-was, after-plain, length-same, after-begin, inside-tag}
 use Rattle.raise.specs.declared.Raised.{Raised}
-
--- stores leave what follows them
-drop-behind : (l : List ℕ) (p : ℕ) (x : List ℕ) (n : ℕ) → p + length x ≤ n → drop n (sets l p x) ≡ drop n l
-drop-behind l p [] n h = refl
-drop-behind l p (y ∷ x) n h = drop-behind (set l p y) (suc p) x n (omega arith) ∙ drop-set-lt n l p y (omega arith)
 
 module _ {tag user : List ℕ} {amount : ℕ} (a : Accepted tag user amount) where
   raising : Raising tag user amount (sumAt tag (a .i) amount) (tagAfter tag (a .i) amount)
@@ -50,7 +44,7 @@ module _ {tag user : List ℕ} {amount : ℕ} (a : Accepted tag user amount) whe
         behind-header = omega arith;
         in-tag = inside-tag a;
         same-front = take-sets (placeOf v bs (a .i)) tag (placeOf v bs (a .i)) x (omega arith);
-        same-back = drop-behind tag (placeOf v bs (a .i)) x (placeOf v bs (a .i) + length field) (omega (arith, long a));
+        same-back = drop-behind (placeOf v bs (a .i) + length field) tag (placeOf v bs (a .i)) x (omega (arith, long a));
         same-length = length-same a;
         same-places = after-begin a;
       }
@@ -63,23 +57,23 @@ raise-reads tag user amount n tag′ e =
 
 -- ---- another user's records
 
-module _ (user other : List ℕ) (apart : user ≡ other → ⊥) where
-  -- no record is two users'
-  not-theirs : sameBytes user other ≡ false
-  not-theirs = by (sameBytes user other) refl
-    where
-      by : (t : Bool) → sameBytes user other ≡ t → t ≡ false
-      by true e = absurd (apart (same-true user other e))
-      by false e = refl
+-- no record is two users'
+pub not-theirs : (user other : List ℕ) → (user ≡ other → ⊥) → sameBytes user other ≡ false
+not-theirs user other apart = by (sameBytes user other) refl
+  where
+    by : (t : Bool) → sameBytes user other ≡ t → t ≡ false
+    by true e = absurd (apart (same-true user other e))
+    by false e = refl
 
-  theirs-set : (rs : List Rec) (i : ℕ) (d r q : Rec) → i < length rs → getD rs i d ≡ q → isUsers other (q .content) ≡ false → isUsers other (r .content) ≡ false
-      → theirsIn other (set rs i r) ≡ theirsIn other rs
-  unfolding theirsIn
-  theirs-set [] i d r q lt e a b = refl
-  theirs-set (x ∷ rs) zero d r q lt e a b =
-      let c : isUsers other (x .content) ≡ false = ap (λ (y : Rec). isUsers other (y .content)) e ∙ a in
-      rw (b, c)
-  theirs-set (x ∷ rs) (suc i) d r q lt e a b = rw (theirs-set rs i d r q (omega arith) e a b)
+-- a record that is not theirs in the place of another
+pub theirs-set : (other : List ℕ) (rs : List Rec) (i : ℕ) (d r q : Rec) → i < length rs → getD rs i d ≡ q → isUsers other (q .content) ≡ false
+    → isUsers other (r .content) ≡ false → theirsIn other (set rs i r) ≡ theirsIn other rs
+unfolding theirsIn
+theirs-set other [] i d r q lt e a b = refl
+theirs-set other (x ∷ rs) zero d r q lt e a b =
+    let c : isUsers other (x .content) ≡ false = ap (λ (y : Rec). isUsers other (y .content)) e ∙ a in
+    rw (b, c)
+theirs-set other (x ∷ rs) (suc i) d r q lt e a b = rw (theirs-set other rs i d r q (omega arith) e a b)
 
 pub refused-kept : RefusedSame
 refused-kept tag user amount k tag′ e = refused-same tag user amount e
@@ -92,6 +86,6 @@ others-read tag user other amount work apart = by (raisedOf tag user amount .0) 
         let g = raise-reads tag user amount n t e in
         let no = not-theirs user other apart in
         ap (λ (o : Reading). theirsIn other (o .0)) (g .after work)
-        ∙ theirs-set user other apart (g .records) (g .i) _ _ _ (g .inside) (g .was) no no
+        ∙ theirs-set other (g .records) (g .i) _ _ _ (g .inside) (g .was) no no
         ∙ sym (ap (λ (o : Reading). theirsIn other (o .0)) (g .before work))
     by (Raised.Refused k) t e = ap (λ (s : List ℕ). theirsIn other (readAll s work .0)) (refused-same tag user amount e)

@@ -55,7 +55,7 @@ picked-refused true u id start len n k c f h e = absurd (nothing-not k e)
 picked-refused false true id start len n k c f h e = absurd (found-not k id start len c f h e)
 picked-refused false false id start len n k c f h e = (refl, same-number n k e)
 
-refused-some : (v : Version) (depth : ℕ) (s : List ℕ) (k : ℕ) → headOf v depth s ≡ Head.Refused k → k ≡ 0 → ⊥
+pub refused-some : (v : Version) (depth : ℕ) (s : List ℕ) (k : ℕ) → headOf v depth s ≡ Head.Refused k → k ≡ 0 → ⊥
 unfolding headOf
 refused-some v depth s k e z =
     let n = first (frameChecks v depth s) in
@@ -137,7 +137,7 @@ agrees-within (suc n) v depth s room lt =
 
 -- ---- a look and a reading
 
-pub data Ends : Look → Ending → Type 0 where
+data Ends : Look → Ending → Type 0 where
   halts : (k : ℕ) → (k ≡ 0 → ⊥) → Ends (Look.Stops k) (refused k)
   at-once : (e : Ending) → Ends (Look.Stops 40) e
   oddly : Ends Look.Odd ended
@@ -209,7 +209,7 @@ region-shorter : (tag : List ℕ) (begin end : ℕ) → length (slice begin end 
 region-shorter tag begin end = omega (arith, length-drop begin (take end tag), length-take end tag)
 
 -- Every reading of a tag ends as the look at it says, but where that stopped at once.
-pub tag-ends : (tag work : List ℕ) → Ends (tagLook tag) (readAll tag work .1)
+tag-ends : (tag work : List ℕ) → Ends (tagLook tag) (readAll tag work .1)
 unfolding tagLook readFor openOf
 tag-ends tag work = by (headerRefusal tag) refl
   where
@@ -235,6 +235,34 @@ tag-ends tag work = by (headerRefusal tag) refl
         let is : readAll tag work ≡ ([], refused (suc k)) = rw (z, eqb·suc-zero k) in
         subst (λ (x : Reading). Ends (Look.Stops (suc k)) (x .1)) (sym is) (Ends.halts (suc k) (λ (e : suc k ≡ 0). omega arith))
 
+-- ---- where the look stops
+
+-- it has a number
+pub look-some : (tag : List ℕ) (k : ℕ) → tagLook tag ≡ Look.Stops k → 0 < k
+look-some tag k e = by (subst (λ (x : Look). Ends x (readAll tag [] .1)) e (tag-ends tag []))
+  where
+    by : {k : ℕ} {e : Ending} → Ends (Look.Stops k) e → 0 < k
+    by (Ends.halts k ne) = omega arith
+    by (Ends.at-once e) = omega arith
+
+-- every reading is refused with it, unless it is 40
+pub look-reads : (tag work : List ℕ) (k : ℕ) → tagLook tag ≡ Look.Stops k → (k ≡ 40 → ⊥) → readAll tag work .1 ≡ refused k
+look-reads tag work k e ne = by (subst (λ (x : Look). Ends x (readAll tag work .1)) e (tag-ends tag work)) ne
+  where
+    by : {k : ℕ} {e : Ending} → Ends (Look.Stops k) e → (k ≡ 40 → ⊥) → e ≡ refused k
+    by (Ends.halts k ne) n = refl
+    by (Ends.at-once e) n = absurd (n refl)
+
+-- and where a reading is refused, the look stops
+pub reads-look : (tag work : List ℕ) (k : ℕ) → readAll tag work .1 ≡ refused k → (tagLook tag ≡ Look.Stops k) ⊎ (tagLook tag ≡ Look.Stops 40)
+reads-look tag work k e = by (tag-ends tag work) e
+  where
+    by : {x : Look} {e : Ending} → Ends x e → e ≡ refused k → (x ≡ Look.Stops k) ⊎ (x ≡ Look.Stops 40)
+    by (Ends.halts j ne) h = let z : j ≡ k = cc in inl (ap Look.Stops z)
+    by (Ends.at-once e) h = inr refl
+    by Ends.oddly h = absurd (let z : _≡_ {A = ℕ} 0 1 = cc in omega arith)
+    by Ends.plainly h = absurd (let z : _≡_ {A = ℕ} 0 1 = cc in omega arith)
+
 -- ---- the answer
 
 places-over : (v : Version) (bs : List (List ℕ)) (amount : ℕ) (tag t : List ℕ) (k : ℕ) (l : List ℕ) → onPlaces v bs amount tag l ≡ (Raised.Refused k, t) → 40 < k
@@ -255,32 +283,22 @@ tag-under tag t k on (Look.Stops j) h e lt = let r : Raised.Refused j ≡ Raised
 tag-under tag t k on Look.Odd h e lt = let r : Raised.Refused 40 ≡ Raised.Refused k = ap (λ (o : Answer). o .0) e in let z : 40 ≡ k = cc in absurd (omega arith)
 tag-under tag t k on Look.Plain h e lt = absurd (omega (arith, h e))
 
-ends-refused : {k : ℕ} {e : Ending} → Ends (Look.Stops k) e → k < 40 → e ≡ refused k
-ends-refused (Ends.halts k ne) lt = refl
-ends-refused (Ends.at-once e) lt = absurd (omega arith)
-
 pub refused-as-reading : RefusedAsReading
 unfolding raisedOf
 refused-as-reading tag user amount k tag′ work e lt =
     let v = tagVersion tag in
     let bs = tagBlocks tag in
     let x = tag-under tag tag′ k _ (tagLook tag) (places-over v bs amount tag tag′ k (placesFrom v user 0 bs)) e lt in
-    ends-refused (subst (λ (y : Look). Ends y (readAll tag work .1)) x (tag-ends tag work)) lt
+    look-reads tag work k x (λ z. omega (arith, z))
 
 -- ---- where reading is refused
 
-ends-stops : {x : Look} {e : Ending} (k : ℕ) → Ends x e → e ≡ refused k → (x ≡ Look.Stops k) ⊎ (x ≡ Look.Stops 40)
-ends-stops k (Ends.halts j ne) h = let z : j ≡ k = cc in inl (ap Look.Stops z)
-ends-stops k (Ends.at-once e) h = inr refl
-ends-stops k Ends.oddly h = absurd (let z : _≡_ {A = ℕ} 0 1 = cc in omega arith)
-ends-stops k Ends.plainly h = absurd (let z : _≡_ {A = ℕ} 0 1 = cc in omega arith)
-
-stopped : (tag user : List ℕ) (amount k : ℕ) → tagLook tag ≡ Look.Stops k → raisedOf tag user amount ≡ (Raised.Refused k, tag)
+pub stopped : (tag user : List ℕ) (amount k : ℕ) → tagLook tag ≡ Look.Stops k → raisedOf tag user amount ≡ (Raised.Refused k, tag)
 unfolding raisedOf
 stopped tag user amount k e = rw e
 
 pub reading-refused : ReadingRefused
-reading-refused tag user amount k work e = by (ends-stops k (tag-ends tag work) e)
+reading-refused tag user amount k work e = by (reads-look tag work k e)
   where
     by : (tagLook tag ≡ Look.Stops k) ⊎ (tagLook tag ≡ Look.Stops 40)
         → (raisedOf tag user amount ≡ (Raised.Refused k, tag)) ⊎ (raisedOf tag user amount ≡ (Raised.Refused 40, tag))
@@ -289,22 +307,14 @@ reading-refused tag user amount k work e = by (ends-stops k (tag-ends tag work) 
 
 -- ---- a refusal has a number
 
-ends-some : {k : ℕ} {e : Ending} → Ends (Look.Stops k) e → 0 < k
-ends-some (Ends.halts k ne) = by k ne
-  where
-    by : (k : ℕ) → (k ≡ 0 → ⊥) → 0 < k
-    by zero ne = absurd (ne refl)
-    by (suc k) ne = omega arith
-ends-some (Ends.at-once e) = omega arith
-
 pub refused-number : RefusedNumber
 unfolding raisedOf
 refused-number tag user amount k tag′ e =
     let v = tagVersion tag in
     let bs = tagBlocks tag in
-    by (tagLook tag) (tag-ends tag []) (places-over v bs amount tag tag′ k (placesFrom v user 0 bs)) e
+    by (tagLook tag) refl (places-over v bs amount tag tag′ k (placesFrom v user 0 bs)) e
   where
-    by : {on : Answer} (x : Look) → Ends x (readAll tag [] .1) → (on ≡ (Raised.Refused k, tag′) → 40 < k) → onTag tag on x ≡ (Raised.Refused k, tag′) → 0 < k
-    by (Look.Stops j) f h g = let r : Raised.Refused j ≡ Raised.Refused k = ap (λ (o : Answer). o .0) g in let z : j ≡ k = cc in omega (arith, ends-some f)
+    by : {on : Answer} (x : Look) → tagLook tag ≡ x → (on ≡ (Raised.Refused k, tag′) → 40 < k) → onTag tag on x ≡ (Raised.Refused k, tag′) → 0 < k
+    by (Look.Stops j) f h g = let r : Raised.Refused j ≡ Raised.Refused k = ap (λ (o : Answer). o .0) g in let z : j ≡ k = cc in omega (arith, look-some tag j f)
     by Look.Odd f h g = let r : Raised.Refused 40 ≡ Raised.Refused k = ap (λ (o : Answer). o .0) g in let z : 40 ≡ k = cc in omega arith
     by Look.Plain f h g = omega (arith, h g)

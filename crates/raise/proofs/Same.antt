@@ -20,10 +20,10 @@ use Rattle.raise.proofs.users.Found.{the-type}
 
 -- ---- one more
 
-pub also-more : (f : Found) (start stop counter : ℕ) → OneOf (1 ∷ 2 ∷ []) (tagOf the-type f) → Found.Many ≡ alsoOf f true start stop counter
-also-more Found.None start stop counter k = absurd (miss (1 ∷ 2 ∷ []) 0 tt k)
-also-more (Found.One a b c) start stop counter k = refl
-also-more Found.Many start stop counter k = refl
+pub also-more : (f : Found) (begin start stop counter : ℕ) → OneOf (1 ∷ 2 ∷ []) (tagOf the-type f) → Found.Many ≡ alsoOf f true begin start stop counter
+also-more Found.None begin start stop counter k = absurd (miss (1 ∷ 2 ∷ []) 0 tt k)
+also-more (Found.One a b c d) begin start stop counter k = refl
+also-more Found.Many begin start stop counter k = refl
 
 -- ---- the same bytes
 

@@ -23,15 +23,15 @@ use Rattle.raise.proofs.Written.{written-raises}
 use Rattle.raise.specs.declared.Raised.{Raised}
 
 -- the runs of the sample
-runs-22 : PlainRuns (versionOf 2) (sampleOf (versionOf 2))
+pub runs-22 : PlainRuns (versionOf 2) (sampleOf (versionOf 2))
 unfolding lookAt lookFor
 runs-22 = also refl (also refl (also refl (also refl (also refl (also refl (also refl none))))))
 
-runs-23 : PlainRuns (versionOf 3) (sampleOf (versionOf 3))
+pub runs-23 : PlainRuns (versionOf 3) (sampleOf (versionOf 3))
 unfolding first zeroAt zerosIn digits onto unsync utf8From kindOf headOf namesLen bodyRefusal runOf bodyBytes encode inner allZero frameLook onLook lookAt lookFor
 runs-23 = also refl (also refl (also refl (also refl (also refl (also refl (also refl (also refl (also refl none))))))))
 
-runs-24 : PlainRuns (versionOf 4) (sampleOf (versionOf 4))
+pub runs-24 : PlainRuns (versionOf 4) (sampleOf (versionOf 4))
 unfolding first zeroAt zerosIn digits onto unsync utf8From kindOf headOf namesLen bodyRefusal runOf bodyBytes encode inner allZero frameLook onLook lookAt lookFor
 runs-24 = also refl (also refl (also refl (also refl (also refl (also refl (also refl (also refl (also refl none))))))))
 

@@ -13,7 +13,7 @@ use Rattle.laws.proofs.Stores.{take-sets}
 use Rattle.format.specs.Bytes.{zeroAt}
 use Rattle.format.specs.Frame.{headLen, headOf}
 use Rattle.format.specs.Popularimeter.{popularimeterRefusal, counterOf}
-use Rattle.format.specs.Record.{popularimeter, bodyRefusal, runOf}
+use Rattle.format.specs.Record.{bodyRefusal, runOf}
 use Rattle.format.specs.Walk.{shownKind}
 use Rattle.format.specs.declared.Version.{Version}
 use Rattle.format.specs.declared.Kind.{Kind}

@@ -6,10 +6,11 @@ ghost use lib.Seq.{slice};
 ghost use Rattle.raise.specs.Raise.{sameBytes};
 ghost use Rattle.raise.specs.Seeks.{alsoOf};
 
-// None, one whose counter lies from start up to stop, or more than one.
-pub(crate) enum Found {
+// None, one whose frame begins at `begin` and whose counter lies from start up to stop, or more than one.
+pub enum Found {
     None,
     One {
+        begin: usize,
         start: usize,
         stop: usize,
         counter: u64,
@@ -36,14 +37,22 @@ pub(crate) fn is_user(s: &[u8], start: usize, len: usize, user: &[u8]) -> bool
 }
 
 // What was found, after one more popularimeter, which is the user's or not.
-pub(crate) fn also(found: Found, mine: bool, start: usize, stop: usize, counter: u64) -> Found
-    ensures { λ r. ⌜ r ≡ alsoOf found mine start stop counter ⌝ }
+pub(crate) fn also(
+    found: Found,
+    mine: bool,
+    begin: usize,
+    start: usize,
+    stop: usize,
+    counter: u64,
+) -> Found
+    ensures { λ r. ⌜ r ≡ alsoOf found mine begin start stop counter ⌝ }
 {
     if !mine {
         return found;
     }
     match found {
         Found::None => Found::One {
+            begin,
             start,
             stop,
             counter,

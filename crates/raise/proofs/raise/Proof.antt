@@ -3,7 +3,7 @@ use mathlib.Core.Path.{_≡_, sym, ap, _∙_}
 use borrow.Author.Needs.{needs}
 use Rattle.raise.specs.declared.seeking.Sought.{Sought}
 use Rattle.raise.specs.Seeks.{soughtOf, raisedBy}
-use Rattle.raise.proofs.Along.{raised-sought, sought-lies}
+use Rattle.raise.proofs.Along.{raised-sought}
 use Rattle.raise.proofs.raise.Statement.{statement}
 use Rattle.raise.proofs.raise.Tie as tie
 
@@ -11,13 +11,6 @@ use Rattle.raise.proofs.raise.Tie as tie
 sought : (c : tie.After-seek) {x : Sought} → c .seek .result ≡ x
     → let a = c .before .before .before .before .args in x ≡ soughtOf (a .tag .now) (a .user .now)
 sought c e = sym e ∙ c .seek .ensures
-
-raise-at-requires : tie.Need-raise-at-requires
-raise-at-requires c κs =
-    let at-sought = c .before .before in
-    let at-seek = at-sought .before .before in
-    let a = at-seek .before .before .before .before .args in
-    sought-lies (a .tag .now) (a .user .now) (sought at-seek (at-sought .sought2 .given .1))
 
 returns : tie.Need-returns
 returns c =
@@ -43,7 +36,7 @@ raise-spec =
     (λ c κs. search needs)
     (λ c. search needs)
     (λ c. search needs)
-    raise-at-requires
+    (λ c κs. search needs)
     (λ c. search needs)
     returns
     (λ c. search needs)

@@ -1,11 +1,11 @@
--- `raise::seeking::is_simple` meets its contract. Assumes nothing.
+-- `raise::frames::is_simple` meets its contract. Assumes nothing.
 use mathlib.Core.Path.{sym, ap, _∙_}
 use native.Mathlib.Omega.{arith}
 use mathlib.Core.Bool.{not}
 use borrow.Author.Needs.{needs}
 use Rattle.raise.proofs.Simple.{bytes-missing, has-extended, says-simple}
-use Rattle.raise.proofs.seeking.is_simple.Statement.{statement}
-use Rattle.raise.proofs.seeking.is_simple.Tie as tie
+use Rattle.raise.proofs.frames.is_simple.Statement.{statement}
+use Rattle.raise.proofs.frames.is_simple.Tie as tie
 
 returns : tie.Need-returns
 returns c =
@@ -14,7 +14,8 @@ returns c =
 
 returns-2 : tie.Need-returns-2
 returns-2 c =
-    let at-start = c .before .before .before .before .before in
+    let at-before = c .before .before .before .before in
+    let at-start = at-before .before in
     has-extended (at-start .args .tag .now) (at-start .args .h) (at-start .pre) (sym (c .before .has .ensures) ∙ c .if2 .taken)
 
 returns-3 : tie.Need-returns-3
