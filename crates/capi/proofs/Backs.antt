@@ -1,14 +1,15 @@
 -- What is stored in words is loaded again, and the words after stay. Assumes nothing.
 use mathlib.Core.Path.{_≡_, refl, ap, _∙_}
-use Prim.Native.Nat.{ℕ, suc, _+_, _^_, _≤_, _<_}
+use Prim.Native.Nat.{ℕ, _+_, _^_, _≤_, _<_}
 use native.Mathlib.Omega.{arith}
 use native.Mathlib.Nat.{min-eq-left}
 use mathlib.Core.Bool.{Bool, true, false}
 use mathlib.Core.List.{List, [], _∷_, _++_}
-use lib.ListN.{length, set, getD, drop, List·getD-append}
-use lib.Seq.{sets, sets-eq, drop-set-lt}
+use lib.ListN.{length, getD, drop, List·getD-append}
+use lib.Seq.{sets, sets-eq}
 use lib.Dec.{leb, eqb}
 use borrow.Author.Tests.{le-leb, lt-ltb}
+use Rattle.laws.proofs.Stores.{drop-behind}
 use Rattle.format.specs.Header.{versionOf}
 use Rattle.format.specs.Numbered.{isVersion, modeNumber, modeOf, versionNumber}
 use Rattle.format.specs.declared.Version.{Version}
@@ -33,11 +34,6 @@ use Rattle.capi.specs.Meters.{meterList, meterWords, meterOf, meteredWor
 -- a word that was stored
 stored : (words l : List ℕ) (i : ℕ) → i < length l → length l ≤ length words → word i (sets words 0 l) ≡ getD l i 0
 stored words l i h fits = ap (λ (m : List ℕ). getD m i 0) (sets-eq l words 0 (omega arith)) ∙ List·getD-append l (drop (0 + length l) words) 0 i h
-
--- the words after stay
-pub behind : (words : List ℕ) (p : ℕ) (l : List ℕ) (n : ℕ) → p + length l ≤ n → drop n (sets words p l) ≡ drop n words
-behind words p [] n h = refl
-behind words p (x ∷ l) n h = behind (set words p x) (suc p) l n (omega arith) ∙ drop-set-lt n words p x (omega arith)
 
 -- ---- single words
 
@@ -193,24 +189,24 @@ heading-back r words h fits =
 
 pub header-behind : (h : Header) (words : List ℕ) → drop 4 (headerWords h words) ≡ drop 4 words
 unfolding headerWords
-header-behind h words = behind words 0 (versionNumber (h .version) ∷ h .flags ∷ h .size ∷ h .ext ∷ []) 4 (omega arith)
+header-behind h words = drop-behind 4 words 0 (versionNumber (h .version) ∷ h .flags ∷ h .size ∷ h .ext ∷ []) (omega arith)
 
 pub reader-behind : (r : Reader) (words : List ℕ) → drop 7 (readerWords r words) ≡ drop 7 words
 unfolding readerWords
-reader-behind r words = behind words 0 (readerList r) 7 (omega arith)
+reader-behind r words = drop-behind 7 words 0 (readerList r) (omega arith)
 
 pub meter-behind : (m : Meter) (words : List ℕ) → drop 11 (meterWords m words) ≡ drop 11 words
 unfolding meterWords
-meter-behind m words = behind words 0 (meterList m) 11 (omega arith)
+meter-behind m words = drop-behind 11 words 0 (meterList m) (omega arith)
 
 pub metered-behind : (p : Metered) (words : List ℕ) → drop 6 (meteredWords p words) ≡ drop 6 words
 unfolding meteredWords
-metered-behind p words = behind words 0 (flag (p .in_work) ∷ p .user .start ∷ p .user .len ∷ p .rating ∷ p .counter ∷ p .frame ∷ []) 6 (omega arith)
+metered-behind p words = drop-behind 6 words 0 (flag (p .in_work) ∷ p .user .start ∷ p .user .len ∷ p .rating ∷ p .counter ∷ p .frame ∷ []) (omega arith)
 
 pub writer-behind : (w : Writer) (words : List ℕ) → drop 4 (writerWords w words) ≡ drop 4 words
 unfolding writerWords
-writer-behind w words = behind words 0 (writerList w) 4 (omega arith)
+writer-behind w words = drop-behind 4 words 0 (writerList w) (omega arith)
 
 pub record-behind : (r : Record) (words : List ℕ) → drop 19 (recordWords r words) ≡ drop 19 words
 unfolding recordWords
-record-behind r words = behind words 0 (headingList (r .heading) ++ placeList r) 19 (omega arith)
+record-behind r words = drop-behind 19 words 0 (headingList (r .heading) ++ placeList r) (omega arith)

@@ -3,4 +3,5 @@ pub mod Words
 pub mod Calls
 pub mod Meters
 pub mod Raises
+pub mod Edits
 pub mod Metering

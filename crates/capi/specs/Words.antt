@@ -202,6 +202,14 @@ unfoldable pub headingOf : List ℕ → GivenHeading
 headingOf words =
     pick (ltb (word 1 words) (2 ^ 32)) (headingWith (word 1 words) (isMark (word 2 words)) (isMark (word 3 words)) (fieldsIn words)) GivenHeading.Bad
 
+-- words that are no record stand for one whose id no edition has, so that adding refuses it with 21
+abbrev pub headingElse : GivenHeading → Heading
+headingElse (GivenHeading.Good h) = h
+headingElse GivenHeading.Bad = record { id = 0; short = false; compressed = false; fields = Fields.Raw }
+
+abbrev pub headingIn : List ℕ → Heading
+headingIn words = headingElse (headingOf words)
+
 -- ---- what fits its words: numbers of the types that the code has for them, and no refusal without a number
 
 abbrev pub StopFits : Stop → Type 0

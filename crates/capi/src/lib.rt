@@ -13,6 +13,7 @@ use crate::meters::stopped;
 use crate::meters::store_opened;
 use crate::meters::version_in;
 use crate::records::GivenHeading;
+use crate::records::heading_in;
 use crate::records::load_heading;
 use crate::records::store_record;
 use crate::words::GivenReader;
@@ -35,13 +36,15 @@ use reader::Opened;
 use reader::Step;
 use writer::Added;
 use writer::Begun;
+use writer::Edited;
 use writer::Finished;
 ghost use mathlib.Core.Path.{_≡_};
 ghost use Prim.Native.Nat.{_≤_};
 ghost use lib.ListN.{length};
 ghost use Rattle.capi.specs.Calls.{svHeader, svOpen, svStep, afterBegin, svBegin, svBeginPlain, svAdd, svFinish, referencesOf, svReferences};
 ghost use Rattle.capi.specs.Meters.{svMeterOpen, svMeterNext};
-ghost use Rattle.capi.specs.Raises.{svRaise};
+ghost use Rattle.capi.specs.Raises.{afterRaised, svRaise};
+ghost use Rattle.capi.specs.Edits.{editNumber, svReplace, svRemove, svAppend, svLift};
 
 // Fewer words than a call takes.
 const SHORT: u32 = NO_ROOM as u32;
@@ -172,6 +175,20 @@ pub extern "C" fn sv_meter_next(
     answered(meter, metered, next)
 }
 
+// Puts the counter that a raise gave into its word.
+fn store_raised(counter: &mut [u64], raised: Raised) -> u32
+    requires { ⌜ 1 ≤ length (now counter) ⌝ }
+    ensures { λ r. ⌜ (r, now (counter .exit)) ≡ afterRaised raised (now (counter .entry)) ⌝ }
+{
+    match raised {
+        Raised::Counts(n) => {
+            counter[0] = n;
+            0
+        }
+        Raised::Refused(k) => k as u32,
+    }
+}
+
 // Adds an amount to the counter of a user's popularimeter, in the counter's bytes that are there. The word then says the new
 // counter. A refusal changes nothing.
 #[no_mangle]
@@ -182,13 +199,80 @@ pub extern "C" fn sv_raise(tag: &mut [u8], user: &[u8], amount: u64, counter: &m
         return SHORT;
     }
     let raised = raise::raise(tag, user, amount);
-    match raised {
-        Raised::Counts(n) => {
-            counter[0] = n;
-            0
-        }
-        Raised::Refused(k) => k as u32,
+    store_raised(counter, raised)
+}
+
+// What an edit answers, as a number.
+fn number_of(edited: Edited) -> u32
+    ensures { λ r. ⌜ r ≡ editNumber edited ⌝ }
+{
+    match edited {
+        Edited::Done => 0,
+        Edited::Refused(k) => k as u32,
     }
+}
+
+// Puts a record's frame in the place of the frame with this number. A refusal changes nothing.
+#[no_mangle]
+pub extern "C" fn sv_replace(
+    tag: &mut [u8],
+    number: u64,
+    record: &[u64],
+    name: &[u8],
+    names: &[u8],
+    rest: &[u8],
+    deviations: &[u32],
+) -> u32
+    ensures { λ r. ⌜ (r, now (tag .exit)) ≡ svReplace (now (tag .entry)) number (now («record» .entry)) (now (name .entry)) (now (names .entry)) (now (rest .entry)) (now (deviations .entry)) ⌝ }
+{
+    if record.len() < places::RECORD_WORDS {
+        return SHORT;
+    }
+    let heading = heading_in(record);
+    let edited = edit::replace(tag, number as usize, heading, name, names, rest, deviations);
+    number_of(edited)
+}
+
+// Takes away the frame with this number. A refusal changes nothing.
+#[no_mangle]
+pub extern "C" fn sv_remove(tag: &mut [u8], number: u64) -> u32
+    ensures { λ r. ⌜ (r, now (tag .exit)) ≡ svRemove (now (tag .entry)) number ⌝ }
+{
+    let edited = edit::remove(tag, number as usize);
+    number_of(edited)
+}
+
+// Puts a record's frame after the last. A refusal changes nothing.
+#[no_mangle]
+pub extern "C" fn sv_append(
+    tag: &mut [u8],
+    record: &[u64],
+    name: &[u8],
+    names: &[u8],
+    rest: &[u8],
+    deviations: &[u32],
+) -> u32
+    ensures { λ r. ⌜ (r, now (tag .exit)) ≡ svAppend (now (tag .entry)) (now («record» .entry)) (now (name .entry)) (now (names .entry)) (now (rest .entry)) (now (deviations .entry)) ⌝ }
+{
+    if record.len() < places::RECORD_WORDS {
+        return SHORT;
+    }
+    let heading = heading_in(record);
+    let edited = edit::append(tag, heading, name, names, rest, deviations);
+    number_of(edited)
+}
+
+// Adds an amount to the counter of a user's popularimeter, in the counter's bytes that are there or, where these are too few,
+// in a frame that takes more room. The word then says the new counter. A refusal changes nothing.
+#[no_mangle]
+pub extern "C" fn sv_lift(tag: &mut [u8], user: &[u8], amount: u64, counter: &mut [u64]) -> u32
+    ensures { λ r. ⌜ (r, now (tag .exit), now (counter .exit)) ≡ svLift (now (tag .entry)) (now (user .entry)) amount (now (counter .entry)) ⌝ }
+{
+    if counter.len() < places::COUNTER_WORDS {
+        return SHORT;
+    }
+    let raised = edit::lift(tag, user, amount);
+    store_raised(counter, raised)
 }
 
 // Puts a writer that was begun into words.

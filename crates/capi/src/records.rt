@@ -8,7 +8,7 @@ ghost use mathlib.Core.Path.{_≡_};
 ghost use Prim.Native.Nat.{_≤_};
 ghost use lib.ListN.{length};
 ghost use lib.Seq.{sets};
-ghost use Rattle.capi.specs.Words.{numbersOf, headingList, placeList, recordWords, cap8 as cap8Of, cap32 as cap32Of, textIf, popularimeterIf, tableIf, chapterIf, contentsIf, fieldsIn, headingOf};
+ghost use Rattle.capi.specs.Words.{numbersOf, headingList, placeList, recordWords, cap8 as cap8Of, cap32 as cap32Of, textIf, popularimeterIf, tableIf, chapterIf, contentsIf, fieldsIn, headingOf, headingIn};
 
 // A kind and its five numbers.
 pub struct Numbers {
@@ -300,5 +300,22 @@ pub(crate) fn load_heading(words: &[u64]) -> GivenHeading
             fields,
         }),
         GivenFields::Bad => GivenHeading::Bad,
+    }
+}
+
+// The heading that words say. Words that are no record stand for one whose id no edition has: adding refuses it with 21.
+pub(crate) fn heading_in(words: &[u64]) -> Heading
+    requires { ⌜ 19 ≤ length (now words) ⌝ }
+    ensures { λ r. ⌜ r ≡ headingIn (now (words .entry)) ⌝ }
+{
+    let given = load_heading(words);
+    match given {
+        GivenHeading::Good(h) => h,
+        GivenHeading::Bad => Heading {
+            id: 0,
+            short: false,
+            compressed: false,
+            fields: Fields::Raw,
+        },
     }
 }

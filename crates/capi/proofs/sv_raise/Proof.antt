@@ -10,15 +10,9 @@ returns c = sym (raise-short _ _ _ _ (c .if1 .taken))
 
 returns-2 : tie.Need-returns-2
 returns-2 c =
-    let at-raised = c .before in
-    let at-raise = at-raised .before .before .before .before in
-    sym (raise-then _ _ _ _ (at-raise .before .before .if1 .left) (at-raise .raise .ensures) (at-raised .raised .given .1))
-
-returns-3 : tie.Need-returns-3
-returns-3 c =
-    let at-raised = c .before in
-    let at-raise = at-raised .before .before .before .before in
-    sym (raise-then _ _ _ _ (at-raise .before .before .if1 .left) (at-raise .raise .ensures) (at-raised .raised2 .given .1))
+    let at-stored = c .before .before in
+    let at-raise = at-stored .before .before .before .before in
+    raise-then _ _ _ _ (at-raise .before .before .if1 .left) (at-stored .store-raised .ensures) (at-raise .raise .ensures)
 
 pub sv-raise-spec : {M : Type 1} → statement M
 sv-raise-spec =
@@ -26,12 +20,7 @@ sv-raise-spec =
     (tie.spec
     returns
     (λ c κs. search needs)
+    (λ c κs. search needs)
     (λ c. search needs)
     (λ c. search needs)
-    (λ c. search needs)
-    (λ c. search needs)
-    (λ c. search needs)
-    (λ c. search needs)
-    returns-2
-    (λ c. search needs)
-    returns-3)
+    returns-2)
