@@ -3,6 +3,7 @@ use mathlib.Core.Path.{_≡_, sym, ap, _∙_}
 use Rattle.format.specs.declared.Version.{Version}
 use Rattle.format.proofs as format
 use Rattle.loads.proofs as loads
+use Rattle.moves.proofs as moves
 use Rattle.unsynch.proofs as unsynch
 use Rattle.frame.proofs as frame
 use Rattle.walk.proofs as walk
@@ -14,6 +15,7 @@ use Rattle.writer.proofs as writer
 use Rattle.printout.proofs as printout
 use Rattle.back.proofs as back
 use Rattle.raise.proofs as raise
+use Rattle.edit.proofs as edit
 use Rattle.capi.proofs as capi
 use Rattle.answers.specs.OneAnswer.{OneAnswer}
 
@@ -78,6 +80,11 @@ read64-one κs a x y v w p q = alike p q λ o. (o, v)
 
 pub read-few-one : OneAnswer loads.read_few.ended loads.read_few.Reads.Learnt
 read-few-one κs a x y v w p q = alike (p .0) (q .0) λ o. (o, v)
+
+-- ---- moves
+
+pub shift-one : OneAnswer moves.shift.ended moves.shift.Reads.Learnt
+shift-one κs a x y v w p q = alike p q λ o. (tt, (o, v .1))
 
 -- ---- unsynch
 
@@ -218,6 +225,9 @@ add-one κs a x y v w p q = alike (p .0) (q .0) λ o. (o .0, (v .0, (o .1, v .1 
 pub finish-one : OneAnswer writer.Writer.finish.ended writer.Writer.finish.Reads.Learnt
 finish-one κs a x y v w p q = alike p q λ o. (o .0, (v .0, (o .1, v .1 .1)))
 
+pub put-between-one : OneAnswer writer.between.put_between.ended writer.between.put_between.Reads.Learnt
+put-between-one κs a x y v w p q = alike p q λ o. (o .0, (o .1, v .1))
+
 -- ---- printout
 
 pub list-one : OneAnswer printout.list.ended printout.list.Reads.Learnt
@@ -232,6 +242,35 @@ there-and-back-one κs a x y v w p q = alike (p .0) (q .0) λ o. (o .0, (o .1 .0
 
 pub raise-one : OneAnswer raise.raise.ended raise.raise.Reads.Learnt
 raise-one κs a x y v w p q = alike p q λ o. (o .0, (o .1, v .1))
+
+pub frames-one : OneAnswer raise.frames.frames.ended raise.frames.frames.Reads.Learnt
+frames-one κs a x y v w p q = alike p q λ o. (o, v)
+
+pub is-plain-end-one : OneAnswer raise.frames.is_plain_end.ended raise.frames.is_plain_end.Reads.Learnt
+is-plain-end-one κs a x y v w p q = alike p q λ o. (o, v)
+
+pub scan-one : OneAnswer raise.scanning.scan.ended raise.scanning.scan.Reads.Learnt
+scan-one κs a x y v w p q = alike p q λ o. (o, v)
+
+pub seek-one : OneAnswer raise.seeking.seek.ended raise.seeking.seek.Reads.Learnt
+seek-one κs a x y v w p q = alike p q λ o. (o, v)
+
+pub raise-at-one : OneAnswer raise.counter.raise_at.ended raise.counter.raise_at.Reads.Learnt
+raise-at-one κs a x y v w p q = alike p q λ o. (o .0, (o .1, v .1))
+
+-- ---- edit
+
+pub replace-one : OneAnswer edit.replace.ended edit.replace.Reads.Learnt
+replace-one κs a x y v w p q = alike (p .0) (q .0) λ o. (o .0, (o .1, v .1))
+
+pub remove-one : OneAnswer edit.remove.ended edit.remove.Reads.Learnt
+remove-one κs a x y v w p q = alike p q λ o. (o .0, (o .1, v .1))
+
+pub append-one : OneAnswer edit.append.ended edit.append.Reads.Learnt
+append-one κs a x y v w p q = alike (p .0) (q .0) λ o. (o .0, (o .1, v .1))
+
+pub lift-one : OneAnswer edit.lift.ended edit.lift.Reads.Learnt
+lift-one κs a x y v w p q = alike p q λ o. (o .0, (o .1, v .1))
 
 -- ---- capi
 
@@ -264,6 +303,18 @@ sv-meter-open-one κs a x y v w p q = alike p q λ o. (o .0, (v .0, (o .1, (o .2
 
 pub sv-raise-one : OneAnswer capi.sv_raise.ended capi.sv_raise.Reads.Learnt
 sv-raise-one κs a x y v w p q = alike p q λ o. (o .0, (o .1, (v .1 .0, (v .1 .1 .0, (o .2, v .1 .1 .1 .1)))))
+
+pub sv-replace-one : OneAnswer capi.sv_replace.ended capi.sv_replace.Reads.Learnt
+sv-replace-one κs a x y v w p q = alike p q λ o. (o .0, (o .1, v .1))
+
+pub sv-remove-one : OneAnswer capi.sv_remove.ended capi.sv_remove.Reads.Learnt
+sv-remove-one κs a x y v w p q = alike p q λ o. (o .0, (o .1, v .1))
+
+pub sv-append-one : OneAnswer capi.sv_append.ended capi.sv_append.Reads.Learnt
+sv-append-one κs a x y v w p q = alike p q λ o. (o .0, (o .1, v .1))
+
+pub sv-lift-one : OneAnswer capi.sv_lift.ended capi.sv_lift.Reads.Learnt
+sv-lift-one κs a x y v w p q = alike p q λ o. (o .0, (o .1, (v .1 .0, (v .1 .1 .0, (o .2, v .1 .1 .1 .1)))))
 
 pub sv-meter-next-one : OneAnswer capi.sv_meter_next.ended capi.sv_meter_next.Reads.Learnt
 sv-meter-next-one κs a x y v w p q = alike p q λ o. (o .0, (v .0, (o .1, (o .2, (o .3, v .1 .1 .1 .1)))))
