@@ -7,7 +7,7 @@
  *     valgrind --error-exitcode=1 ./hard 100000
  *
  * The numbers are the same in each run. Exit status: 0 every answer was one that the function may give, 1 another was met
- * or a refused raise changed something, 2 there was no memory. rust/tests/hard checks far more of each answer.
+ * or a refused change in place changed something, 2 there was no memory. rust/tests/hard checks far more of each answer.
  */
 #include "streamvault.h"
 
@@ -181,7 +181,7 @@ static uint8_t *some_user(const uint8_t *tag, size_t tag_len, size_t *len)
 /* Whether an answer is a refusal number, 0 or the end. */
 static void check(const char *name, uint32_t answer, uint64_t kept)
 {
-    int known = answer <= 14 || (20 <= answer && answer <= 35) || (40 <= answer && answer <= 44) || answer == SV_END || answer == kept;
+    int known = answer <= 14 || (20 <= answer && answer <= 35) || (40 <= answer && answer <= 44) || answer == 46 || answer == SV_END || answer == kept;
     if (!known) {
         printf("%s answered %" PRIu32 "\n", name, answer);
         exit(1);
@@ -305,7 +305,17 @@ static void writing(void)
     free(deviations);
 }
 
-/* Raises a counter. Refused, the tag and the word are as before. */
+/* Ends the program where a refused call changed its tag or something else. */
+static void check_same(const char *name, uint32_t answer, const uint8_t *tag, const uint8_t *before, size_t len, int others)
+{
+    check(name, answer, 0);
+    if (answer != 0 && !((len == 0 || memcmp(tag, before, len) == 0) && others)) {
+        printf("%s answered %" PRIu32 " and changed something\n", name, answer);
+        exit(1);
+    }
+}
+
+/* Raises or lifts a counter. Refused, the tag and the word are as before. */
 static void raising(void)
 {
     size_t tag_len, user_len, counter_len;
@@ -313,18 +323,52 @@ static void raising(void)
     uint8_t *before = copy(tag, tag_len);
     uint8_t *user = some_user(tag, tag_len, &user_len);
     uint64_t *counter = words(SV_COUNTER_WORDS, &counter_len);
-    uint64_t was = counter_len > 0 ? counter[0] : 0;
-    uint32_t answer = sv_raise(tag, tag_len, user, user_len, below(2) ? below(3) : word(), counter, counter_len);
-    check("sv_raise", answer, 0);
-    int same = (tag_len == 0 || memcmp(tag, before, tag_len) == 0) && (counter_len == 0 || counter[0] == was);
-    if (answer != 0 && !same) {
-        printf("sv_raise answered %" PRIu32 " and changed something\n", answer);
-        exit(1);
-    }
+    uint64_t was = counter_len > 0 ? counter[0] : 0, amount = below(2) ? below(3) : word();
+    int lifts = (int)below(2);
+    uint32_t answer = lifts ? sv_lift(tag, tag_len, user, user_len, amount, counter, counter_len)
+                            : sv_raise(tag, tag_len, user, user_len, amount, counter, counter_len);
+    check_same(lifts ? "sv_lift" : "sv_raise", answer, tag, before, tag_len, counter_len == 0 || counter[0] == was);
     free(tag);
     free(before);
     free(user);
     free(counter);
+}
+
+/* Replaces, removes or appends a frame. Refused, the tag is as before. */
+static void editing(void)
+{
+    size_t tag_len, record_len, lens[3], deviations_len = below(8);
+    uint8_t *tag = below(2) ? some_tag(&tag_len) : counted_tag(&tag_len);
+    uint8_t *before = copy(tag, tag_len), *parts[3];
+    uint64_t *record = words(SV_RECORD_WORDS, &record_len), number = below(4) ? below(3) : word();
+    for (size_t i = 0; i < 3; i++)
+        parts[i] = bytes(lens[i] = below(12));
+    uint32_t *deviations = block(deviations_len * sizeof *deviations);
+    for (size_t i = 0; i < deviations_len; i++)
+        deviations[i] = (uint32_t)word();
+    mostly(record, record_len, SV_RECORD_KIND, below(6));
+    mostly(record, record_len, SV_RECORD_ID, sv_id(ids[below(sizeof ids / sizeof *ids)]));
+    for (size_t i = SV_RECORD_SHORT; i < SV_RECORD_AT; i++)
+        mostly(record, record_len, i, i < SV_TEXT_ENCODING ? 0 : below(4));
+    check_same("sv_replace",
+               sv_replace(tag, tag_len, number, record, record_len, parts[0], lens[0], parts[1], lens[1], parts[2], lens[2],
+                          deviations, deviations_len),
+               tag, before, tag_len, 1);
+    if (tag_len > 0)
+        memcpy(before, tag, tag_len);
+    check_same("sv_append",
+               sv_append(tag, tag_len, record, record_len, parts[0], lens[0], parts[1], lens[1], parts[2], lens[2], deviations,
+                         deviations_len),
+               tag, before, tag_len, 1);
+    if (tag_len > 0)
+        memcpy(before, tag, tag_len);
+    check_same("sv_remove", sv_remove(tag, tag_len, number), tag, before, tag_len, 1);
+    for (size_t i = 0; i < 3; i++)
+        free(parts[i]);
+    free(tag);
+    free(before);
+    free(record);
+    free(deviations);
 }
 
 int main(int argc, char **argv)
@@ -337,6 +381,7 @@ int main(int argc, char **argv)
         metering();
         writing();
         raising();
+        editing();
     }
     printf("%lu cases, every answer known\n", cases);
     return 0;

@@ -2,7 +2,7 @@
 
 Each function names the section of document 01 that it says. Where that leaves a choice, the settled reading is told beside it.
 Where a later request has replaced a rule, the rule is that of the section of that name in docs/SCOPE.md, and the request is named.
-What request f adds, raising a counter in place, stands last.
+What requests f and j add, raising a counter and editing a tag in place, stands last.
 The spans of a record are no matter of document 01: they are laid out as crates/format/specs/Record.antt has them.
 Bytes are `bytes`, a lent buffer is a `bytearray` that a call changes in place, and a refusal is the exception `Refused`.
 Editions are 2, 3 and 4; modes are "off", "crate" and "standard"; kinds are the words of the listing.
@@ -682,3 +682,60 @@ def raise_counter(tag, user, amount):
     start = first + frame.begin + before
     tag[start : start + count] = counter.to_bytes(count, "big")
     return counter
+
+
+# ---- request j: one frame replaced, removed or added in place
+
+
+def plain_blocks(tag):
+    """The top-level frames of a plain tag, each as its bytes from its header to where the next frame begins. Refused as a raise is, up to 40."""
+    frames, first = plain_frames(tag)
+    ends = [first] + [first + frame.begin + len(frame.body) for frame in frames]
+    return [tag[a:b] for a, b in zip(ends, ends[1:])]
+
+
+def with_blocks(tag, blocks):
+    """The tag with these frames and zeros behind them; 20 where the frames together are longer than the header's size. All else stays."""
+    size, inside = read_header(tag).size, b"".join(blocks)
+    refuse_if(len(inside) > size, 20)
+    return tag[:10] + inside + bytes(size - len(inside)) + tag[10 + size :]
+
+
+def new_block(version, r):
+    """The frame of a record as adding writes it, mode and mark off, or adding's refusal."""
+    check_record(version, r)
+    return frame_bytes(version, "off", r)
+
+
+def replace_frame(tag, number, r):
+    """A record's frame in the place of the frame with this number, counted from 0."""
+    blocks = plain_blocks(tag)
+    refuse_if(number >= len(blocks), 46)
+    return with_blocks(tag, blocks[:number] + [new_block(tag[3], r)] + blocks[number + 1 :])
+
+
+def remove_frame(tag, number):
+    """The tag without the frame with this number."""
+    blocks = plain_blocks(tag)
+    refuse_if(number >= len(blocks), 46)
+    return with_blocks(tag, blocks[:number] + blocks[number + 1 :])
+
+
+def append_frame(tag, r):
+    """A record's frame behind the last."""
+    blocks = plain_blocks(tag)
+    return with_blocks(tag, blocks + [new_block(tag[3], r)])
+
+
+def lift_counter(tag, user, amount):
+    """The sum and the tag then: raised as request f has it, and where that is 44 a popularimeter with the same user and rating stands in the frame's place."""
+    lent = bytearray(tag)
+    try:
+        return raise_counter(lent, user, amount), bytes(lent)
+    except Refused as refusal:
+        refuse_if(refusal.number != 44, refusal.number)
+    frames, _ = plain_frames(tag)
+    [number] = [i for i, f in enumerate(frames) if f.parts.kind == POPULARIMETER and part(f.parts.name, f.body) == user]
+    rating, counter = frames[number].parts.numbers
+    r = Given(POPULARIMETER, b"POP" if tag[3] == 2 else b"POPM", (rating, counter + amount), name=user)
+    return counter + amount, replace_frame(tag, number, r)
