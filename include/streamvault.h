@@ -1,9 +1,9 @@
 /*
  * Streamvault: reads and writes ID3v2 tags (2.2, 2.3 and 2.4).
  *
- * Link the static library, target/staticlib/libcapi.a (`rt staticlib capi`). It is for x86-64 Linux, and needs memcpy and
- * memset from the C library and nothing else. It allocates nothing, keeps nothing between calls and calls nothing back, so
- * any thread may use it.
+ * Link the static library, target/staticlib/libcapi.a (`rt staticlib capi`). It is for x86-64 Linux, and needs memcpy,
+ * memmove and memset from the C library and nothing else. It allocates nothing, keeps nothing between calls and calls
+ * nothing back, so any thread may use it.
  *
  * Every function answers 0, or the number of a refusal; sv_step and sv_meter_next also SV_END. The caller lends every
  * buffer:
@@ -21,7 +21,8 @@
  * Reading: sv_open, then sv_step with the same tag, work buffer and reader until it answers something other than 0.
  * Counters alone: sv_meter_open, then sv_meter_next in the same way; the meter's marks then say whether some may be missing.
  * Writing: sv_begin or sv_begin_plain, sv_add for each record, sv_finish.
- * A counter in a tag that is there: sv_raise.
+ * A counter in a tag that is there: sv_raise, or sv_lift, which takes a longer frame where the counter has too few bytes.
+ * A frame in a tag that is there: sv_replace, sv_remove, sv_append.
  */
 #ifndef STREAMVAULT_H
 #define STREAMVAULT_H
@@ -84,6 +85,9 @@ extern "C" {
 #define SV_USER_TWICE 42           /* two or more popularimeters of the top level have this user */
 #define SV_SUM_TOO_LARGE 43        /* the counter and the amount sum to more than 64 bits hold */
 #define SV_COUNTER_TOO_SHORT 44    /* the counter has too few bytes for the sum */
+
+/* Refusals of editing a tag in place, after those of reading and SV_NOT_PLAIN. */
+#define SV_NO_SUCH_FRAME 46        /* the tag has no frame of this number */
 
 /* ---- the words of a header */
 
@@ -297,6 +301,52 @@ uint32_t sv_finish(uint64_t padding, const uint8_t *buffer, size_t buffer_len, u
 uint32_t sv_raise(uint8_t *tag, size_t tag_len, const uint8_t *user, size_t user_len, uint64_t amount, uint64_t *counter,
                   size_t counter_len);
 
+/* ---- editing a tag in place */
+
+/*
+ * These change one frame of the top level, in the tag at the front of the bytes lent. What follows the tag may be lent with
+ * it: it is not looked at and never changes, and neither does the tag's header. No work buffer is needed.
+ *
+ * Where they answer 0, the tag reads as before with that one edit. Later frames were moved up or down as they are, padding
+ * shrank or grew by as many bytes, and all bytes after the last frame are 0: room that one edit frees serves the next.
+ * Anything else is a refusal, and then nothing at all has changed. In this order:
+ *
+ * - SV_NO_ROOM, where the record has fewer words than SV_RECORD_WORDS.
+ * - What reading the whole tag is refused with, and SV_NOT_PLAIN, as sv_raise has them.
+ * - SV_NO_SUCH_FRAME, where the tag has no frame of this number, for sv_replace and sv_remove.
+ * - What sv_add refuses the record with, in the tag's own edition, with SV_MODE_OFF and altered 0; SV_WRONG_ID for words
+ *   that are no record.
+ * - SV_NO_ROOM, exactly where the frames together, after the edit, are longer than the header's size.
+ *
+ * A frame goes from its header to where the next one begins. Frames are counted from 0, as sv_step shows them.
+ */
+
+/* Puts a record as a frame in the place of the frame of this number. It is given and written as by sv_add. */
+uint32_t sv_replace(uint8_t *tag, size_t tag_len, uint64_t number, const uint64_t *record, size_t record_len,
+                    const uint8_t *name, size_t name_len, const uint8_t *names, size_t names_len, const uint8_t *rest,
+                    size_t rest_len, const uint32_t *deviations, size_t deviations_len);
+
+/* Takes the frame of this number away. */
+uint32_t sv_remove(uint8_t *tag, size_t tag_len, uint64_t number);
+
+/* Puts a record as a frame after the last. It is given and written as by sv_add. */
+uint32_t sv_append(uint8_t *tag, size_t tag_len, const uint64_t *record, size_t record_len, const uint8_t *name,
+                   size_t name_len, const uint8_t *names, size_t names_len, const uint8_t *rest, size_t rest_len,
+                   const uint32_t *deviations, size_t deviations_len);
+
+/*
+ * Adds an amount to a user's counter as sv_raise does. Where that is refused with SV_COUNTER_TOO_SHORT, the frame is replaced
+ * as by sv_replace: by a popularimeter of the same user and rating with the new counter, without flags and data length. The
+ * counter's word is the new counter either way.
+ *
+ * Refusals are those of sv_raise in their order, but for SV_COUNTER_TOO_SHORT: in its place comes SV_NO_ROOM, where the
+ * frames together would be longer than the header's size, and before that SV_LONG_BODY, where the body of a 2.2 frame would
+ * be too long, or SV_TOO_LONG, which only a tag of 2^28 bytes and more can meet. A refusal changes nothing at all,
+ * neither the tag nor the word.
+ */
+uint32_t sv_lift(uint8_t *tag, size_t tag_len, const uint8_t *user, size_t user_len, uint64_t amount, uint64_t *counter,
+                 size_t counter_len);
+
 /*
  * ---- conveniences
  *
@@ -350,6 +400,7 @@ static inline const char *sv_meaning(uint32_t number)
     case SV_USER_TWICE: return "two or more popularimeters of the top level have this user";
     case SV_SUM_TOO_LARGE: return "the counter and the amount sum to more than 64 bits hold";
     case SV_COUNTER_TOO_SHORT: return "the counter has too few bytes for the sum";
+    case SV_NO_SUCH_FRAME: return "the tag has no frame of this number";
     default: return "a number that is none";
     }
 }
@@ -401,6 +452,20 @@ static inline uint32_t sv_add_given(const sv_given *given, uint8_t *buffer, size
     if (count != NULL)
         *count = added[0];
     return answer;
+}
+
+/* sv_replace with the slices of `given`: it puts the record as a frame in the place of the frame of this number. */
+static inline uint32_t sv_replace_given(uint8_t *tag, size_t tag_len, uint64_t number, const sv_given *given)
+{
+    return sv_replace(tag, tag_len, number, given->record, SV_RECORD_WORDS, given->name, given->name_len, given->names,
+                      given->names_len, given->rest, given->rest_len, given->deviations, given->deviations_len);
+}
+
+/* sv_append with the slices of `given`: it puts the record as a frame after the last. */
+static inline uint32_t sv_append_given(uint8_t *tag, size_t tag_len, const sv_given *given)
+{
+    return sv_append(tag, tag_len, given->record, SV_RECORD_WORDS, given->name, given->name_len, given->names,
+                     given->names_len, given->rest, given->rest_len, given->deviations, given->deviations_len);
 }
 
 #ifdef __cplusplus
