@@ -21,7 +21,9 @@ fn main() {
     for version in [Version::Id3v23, Version::Id3v24] {
         small_tags(version);
         raising(version);
+        editing(version);
     }
+    moving();
     raw_bodies();
     for (name, bytes) in
         [("clean", clean()), ("random", random()), ("FF-dense", dense()), ("FF-dense at random", dense_at_random())]
@@ -34,9 +36,15 @@ fn main() {
 
 /// The best time of several runs, in nanoseconds.
 fn best<T>(mut run: impl FnMut() -> T) -> f64 {
+    best_on(|| (), |()| run())
+}
+
+/// The best time of several runs, each on something that is made ready before it and not timed.
+fn best_on<S, T>(mut ready: impl FnMut() -> S, mut run: impl FnMut(&mut S) -> T) -> f64 {
     let times = (0..RUNS).map(|_| {
+        let mut state = ready();
         let start = Instant::now();
-        black_box(run());
+        black_box(run(black_box(&mut state)));
         start.elapsed().as_secs_f64() * 1e9
     });
     times.fold(f64::INFINITY, f64::min)
@@ -184,6 +192,105 @@ fn library_raise(tags: &mut [Vec<u8>]) -> u64 {
     raised.sum()
 }
 
+// ---- one frame changed in place, beside reading and raising the same tags
+
+/// The words of a record to be written, with all else 0.
+fn words(kind: u64, id: &[u8; 4], counter: u64) -> [u64; SV_RECORD_WORDS] {
+    let mut record = [0; SV_RECORD_WORDS];
+    (record[SV_RECORD_KIND], record[SV_RECORD_ID]) = (kind, u64::from(u32::from_be_bytes(*id)));
+    if kind == SV_KIND_POPULARIMETER {
+        record[SV_POPULARIMETER_COUNTER] = counter;
+    }
+    record
+}
+
+fn given<'a>(record: &'a [u64], name: &'a [u8], rest: &'a [u8]) -> calls::Given<'a> {
+    calls::Given { record, name, names: &[], rest, deviations: &[] }
+}
+
+/// The least counter of so many bytes.
+fn least(bytes: u32) -> u64 {
+    1 << (8 * (bytes - 1))
+}
+
+fn lift(tag: &mut [u8], amount: u64) -> u32 {
+    calls::lift(tag, b"room 7", amount, &mut [0; SV_COUNTER_WORDS])
+}
+
+/// Puts a popularimeter with this counter in the place of a frame.
+fn recount(tag: &mut [u8], number: u64, counter: u64) -> u32 {
+    let record = words(SV_KIND_POPULARIMETER, b"POPM", counter);
+    calls::replace(tag, number, given(&record, b"room 7", &[]))
+}
+
+fn append(tag: &mut [u8]) -> u32 {
+    let record = words(SV_KIND_TEXT, b"TALB", 0);
+    calls::append(tag, given(&record, &[], b"An album"))
+}
+
+/// What is done to a tag, and the frames and the counter that it then has.
+type Edit = (&'static str, fn(&mut [u8]) -> u32, u64, u64);
+
+fn editing(version: Version) {
+    // counters of six bytes; the popularimeter is number 2
+    let counter = least(6);
+    let tags = vec![small_tag(version, counter); TAGS];
+    let edits: [Edit; 7] = [
+        ("lifted in the counter's bytes", |tag| lift(tag, 1), 4, counter + 1),
+        ("lifted to one byte more", |tag| lift(tag, least(7)), 4, counter + least(7)),
+        ("a frame replaced by one as long", |tag| recount(tag, 2, least(6) + 1), 4, counter + 1),
+        ("a frame replaced by one a byte longer", |tag| recount(tag, 2, least(7)), 4, least(7)),
+        ("a frame replaced by one a byte shorter", |tag| recount(tag, 2, least(5)), 4, least(5)),
+        ("a frame removed", |tag| calls::remove(tag, 2), 3, 0),
+        ("a frame appended", append, 5, counter),
+    ];
+    let walk = best(|| library_walk(black_box(&tags)));
+    let raise = best_on(|| tags.clone(), |tags| library_raise(tags));
+    for (what, edit, frames, counter) in edits {
+        let all = |tags: &mut Vec<Vec<u8>>| tags.iter_mut().for_each(|tag| assert_eq!(edit(tag), 0));
+        let mut edited = tags.clone();
+        all(&mut edited);
+        let many = TAGS as u64;
+        assert_eq!(library_walk(&edited), ((frames + 1) * many, counter * many), "{what}");
+        let time = best_on(|| tags.clone(), all);
+        println!("{TAGS} small tags, {version}, {what}:");
+        println!("  {:.1} ns for a tag", time / TAGS as f64);
+        println!("  {:.2} times open and step to the end", time / walk);
+        println!("  {:.2} times a raise", time / raise);
+    }
+}
+
+/// A frame of 1 MiB after the one that is changed is moved, or is removed, so that as many bytes are cleared.
+fn moving() {
+    let mut writer = Writer::new(Version::Id3v24);
+    writer.add(b"POPM", &Content::Popularimeter { user: &b"room 7"[..], rating: 3, counter: least(6) }).unwrap();
+    writer.add(b"PRIV", &Content::Raw { body: &clean() }).unwrap();
+    let tag = writer.finish(64).unwrap();
+    // headers of ten bytes; the popularimeter's body has 14
+    let (from, to) = (10 + 24, tag.len() - 64);
+    type Bytes = fn(&mut [u8], usize, usize);
+    let up: Bytes = |bytes, from, to| bytes.copy_within(from..to, from + 1);
+    let down: Bytes = |bytes, from, to| bytes.copy_within(from..to, from - 1);
+    let to_front: Bytes = |bytes, from, to| bytes.copy_within(from..to, 10);
+    let zeros: Bytes = |bytes, from, to| bytes[from..to].fill(0);
+    let edits: [(Edit, Bytes, &str); 4] = [
+        (("moved up by one byte", |tag| recount(tag, 0, least(7)), 2, least(7)), up, "copy_within"),
+        (("moved down by one byte", |tag| recount(tag, 0, least(5)), 2, least(5)), down, "copy_within"),
+        (("moved down by a removed frame", |tag| calls::remove(tag, 0), 1, 0), to_front, "copy_within"),
+        (("cleared", |tag| calls::remove(tag, 1), 1, least(6)), zeros, "fill"),
+    ];
+    for ((what, edit, frames, counter), plain, name) in edits {
+        let mut edited = tag.clone();
+        assert_eq!(edit(&mut edited), 0);
+        assert_eq!(library_walk(&[edited]), (frames + 1, counter), "{what}");
+        let library = best_on(|| tag.clone(), |tag| edit(tag));
+        let plain = best_on(|| tag.clone(), |tag| plain(tag, from, to));
+        println!("1 MiB in a tag, {what}:");
+        println!("  {:.3} ns for a byte", library / (to - from) as f64);
+        println!("  {:.2} times {name} of as many bytes", library / plain);
+    }
+}
+
 // ---- a raw body is not looked at
 
 fn raw_bodies() {
@@ -271,9 +378,8 @@ fn unsynchronising(name: &str, bytes: &[u8]) {
 
 /// Adds a 2.4 frame with a raw body of 1 MiB in standard mode, which measures the body and unsynchronises it.
 fn adding(name: &str, bytes: &[u8]) {
-    let mut record = [0; SV_RECORD_WORDS];
-    (record[SV_RECORD_KIND], record[SV_RECORD_ID]) = (SV_KIND_RAW, u64::from(u32::from_be_bytes(*b"PRIV")));
-    let given = calls::Given { record: &record, name: &[], names: &[], rest: black_box(bytes), deviations: &[] };
+    let record = words(SV_KIND_RAW, b"PRIV", 0);
+    let given = given(&record, &[], black_box(bytes));
     let (mut buffer, mut other) = (vec![0; 10 + 2 * bytes.len()], vec![0; 2 * bytes.len()]);
     let mut count = [0];
     let mut add = || calls::add(given, &mut buffer, &mut [4, SV_MODE_STANDARD, 0, 0], &mut count);

@@ -174,3 +174,68 @@ pub fn raise(tag: &mut [u8], user: &[u8], amount: u64, counter: &mut [u64]) -> u
         )
     }
 }
+
+/// Puts a record as a frame in the place of the frame of this number.
+pub fn replace(tag: &mut [u8], number: u64, given: Given<'_>) -> u32 {
+    // SAFETY: pointers and lengths are those of live slices, and `tag` is borrowed alone.
+    unsafe {
+        sys::sv_replace(
+            tag.as_mut_ptr(),
+            tag.len(),
+            number,
+            given.record.as_ptr(),
+            given.record.len(),
+            given.name.as_ptr(),
+            given.name.len(),
+            given.names.as_ptr(),
+            given.names.len(),
+            given.rest.as_ptr(),
+            given.rest.len(),
+            given.deviations.as_ptr(),
+            given.deviations.len(),
+        )
+    }
+}
+
+/// Takes the frame of this number away.
+pub fn remove(tag: &mut [u8], number: u64) -> u32 {
+    // SAFETY: pointer and length are those of a live slice that is borrowed alone.
+    unsafe { sys::sv_remove(tag.as_mut_ptr(), tag.len(), number) }
+}
+
+/// Puts a record as a frame after the last.
+pub fn append(tag: &mut [u8], given: Given<'_>) -> u32 {
+    // SAFETY: pointers and lengths are those of live slices, and `tag` is borrowed alone.
+    unsafe {
+        sys::sv_append(
+            tag.as_mut_ptr(),
+            tag.len(),
+            given.record.as_ptr(),
+            given.record.len(),
+            given.name.as_ptr(),
+            given.name.len(),
+            given.names.as_ptr(),
+            given.names.len(),
+            given.rest.as_ptr(),
+            given.rest.len(),
+            given.deviations.as_ptr(),
+            given.deviations.len(),
+        )
+    }
+}
+
+/// Adds an amount to the counter of a user's popularimeter, in place or in a longer frame.
+pub fn lift(tag: &mut [u8], user: &[u8], amount: u64, counter: &mut [u64]) -> u32 {
+    // SAFETY: pointers and lengths are those of live slices, and those written are borrowed alone.
+    unsafe {
+        sys::sv_lift(
+            tag.as_mut_ptr(),
+            tag.len(),
+            user.as_ptr(),
+            user.len(),
+            amount,
+            counter.as_mut_ptr(),
+            counter.len(),
+        )
+    }
+}

@@ -6,7 +6,8 @@
 //! - [`Meter`] reads the counters of a tag that lies in memory, and nothing else.
 //! - [`header`] and [`Reader`] read all of it frame by frame, [`read`] at once.
 //! - [`Writer`] makes a tag of records.
-//! - [`raise`] adds to a counter in a tag, in place.
+//! - [`raise`] adds to a counter in a tag, in place; [`lift`] also where that takes a longer frame.
+//! - [`replace`], [`remove`] and [`append`] change one frame of a tag, in place.
 //! - [`references`] unpacks a lookup table, [`Content::subframes`] what a chapter holds.
 //! - A [`Refusal`] is a number with its name and its meaning.
 //!
@@ -32,8 +33,10 @@
 #![warn(missing_docs)]
 
 pub mod calls;
+mod edit;
 mod id;
 mod kinds;
+mod lift;
 mod meter;
 mod raise;
 mod reader;
@@ -45,8 +48,10 @@ pub mod sys;
 mod work;
 mod writer;
 
+pub use edit::{append, remove, replace};
 pub use id::Id;
 pub use kinds::{Encoding, Kind, Mode, Version};
+pub use lift::lift;
 pub use meter::{Ending, Meter, Popularimeter};
 pub use raise::raise;
 pub use reader::{header, read, Header, Reader, Records};

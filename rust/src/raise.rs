@@ -28,7 +28,7 @@ use crate::{calls, Refusal};
 ///
 /// What reading the tag is refused with; [`Refusal::NOT_PLAIN`] where it is not of the plain sort, and at once where reading
 /// would resynchronise; then [`Refusal::USER_ABSENT`], [`Refusal::USER_TWICE`], [`Refusal::SUM_TOO_LARGE`] and
-/// [`Refusal::COUNTER_TOO_SHORT`].
+/// [`Refusal::COUNTER_TOO_SHORT`], where [`lift`](crate::lift) goes on with a longer frame.
 ///
 /// Plain is a tag of which all bytes are there, without extended header, unsynchronisation and compression, with no frame
 /// cut short, also inside chapters, and with only zeros after the last frame: one written with [`Mode::Off`], for example.

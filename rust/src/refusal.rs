@@ -163,6 +163,8 @@ names! {
     SUM_TOO_LARGE = 43;
     /// the counter has too few bytes for the sum
     COUNTER_TOO_SHORT = 44;
+    /// the tag has no frame of this number
+    NO_SUCH_FRAME = 46;
 }
 
 #[cfg(test)]
@@ -194,7 +196,7 @@ mod tests {
     #[test]
     fn other_numbers_say_that_they_are_none() {
         assert_eq!(Refusal::new(99).to_string(), "refused 99: a number that is none");
-        for number in [0, 15, 19, 36, 39, 45, 99, crate::sys::SV_END] {
+        for number in [0, 15, 19, 36, 39, 45, 47, 99, crate::sys::SV_END] {
             assert_eq!(Refusal::from_number(number), None);
         }
     }

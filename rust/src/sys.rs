@@ -112,6 +112,53 @@ extern "C" {
         counter: *mut u64,
         counter_len: usize,
     ) -> u32;
+
+    /// Puts a record as a frame in the place of another in a tag.
+    pub fn sv_replace(
+        tag: *mut u8,
+        tag_len: usize,
+        number: u64,
+        record: *const u64,
+        record_len: usize,
+        name: *const u8,
+        name_len: usize,
+        names: *const u8,
+        names_len: usize,
+        rest: *const u8,
+        rest_len: usize,
+        deviations: *const u32,
+        deviations_len: usize,
+    ) -> u32;
+
+    /// Takes a frame away from a tag.
+    pub fn sv_remove(tag: *mut u8, tag_len: usize, number: u64) -> u32;
+
+    /// Puts a record as a frame after the last of a tag.
+    pub fn sv_append(
+        tag: *mut u8,
+        tag_len: usize,
+        record: *const u64,
+        record_len: usize,
+        name: *const u8,
+        name_len: usize,
+        names: *const u8,
+        names_len: usize,
+        rest: *const u8,
+        rest_len: usize,
+        deviations: *const u32,
+        deviations_len: usize,
+    ) -> u32;
+
+    /// Adds an amount to a counter in a tag, in place or in a longer frame.
+    pub fn sv_lift(
+        tag: *mut u8,
+        tag_len: usize,
+        user: *const u8,
+        user_len: usize,
+        amount: u64,
+        counter: *mut u64,
+        counter_len: usize,
+    ) -> u32;
 }
 
 // ---- answers besides 0
@@ -200,6 +247,8 @@ refusals! {
     pub const SV_SUM_TOO_LARGE: u32 = 43;
     /// the counter has too few bytes for the sum
     pub const SV_COUNTER_TOO_SHORT: u32 = 44;
+    /// the tag has no frame of this number
+    pub const SV_NO_SUCH_FRAME: u32 = 46;
 }
 
 // ---- the words of a header

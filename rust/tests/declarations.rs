@@ -207,17 +207,21 @@ fn numbers(constants: &Constants) -> BTreeMap<&str, u64> {
 
 // ---- the comparisons
 
-const EXPORTED: [&str; 11] = [
+const EXPORTED: [&str; 15] = [
     "sv_add",
+    "sv_append",
     "sv_begin",
     "sv_begin_plain",
     "sv_finish",
     "sv_header",
+    "sv_lift",
     "sv_meter_next",
     "sv_meter_open",
     "sv_open",
     "sv_raise",
     "sv_references",
+    "sv_remove",
+    "sv_replace",
     "sv_step",
 ];
 

@@ -3,6 +3,9 @@
 
 mod common;
 #[allow(dead_code)]
+#[path = "../examples/edit.rs"]
+mod edit;
+#[allow(dead_code)]
 #[path = "../examples/minutes.rs"]
 mod minutes;
 #[allow(dead_code)]
@@ -167,4 +170,52 @@ fn raise_takes_no_amount_that_is_not_a_number_of_64_bits() {
     assert_eq!(std::fs::read(&file).unwrap(), std::fs::read(&song).unwrap());
     let output = command(&program).args(["room 1", "18446744073709551615"]).arg(&file).output().unwrap();
     assert_eq!(said(&output), (format!("{}\n", Refusal::SUM_TOO_LARGE), 1));
+}
+
+#[test]
+fn edit_sets_the_title_in_the_file() {
+    let folder = folder("edit-example");
+    let (program, file) = (compiled("edit", &folder), folder.join("song.mp3"));
+    for (sample, title, want) in [
+        ("adverts/full.mp3", Some("Filled"), Ok("replaced")),
+        ("adverts/full.mp3", Some("Full"), Ok("replaced")),
+        ("adverts/full.mp3", Some("F"), Ok("replaced")),
+        ("adverts/full.mp3", None, Ok("removed")),
+        ("adverts/full.mp3", Some("No room for a title so long"), Err(Refusal::NO_ROOM)),
+        ("march/first.mp3", None, Ok("removed")),
+        ("march/box.mp3", Some("A box"), Ok("replaced")),
+        ("march/third.mp3", Some("Third"), Err(Refusal::NOT_PLAIN)),
+        ("march/no-tag.mp3", Some("None"), Err(Refusal::NO_TAG)),
+        // the title is found before what is refused, and then the whole tag is
+        ("damaged/refused-encrypted.mp3", None, Err(Refusal::ENCRYPTED)),
+    ] {
+        let song = std::fs::read(root().join("samples").join(sample)).unwrap();
+        let mut bytes = song.clone();
+        let done = edit::set_title(&mut bytes, title);
+        assert_eq!(done, want, "{sample}");
+        let said_of_it = done.map_or_else(|refusal| refusal.to_string(), str::to_string);
+        let wanted = (format!("{said_of_it}\n"), i32::from(done.is_err()));
+        std::fs::write(&file, &song).unwrap();
+        assert_eq!(said(&command(&program).arg(&file).args(title).output().unwrap()), wanted, "{sample}");
+        assert_eq!(std::fs::read(&file).unwrap(), bytes);
+        std::fs::write(&file, &song).unwrap();
+        let in_rust = edit::edit_in(&file, title).map_or_else(|error| error.to_string(), str::to_string);
+        assert_eq!((in_rust, std::fs::read(&file).unwrap()), (said_of_it, bytes));
+    }
+}
+
+#[test]
+fn edit_adds_a_title_where_there_is_none() {
+    let folder = folder("edit-added");
+    let (program, file) = (compiled("edit", &folder), folder.join("song.mp3"));
+    std::fs::copy(root().join("samples/adverts/full.mp3"), &file).unwrap();
+    let edited = |title: Option<&str>| said(&command(&program).arg(&file).args(title).output().unwrap()).0;
+    for (title, done) in [(None, "removed\n"), (None, "there is none\n"), (Some("Last"), "added\n")] {
+        assert_eq!(edited(title), done);
+    }
+    let records = read(&std::fs::read(&file).unwrap()).unwrap();
+    let ids: Vec<_> = records.iter().map(|record| record.id.to_string()).collect();
+    assert_eq!(ids, ["POPM", "POPM", "TIT2"]);
+    assert_eq!(records[2].content, Content::Text { encoding: Encoding::Latin1, text: b"Last".to_vec() });
+    assert_eq!(said(&command(&program).output().unwrap()), (String::new(), 2));
 }

@@ -137,3 +137,57 @@ fn a_given_record_is_added_as_sv_add_does() {
         assert_eq!(text, want);
     }
 }
+
+/// What editing answers, and the bytes after the tag's header then.
+#[test]
+fn a_given_record_replaces_and_is_appended() {
+    let code = r#"
+        #include "streamvault.h"
+        #include <inttypes.h>
+        #include <stdio.h>
+        #include <string.h>
+
+        static uint8_t tag[10 + 31] = "ID3\3\0\0\0\0\0\37";
+
+        static void edited(uint32_t answer)
+        {
+            printf("%" PRIu32 " ", answer);
+            for (size_t at = 10; at < sizeof tag; at++)
+                printf("%02X", tag[at]);
+            printf("\n");
+        }
+
+        int main(void)
+        {
+            sv_given given = sv_given_of(SV_KIND_POPULARIMETER, "POPM");
+            given.record[SV_POPULARIMETER_COUNTER] = 258;
+            given.name = (const uint8_t *)"a";
+            given.name_len = 1;
+            edited(sv_replace_given(tag, sizeof tag, 0, &given));
+            edited(sv_append_given(tag, sizeof tag, &given));
+            edited(sv_append_given(tag, sizeof tag, &given));
+            edited(sv_append_given(tag, sizeof tag, &given));
+            given.record[SV_POPULARIMETER_COUNTER] = 1;
+            edited(sv_replace_given(tag, sizeof tag, 0, &given));
+            given.name_len = 2;
+            edited(sv_replace_given(tag, sizeof tag, 1, &given));
+            edited(sv_remove(tag, sizeof tag, 0));
+            return 0;
+        }
+    "#;
+    let [two, one] = ["504F504D000000050000610000" /* a, 258 */, "504F504D000000040000610000" /* a, 1 */];
+    let [two, one] = [format!("{two}0102"), format!("{one}01")];
+    let want = [
+        (sys::SV_NO_SUCH_FRAME, String::new()),
+        (0, two.clone()),
+        (0, two.clone() + &two),
+        (sys::SV_NO_ROOM, two.clone() + &two),
+        (0, one.clone() + &two),
+        (sys::SV_ZERO_IN_NAME, one.clone() + &two),
+        (0, two.clone()),
+    ];
+    let want: String = want.iter().map(|(answer, frames)| format!("{answer} {frames:0<62}\n")).collect();
+    for text in printed("edited", &[code]) {
+        assert_eq!(text, want);
+    }
+}

@@ -2,7 +2,7 @@
 
 mod common;
 
-use common::{command, folder, root, said};
+use common::{command, compile_shared, folder, root, said};
 use std::ffi::{c_char, CStr, OsStr};
 use std::fs::{self, File};
 use std::io::Read;
@@ -12,6 +12,7 @@ use std::os::unix::fs::{symlink, OpenOptionsExt, PermissionsExt};
 use std::os::unix::process::CommandExt;
 use std::path::{Path, PathBuf};
 use std::process::{Command, Output, Stdio};
+use std::sync::OnceLock;
 use std::time::{Duration, SystemTime};
 use streamvault::{read, Content, Mode, Refusal, Version, Writer};
 
@@ -465,7 +466,12 @@ fn every_status() {
         (&["list", "samples/damaged/cut-in-padding-2.4.mp3"], 1),
         (&["list", "samples/damaged/short-frame.mp3"], 1),
         (&["raise", "--user", "adverts", "--by", "1", "--dry-run", "samples/adverts/both.mp3"], 0),
-        (&["raise", "--user", "adverts", "--by", "1", "--dry-run", "samples/adverts/full.mp3"], 1),
+        (&["raise", "--user", "adverts", "--by", "1", "--dry-run", "samples/adverts/full.mp3"], 0),
+        (&["raise", "--user", "adverts", "--by", "1", "--dry-run", "--keep-size", "samples/adverts/full.mp3"], 1),
+        (&["raise", "--user", "adverts", "--by", "1", "--dry-run", "samples/adverts/music.mp3"], 1),
+        (&["recover", "samples/adverts/full.mp3"], 0),
+        (&["recover", "samples/no such"], 3),
+        (&["recover"], 2),
         (&["raise", "--user", "adverts", "--by", "1", "--dry-run", "samples/no such"], 3),
         (&["raise", "--user", "adverts", "--by", "1"], 2),
         (&["sum"], 2),
@@ -592,11 +598,16 @@ fn a_raise_that_is_only_tried_changes_nothing() {
 #[test]
 fn the_readme_shows_what_a_raise_prints() {
     let files = ["both", "full", "music"].map(|name| format!("samples/adverts/{name}.mp3"));
-    let output = program().args(["raise", "--user", "adverts", "--by", "3", "--dry-run"]).args(files).output().unwrap();
-    let (out, status) = said(&output);
+    let words = ["raise", "--user", "adverts", "--by", "3", "--dry-run"];
+    let (out, status) = said(&program().args(words).args(&files).output().unwrap());
     assert_eq!((out.lines().count(), status), (4, 1));
+    let readme = fs::read_to_string(root().join("README.md")).unwrap();
     let shown: String = out.lines().map(|line| format!("    {line}\n")).collect();
-    assert!(fs::read_to_string(root().join("README.md")).unwrap().contains(&shown), "{shown}");
+    assert!(readme.contains(&shown), "{shown}");
+    // of the same with --keep-size the line that differs
+    let (kept, _) = said(&program().args(words).arg("--keep-size").args(&files).output().unwrap());
+    let shown = format!("    {}\n", kept.lines().nth(1).unwrap());
+    assert!(shown.contains("refused 44") && readme.contains(&shown), "{shown}");
 }
 
 #[test]
@@ -616,7 +627,6 @@ fn a_raise_by_nothing_writes_nothing() {
 fn what_is_not_raised_says_why_and_stays() {
     let folder = folder("raise-refused");
     let files: Vec<_> = [
-        ("adverts/full.mp3", 44),
         ("adverts/music.mp3", 41),
         ("march/third.mp3", 40),
         ("march/second.mp3", 40),
@@ -636,7 +646,11 @@ fn what_is_not_raised_says_why_and_stays() {
     ]
     .map(|(sample, number)| (fs::read(root().join("samples").join(sample)).unwrap(), number))
     .into_iter()
-    .chain([(tag(&["adverts", "room 1", "adverts"], 7), 42), (tag(&["adverts"], u64::MAX), 43)])
+    .chain([
+        (tag(&["adverts", "room 1", "adverts"], 7), 42),
+        (tag(&["adverts"], u64::MAX), 43),
+        (tag(&["adverts"], 255), 20),
+    ])
     .collect();
     let paths: Vec<_> = (0..files.len()).map(|number| folder.join(format!("{number}.mp3"))).collect();
     let mut want = String::new();
@@ -667,7 +681,7 @@ fn every_file_that_can_be_raised_is() {
     let lines: Vec<_> = out.lines().collect();
     for (line, (path, want)) in lines.iter().zip(names.iter().zip([
         "raised by 2 from 7 to 9",
-        "refused 44: ",
+        "refused 20: ",
         "not readable: not a file",
         "not readable: No such file",
         "raised by 2 from 7 to 9",
@@ -809,4 +823,356 @@ fn a_raise_that_cannot_be_printed_is_told_and_is_the_last() {
         assert_eq!(fs::read(&first).unwrap(), tag(&["adverts"], 8));
         assert_eq!(fs::read(&second).unwrap(), tag(&["adverts"], 7));
     }
+}
+
+// ---- in a new frame
+
+/// The place of a file's journal.
+fn journal(path: &Path) -> PathBuf {
+    let mut name = path.as_os_str().to_owned();
+    name.push(".streamvault-journal");
+    PathBuf::from(name)
+}
+
+/// What a file of these bytes is to be when a user's counter is lifted.
+fn lifted(bytes: &[u8], user: &str, by: u64) -> Vec<u8> {
+    let mut bytes = bytes.to_vec();
+    streamvault::lift(&mut bytes, user.as_bytes(), by).unwrap();
+    bytes
+}
+
+#[test]
+fn a_counter_with_too_few_bytes_gets_a_new_frame() {
+    let (path, bytes) = copied("raise-new-frame", "adverts/full.mp3");
+    let output = raise("adverts", "3", &[&path]);
+    let line = format!("{}: raised by 3 from 255 to 258, in a new frame\n1 file raised, 0 refused\n", path.display());
+    assert_eq!((said(&output), err(&output).as_str()), ((line, 0), ""));
+    let after = fs::read(&path).unwrap();
+    assert_eq!(after, lifted(&bytes, "adverts", 3));
+    assert!(!journal(&path).exists());
+    // the next fits the bytes that it now has
+    assert!(said(&raise("adverts", "3", &[&path])).0.contains(": raised by 3 from 258 to 261\n"));
+    let want = "user,popularimeters,counter\nadverts,1,261\nroom 1,1,300\n";
+    assert_eq!(said(&run(&["sum", "--csv", path.to_str().unwrap()])), (want.to_string(), 0));
+}
+
+#[test]
+fn a_counter_that_is_to_keep_its_size_is_refused() {
+    let (path, bytes) = copied("raise-keep-size", "adverts/full.mp3");
+    let (out, status) = said(&raising("adverts", "3", &[&path]).arg("--keep-size").output().unwrap());
+    assert_eq!((out.contains(&Refusal::COUNTER_TOO_SHORT.to_string()), status), (true, 1), "{out}");
+    assert_eq!(fs::read(&path).unwrap(), bytes);
+    // where the sum fits, nothing differs
+    let (path, bytes) = copied("raise-keep-size", "adverts/both.mp3");
+    assert_eq!(said(&raising("adverts", "3", &[&path]).arg("--keep-size").output().unwrap()).1, 0);
+    assert_eq!(fs::read(&path).unwrap(), with(&bytes, counter_at(&bytes, "adverts"), &[0, 0, 0, 15]));
+}
+
+#[test]
+fn a_new_frame_that_is_only_tried_changes_nothing() {
+    let (path, bytes) = copied("raise-new-frame-tried", "adverts/full.mp3");
+    let (out, status) = said(&raising("adverts", "3", &[&path]).arg("--dry-run").output().unwrap());
+    assert!(out.contains(": would be raised by 3 from 255 to 258, in a new frame\n"), "{out}");
+    assert_eq!((status, fs::read(&path).unwrap()), (0, bytes));
+    assert_eq!(fs::read_dir(path.parent().unwrap()).unwrap().count(), 1);
+}
+
+#[test]
+fn a_file_of_several_names_gets_no_new_frame() {
+    let (path, bytes) = copied("raise-hard-link", "adverts/full.mp3");
+    let name = path.with_file_name("name.mp3");
+    fs::hard_link(&path, &name).unwrap();
+    let (out, status) = said(&raise("adverts", "3", &[&path]));
+    assert!(
+        out.contains(": not raised: a new frame takes a journal, which would stand beside one of its 2 names only"),
+        "{out}"
+    );
+    assert_eq!((status, fs::read(&path).unwrap()), (3, bytes.clone()));
+    // in its own bytes a counter is raised all the same
+    assert_eq!(said(&raise("room 1", "3", &[&path])).1, 0);
+    fs::remove_file(&name).unwrap();
+    assert_eq!(said(&raise("adverts", "3", &[&path])).1, 0);
+    assert_eq!(fs::read(&path).unwrap(), lifted(&lifted(&bytes, "room 1", 3), "adverts", 3));
+}
+
+#[test]
+fn a_folder_that_takes_no_journal_leaves_the_file() {
+    let (path, bytes) = copied("raise-read-only-folder", "adverts/full.mp3");
+    let folder = path.parent().unwrap();
+    fs::set_permissions(folder, fs::Permissions::from_mode(0o555)).unwrap();
+    // who may do everything may write there nevertheless
+    let may = File::create(folder.join("other")).is_ok();
+    let (out, status) = said(&raise("adverts", "3", &[&path]));
+    fs::set_permissions(folder, fs::Permissions::from_mode(0o755)).unwrap();
+    assert_eq!(
+        (status, out.contains(": not raised: its journal: ")),
+        if may { (0, false) } else { (3, true) },
+        "{out}"
+    );
+    assert_eq!(fs::read(&path).unwrap() == bytes, !may);
+    // nor does a name that leaves no room for the journal's
+    let long = folder.join("n".repeat(250));
+    fs::write(&long, &bytes).unwrap();
+    let (out, status) = said(&raise("adverts", "3", &[&long]));
+    assert!(out.contains(": not raised: its journal: File name too long"), "{out}");
+    assert_eq!((status, fs::read(&long).unwrap()), (3, bytes));
+    assert_eq!(said(&raise("room 1", "3", &[&long])).1, 0);
+}
+
+// ---- raises that do not end
+
+/// A song whose counters stand farther back than a journal is long; that of `a` is full.
+fn long_song() -> Vec<u8> {
+    let mut writer = Writer::new(Version::Id3v24);
+    writer.add(b"PRIV", &Content::Raw { body: &[7; 300] }).unwrap();
+    for (user, counter) in [("a", 255), ("b", 0x1234)] {
+        writer.add(b"POPM", &Content::Popularimeter { user, rating: 9, counter }).unwrap();
+    }
+    [writer.finish(5).unwrap(), b"sound".to_vec()].concat()
+}
+
+/// Has a command killed at one of its operations on files, as tests/stop.c counts them. Of a write some hundredths are done.
+fn stop_at(command: &mut Command, operation: usize, hundredths: usize) {
+    static OBJECT: OnceLock<PathBuf> = OnceLock::new();
+    let object = OBJECT.get_or_init(|| {
+        let object = folder("stop").join("stop.so");
+        compile_shared(&root().join("tests/stop.c"), &object);
+        object
+    });
+    command.env("LD_PRELOAD", object);
+    command.env("STOP_AT", operation.to_string()).env("STOP_TAKES", hundredths.to_string());
+}
+
+/// The operations of a raise in a new frame: the journal is made, written and synced, and its folder too; the song is
+/// written and synced; the journal is removed, and the folder synced.
+const JOURNAL_WRITE: usize = 2;
+const SONG_WRITE: usize = 5;
+const REMOVAL: usize = 7;
+const OPERATIONS: usize = 8;
+
+/// From the first byte to the last that differ.
+fn differing(before: &[u8], after: &[u8]) -> std::ops::RangeInclusive<usize> {
+    let differs = |at: &usize| before[*at] != after[*at];
+    (0..before.len()).find(differs).unwrap()..=(0..before.len()).rfind(differs).unwrap()
+}
+
+/// A song that is half changed, since the program was killed in the middle of its write.
+fn half_raised(name: &str) -> (PathBuf, Vec<u8>) {
+    let (path, bytes) = (folder(name).join("song.mp3"), long_song());
+    fs::write(&path, &bytes).unwrap();
+    let after = lifted(&bytes, "a", 1);
+    let mut command = raising("a", "1", &[&path]);
+    stop_at(&mut command, SONG_WRITE, 50);
+    assert_eq!(command.output().unwrap().status.code(), None, "it was killed");
+    let now = fs::read(&path).unwrap();
+    assert!(now != bytes && now != after && journal(&path).exists());
+    (path, bytes)
+}
+
+/// The program is killed at each operation, in writes also in their middle. What it leaves is put back, or is whole.
+#[test]
+fn a_raise_that_is_killed_anywhere_is_put_back_or_whole() {
+    let (path, bytes) = (folder("killed").join("song.mp3"), long_song());
+    let after = lifted(&bytes, "a", 1);
+    for (stop, taken) in (1..=OPERATIONS).flat_map(|stop| [0, 1, 50, 99, 100].map(|taken| (stop, taken))) {
+        if taken > 0 && stop != JOURNAL_WRITE && stop != SONG_WRITE {
+            continue;
+        }
+        fs::write(&path, &bytes).unwrap();
+        let mut command = raising("a", "1", &[&path]);
+        stop_at(&mut command, stop, taken);
+        assert_eq!(command.output().unwrap().status.code(), None, "{stop}");
+        let now = fs::read(&path).unwrap();
+        let written = stop > SONG_WRITE || (stop == SONG_WRITE && taken == 100);
+        assert_eq!(
+            (now == bytes, now == after),
+            (stop < SONG_WRITE || (stop == SONG_WRITE && taken <= 1), written),
+            "{stop} {taken}"
+        );
+        assert_eq!(journal(&path).exists(), (JOURNAL_WRITE..=REMOVAL).contains(&stop), "{stop}");
+        let (out, status) = said(&run(&["recover", path.to_str().unwrap()]));
+        let done = match stop {
+            1 | OPERATIONS => "no journal, nothing to put back",
+            JOURNAL_WRITE if taken < 100 => "an incomplete journal was removed; nothing to put back",
+            _ => "put back as it was before a raise that did not end",
+        };
+        assert!(out.starts_with(&format!("{}: {done}\n", path.display())) && status == 0, "{stop} {taken}: {out}");
+        assert_eq!(fs::read(&path).unwrap(), if stop == OPERATIONS { after.clone() } else { bytes.clone() });
+        assert!(!journal(&path).exists());
+    }
+    fs::write(&path, &bytes).unwrap();
+    let mut command = raising("a", "1", &[&path]);
+    stop_at(&mut command, OPERATIONS + 1, 0);
+    assert_eq!(command.output().unwrap().status.code(), Some(0), "there are no more operations");
+}
+
+/// The same of putting back: the file, a journal that is removed, the folder.
+#[test]
+fn a_recovery_that_is_killed_anywhere_goes_on() {
+    for stop in 1..=4 {
+        let (path, bytes) = half_raised("killed-again");
+        let mut command = program();
+        command.arg("recover").arg(&path);
+        stop_at(&mut command, stop, 50);
+        assert_eq!(command.output().unwrap().status.code(), None, "{stop}");
+        assert_eq!(said(&run(&["recover", path.to_str().unwrap()])).1, 0);
+        assert!(fs::read(&path).unwrap() == bytes && !journal(&path).exists());
+    }
+}
+
+/// A raise in the counter's own bytes has two operations: a write and a sync.
+#[test]
+fn a_raise_in_place_makes_no_journal() {
+    let (path, bytes) = (folder("killed-in-place").join("song.mp3"), long_song());
+    for (stop, ends) in [(1, None), (2, None), (3, Some(0))] {
+        fs::write(&path, &bytes).unwrap();
+        let mut command = raising("b", "1", &[&path]);
+        stop_at(&mut command, stop, 0);
+        assert_eq!(command.output().unwrap().status.code(), ends);
+        assert_eq!(fs::read(&path).unwrap() == bytes, stop == 1);
+        assert!(!journal(&path).exists());
+    }
+}
+
+#[test]
+fn a_raise_that_did_not_end_is_not_summed_and_is_told() {
+    let (path, bytes) = half_raised("half-summed");
+    let other = path.with_file_name("other.mp3");
+    fs::write(&other, tag(&["b"], 7)).unwrap();
+    let folder = path.parent().unwrap();
+    let told = "a raise did not end, and streamvault recover puts it back\n";
+    let listed = format!("{}: not counted: {told}", path.display());
+    let output = run(&["sum", "--csv", folder.to_str().unwrap()]);
+    assert_eq!(
+        (said(&output), err(&output)),
+        (("user,popularimeters,counter\nb,1,7\n".to_string(), 1), listed.clone())
+    );
+    // also where the file alone is named, or a link to it that stands elsewhere
+    let link = common::folder("half-summed-link").join("link.mp3");
+    symlink(&path, &link).unwrap();
+    for name in [&path, &link] {
+        let (out, status) = said(&run(&["sum", name.to_str().unwrap()]));
+        assert!(status == 1 && out.ends_with(&format!("{}: not counted: {told}", name.display())), "{out}");
+        let output = run(&["list", name.to_str().unwrap()]);
+        assert_eq!(output.status.code(), Some(1));
+        assert!(err(&output).ends_with(&format!("{}: {told}", name.display())), "{}", err(&output));
+    }
+    let (out, status) = said(&run(&["sum", "--json", folder.to_str().unwrap()]));
+    assert!(status == 1 && out.contains("\"found\": \"journal beside it\"}\n  ],"), "{out}");
+    assert!(said(&run(&["recover", link.to_str().unwrap()])).0.starts_with(&format!("{}: put back", link.display())));
+    assert_eq!(fs::read(&path).unwrap(), bytes);
+    let want = "user,popularimeters,counter\na,1,255\nb,2,4667\n";
+    assert_eq!(said(&run(&["sum", "--csv", folder.to_str().unwrap()])), (want.to_string(), 0));
+}
+
+#[test]
+fn a_journal_without_its_file_is_listed() {
+    let (path, _) = half_raised("half-alone");
+    fs::remove_file(&path).unwrap();
+    let folder = path.parent().unwrap();
+    let output = run(&["sum", "--csv", folder.to_str().unwrap()]);
+    assert_eq!(said(&output), ("user,popularimeters,counter\n".to_string(), 1));
+    let want = format!("{}: a journal of a raise that did not end, without its file\n", journal(&path).display());
+    assert_eq!(err(&output), want);
+    let (out, status) = said(&run(&["recover", path.to_str().unwrap()]));
+    assert!(status == 3 && out.contains(": not readable: No such file"), "{out}");
+}
+
+#[test]
+fn the_next_raise_puts_back_first() {
+    let (path, bytes) = half_raised("half-again");
+    let half = fs::read(&path).unwrap();
+    let name = path.display();
+    // tried only, nothing changes
+    let (out, status) = said(&raising("b", "1", &[&path]).arg("--dry-run").output().unwrap());
+    let want = format!("{name}: a raise that did not end would be put back; would be raised by 1 from 4660 to 4661\n");
+    assert!(status == 0 && out.starts_with(&want), "{out}");
+    assert!(fs::read(&path).unwrap() == half && journal(&path).exists());
+    // also where the raise itself is refused
+    let (out, status) = said(&raise("c", "1", &[&path]));
+    assert!(
+        status == 1 && out.starts_with(&format!("{name}: a raise that did not end was put back; refused 41: ")),
+        "{out}"
+    );
+    assert!(fs::read(&path).unwrap() == bytes && !journal(&path).exists());
+
+    let (path, bytes) = half_raised("half-again");
+    let (out, status) = said(&raise("a", "1", &[&path]));
+    let want = "a raise that did not end was put back; raised by 1 from 255 to 256, in a new frame\n";
+    assert!(status == 0 && out.starts_with(&format!("{name}: {want}")), "{out}");
+    assert!(fs::read(&path).unwrap() == lifted(&bytes, "a", 1) && !journal(&path).exists());
+
+    fs::write(journal(&path), b"streamvault jou").unwrap();
+    let (out, status) = said(&raise("a", "1", &[&path]));
+    assert!(
+        status == 0 && out.starts_with(&format!("{name}: an incomplete journal was removed; raised by 1 ")),
+        "{out}"
+    );
+    assert!(!journal(&path).exists());
+}
+
+#[test]
+fn a_file_that_changed_since_is_not_put_back() {
+    let (path, bytes) = half_raised("half-changed");
+    let longer = [&bytes[..], b"more"].concat();
+    let mut retagged = bytes.clone();
+    retagged[differing(&bytes, &lifted(&bytes, "a", 1)).min().unwrap()] = 0x55;
+    for now in [longer, retagged] {
+        fs::write(&path, &now).unwrap();
+        let unfit = "its journal does not fit the file, which changed since; neither was touched\n";
+        let (out, status) = said(&run(&["recover", path.to_str().unwrap()]));
+        assert!(status == 3 && out.starts_with(&format!("{}: not put back: {unfit}", path.display())), "{out}");
+        assert!(out.ends_with("\n0 files put back, 0 with nothing to put back, 1 not read or written\n"), "{out}");
+        let (out, status) = said(&raise("b", "1", &[&path]));
+        assert!(status == 3 && out.starts_with(&format!("{}: not raised: {unfit}", path.display())), "{out}");
+        assert!(fs::read(&path).unwrap() == now && journal(&path).exists());
+    }
+}
+
+#[test]
+fn what_is_put_back_is_counted() {
+    let (path, bytes) = half_raised("half-counted");
+    let other = path.with_file_name("other.mp3");
+    fs::write(&other, &bytes).unwrap();
+    let words = [&path, &other, &path].map(|path| path.to_str().unwrap());
+    let (out, status) = said(&program().arg("recover").args(words).output().unwrap());
+    let nothing = "no journal, nothing to put back\n";
+    let want = format!(
+        "{}: put back as it was before a raise that did not end\n{}: {nothing}{}: {nothing}1 file put back, 2 with nothing to put back\n",
+        words[0], words[1], words[2]
+    );
+    assert_eq!((out, status), (want, 0));
+}
+
+#[test]
+fn a_write_of_a_new_frame_that_fails_or_stops_is_put_back() {
+    let (path, bytes) = (folder("raise-moved-unwritten").join("song.mp3"), long_song());
+    fs::write(&path, &bytes).unwrap();
+    let places = differing(&bytes, &lifted(&bytes, "a", 1));
+    for (end, why) in [(0, "its journal: "), (places.start() + 3, ""), (*places.start(), "")] {
+        let mut command = raising("a", "1", &[&path]);
+        limit(&mut command, end);
+        let (out, status) = said(&command.output().unwrap());
+        let back = if end == 0 { "" } else { "; put back as it was" };
+        let want = format!("{}: not raised: {why}File too large (os error 27){back}\n", path.display());
+        assert!(status == 3 && out.starts_with(&want), "{out}");
+        assert_eq!(fs::read(&path).unwrap(), bytes);
+        assert!(!journal(&path).exists());
+    }
+}
+
+#[test]
+fn two_raises_at_once_both_count() {
+    let path = folder("raise-at-once").join("song.mp3");
+    // with padding, so that some of them take a new frame
+    let mut writer = Writer::new(Version::Id3v24);
+    writer.add(b"POPM", &Content::Popularimeter { user: "a", rating: 0, counter: 1 }).unwrap();
+    fs::write(&path, writer.finish(20).unwrap()).unwrap();
+    let runs: Vec<_> = (0..8).map(|_| raising("a", "100", &[&path]).stdout(Stdio::piped()).spawn().unwrap()).collect();
+    for run in runs {
+        let (out, status) = said(&run.wait_with_output().unwrap());
+        assert_eq!(status, 0, "{out}");
+    }
+    let want = Content::Popularimeter { user: b"a".to_vec(), rating: 0, counter: 801 };
+    assert_eq!(read(&fs::read(&path).unwrap()).unwrap()[0].content, want);
 }

@@ -90,6 +90,7 @@ fn the_names_are_constants() {
     assert_eq!(Refusal::COUNTER_TOO_LARGE.number(), 35);
     assert_eq!(Refusal::NOT_PLAIN.number(), 40);
     assert_eq!(Refusal::COUNTER_TOO_SHORT.number(), 44);
+    assert_eq!(Refusal::NO_SUCH_FRAME.number(), 46);
     let is_about_tables = |refusal| matches!(refusal, Refusal::WRONG_WIDTH | Refusal::WIDTHS_NOT_IN_FOURS);
     assert!(is_about_tables(Refusal::WRONG_WIDTH) && !is_about_tables(Refusal::ENCRYPTED));
 }

@@ -1,7 +1,9 @@
-//! What several tests use: running and compiling programs, a folder of one's own, long counters, and a generator of numbers.
+//! What several tests use: running and compiling programs, a folder of one's own, tags, long counters, and a generator of
+//! numbers.
 #![allow(dead_code)]
 
 pub mod layout;
+pub mod plain;
 
 use std::fs;
 use std::path::{Path, PathBuf};
@@ -79,6 +81,14 @@ pub fn compile(language: Language, sources: &[PathBuf], program: &Path) {
         .output()
         .unwrap_or_else(|error| panic!("{}, which CC or CXX can name: {error}", language.compiler()));
     assert!(done.status.success(), "{language:?}: {}", String::from_utf8_lossy(&done.stderr));
+}
+
+/// Compiles a source to a shared object, which a program for x86-64 can be made to load.
+pub fn compile_shared(source: &Path, object: &Path) {
+    let mut compiler = Command::new(Language::C99.compiler());
+    let compiler = compiler.args(["-O2", "-Wall", "-Wextra", "-Werror", "-shared", "-fPIC"]);
+    let done = compiler.arg(source).arg("-o").arg(object).output().unwrap();
+    assert!(done.status.success(), "{}", String::from_utf8_lossy(&done.stderr));
 }
 
 /// A counter as one family of boxes starts with it: twelve bytes, mostly zeros. It is 65,280.

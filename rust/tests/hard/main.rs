@@ -2,10 +2,11 @@
 //!
 //! Every buffer lies beside pages that may not be touched. Every answer is held against the rules of the interface, and
 //! every buffer against what a call may change. The numbers are the same in each run; `STREAMVAULT_HARD_CASES` says how many
-//! cases there are (37,500 if it does not), `STREAMVAULT_HARD_FROM` with which the run begins.
+//! cases there are (50,000 if it does not), `STREAMVAULT_HARD_FROM` with which the run begins.
 
 #[path = "../common/mod.rs"]
 mod common;
+mod editing;
 mod fence;
 mod metering;
 mod raising;
@@ -29,12 +30,15 @@ const ADDS: &[u32] = &[0, 2, 12, 20, 21, 22, 23, 24, 25, 26, 27, 28, 29, 30, 31,
 const FINISHES: &[u32] = &[0, 2, 20, 24];
 const REFERENCES: &[u32] = &[0, 20, 21, 30];
 const RAISES: &[u32] = &[0, 1, 2, 3, 4, 5, 6, 7, 8, 9, 10, 11, 12, 13, 20, 30, 31, 35, 40, 41, 42, 43, 44];
+const EDITS: &[u32] =
+    &[0, 1, 2, 3, 4, 5, 6, 7, 8, 9, 10, 11, 12, 13, 20, 21, 22, 23, 24, 25, 26, 27, 28, 29, 30, 31, 33, 34, 35, 40, 46];
+const LIFTS: &[u32] = &[0, 1, 2, 3, 4, 5, 6, 7, 8, 9, 10, 11, 12, 13, 20, 23, 30, 31, 35, 40, 41, 42, 43];
 
 /// What only bodies of 2^24 and 2^28 bytes are answered, which are not made here.
-const NOT_MET: [(&str, u32); 2] = [("add", 23), ("add", 24)];
+const NOT_MET: [(&str, u32); 5] = [("add", 23), ("add", 24), ("edit", 23), ("edit", 24), ("lift", 23)];
 
 /// How many cases there are, if nothing else is said.
-const CASES: u64 = 37_500;
+const CASES: u64 = 50_000;
 
 fn setting(name: &str, otherwise: u64) -> u64 {
     match std::env::var(name) {
@@ -62,7 +66,7 @@ fn hard_use() {
     for number in from..from + cases {
         let _case = Case(number);
         let mut numbers = Numbers(number.wrapping_mul(0x1000_0000_01B3));
-        match number % 15 {
+        match number % 20 {
             0 | 1 => buffers.reading(&mut numbers),
             2 => buffers.step_from_any_words(&mut numbers),
             3 => buffers.header(&mut numbers),
@@ -72,7 +76,9 @@ fn hard_use() {
             7 => buffers.references(&mut numbers),
             8..=10 => buffers.metering(&mut numbers),
             11 => buffers.meter_from_any_words(&mut numbers),
-            _ => buffers.raising(&mut numbers),
+            12..=14 => buffers.raising(&mut numbers),
+            15..=17 => buffers.editing(&mut numbers),
+            _ => buffers.lifting(&mut numbers),
         }
     }
     if cases >= CASES {
@@ -82,7 +88,7 @@ fn hard_use() {
 
 #[test]
 fn what_is_accepted_is_read_back() {
-    let cases = setting("STREAMVAULT_HARD_CASES", CASES) / 30;
+    let cases = setting("STREAMVAULT_HARD_CASES", CASES) / 40;
     for number in 0..cases {
         let _case = Case(number);
         tags::there_and_back(&mut Numbers(number ^ 0xBAC4));
@@ -145,6 +151,8 @@ impl Buffers {
             ("finish", FINISHES),
             ("references", REFERENCES),
             ("raise", RAISES),
+            ("edit", EDITS),
+            ("lift", LIFTS),
         ];
         for (name, may) in functions {
             let wanted = may.iter().map(|answer| (name, *answer)).filter(|case| !NOT_MET.contains(case));

@@ -9,7 +9,7 @@ use streamvault::calls;
 use streamvault::sys::*;
 
 /// Those that tags are made with, and one that is in none.
-const USERS: [&[u8]; 5] = [b"", b"a", b"ab", b"\xFF", b"a\0"];
+pub const USERS: [&[u8]; 5] = [b"", b"a", b"ab", b"\xFF", b"a\0"];
 
 impl Buffers {
     /// Raises a counter by any amount.
@@ -17,7 +17,7 @@ impl Buffers {
         let tag = match numbers.below(5) {
             0 => tags::any(numbers),
             1 => tags::with_counters(numbers),
-            _ => tags::with_users(numbers, &USERS[..4]),
+            _ => tags::with_users(numbers, &USERS[..4], 12),
         };
         let amount = word(numbers);
         self.tag.put(tag, numbers.once_in(2));
@@ -36,7 +36,7 @@ impl Buffers {
 // ---- the model
 
 /// What a raise answers, and does to the tag and to the word of the counter.
-fn raised(tag: &mut [u8], user: &[u8], amount: u64, counter: &mut [u64]) -> u32 {
+pub fn raised(tag: &mut [u8], user: &[u8], amount: u64, counter: &mut [u64]) -> u32 {
     if counter.is_empty() {
         return SV_NO_ROOM;
     }
@@ -66,6 +66,15 @@ fn sum(field: &[u8], amount: u64) -> Result<u64, u32> {
 
 /// Where the counter bytes are of the one popularimeter of a user, in a plain tag.
 fn field(tag: &[u8], user: &[u8]) -> Result<Range<usize>, u32> {
+    match <[_; 1]>::try_from(looked(tag, user)?.fields) {
+        Ok([field]) => Ok(field),
+        Err(fields) if fields.is_empty() => Err(SV_USER_ABSENT),
+        Err(_) => Err(SV_USER_TWICE),
+    }
+}
+
+/// The look at a plain tag.
+pub fn looked<'a>(tag: &'a [u8], user: &'a [u8]) -> Result<Look<'a>, u32> {
     let mut header = [0; SV_HEADER_WORDS];
     match calls::header(tag, &mut header) {
         0 => {}
@@ -76,34 +85,37 @@ fn field(tag: &[u8], user: &[u8]) -> Result<Range<usize>, u32> {
         return Err(SV_NOT_PLAIN);
     }
     let end = tag.len().min(10 + size);
-    let mut look = Look { tag, edition, user, plain: tag.len() >= 10 + size && flags & 0xC0 == 0, fields: Vec::new() };
+    let plain = tag.len() >= 10 + size && flags & 0xC0 == 0;
+    let mut look = Look { tag, edition, user, plain, fields: Vec::new(), frames: Vec::new(), end };
     look.frames(end.min(10 + ext)..end, 1)?;
-    match <[_; 1]>::try_from(look.fields) {
-        _ if !look.plain => Err(SV_NOT_PLAIN),
-        Ok([field]) => Ok(field),
-        Err(fields) if fields.is_empty() => Err(SV_USER_ABSENT),
-        Err(_) => Err(SV_USER_TWICE),
-    }
+    look.plain.then_some(look).ok_or(SV_NOT_PLAIN)
 }
 
 /// A frame: its id, empty where it is compressed, and where its body is.
 type Frame<'a> = (&'a [u8], Range<usize>);
 
 /// What was met on the way through a tag.
-struct Look<'a> {
+pub struct Look<'a> {
     tag: &'a [u8],
-    edition: usize,
+    pub edition: usize,
     user: &'a [u8],
     /// Whether all was plain.
     plain: bool,
     /// The counter bytes of that user at the top level.
-    fields: Vec<Range<usize>>,
+    pub fields: Vec<Range<usize>>,
+    /// The frames of the top level, from their headers on.
+    pub frames: Vec<Range<usize>>,
+    /// The place after the tag.
+    pub end: usize,
 }
 
 impl<'a> Look<'a> {
     /// Goes through frames, and into those inside them.
     fn frames(&mut self, mut places: Range<usize>, depth: usize) -> Result<(), u32> {
         while let Some((id, body)) = self.frame(places.clone(), depth)? {
+            if depth == 1 {
+                self.frames.push(places.start..body.end);
+            }
             places.start = body.end;
             self.body(id, body, depth)?;
         }

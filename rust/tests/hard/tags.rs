@@ -78,8 +78,9 @@ pub fn with_counters(numbers: &mut Numbers) -> Vec<u8> {
     tag
 }
 
-/// A tag that is mostly plain, with popularimeters of these users, now and then inside a chapter, and a frame of any sort.
-pub fn with_users(numbers: &mut Numbers, users: &[&[u8]]) -> Vec<u8> {
+/// A tag that is mostly plain, with popularimeters of these users, now and then inside a chapter, and a frame of any sort. It
+/// has fewer zeros after them than `room`.
+pub fn with_users(numbers: &mut Numbers, users: &[&[u8]], room: usize) -> Vec<u8> {
     let edition = 2 + numbers.below(3) as u8;
     let id = if edition == 2 { id3(b"POP") } else { id4(b"POPM") };
     let mut frames = Vec::new();
@@ -99,7 +100,7 @@ pub fn with_users(numbers: &mut Numbers, users: &[&[u8]]) -> Vec<u8> {
     if numbers.once_in(4) {
         return around(numbers, edition, &frames);
     }
-    frames.extend(vec![0; numbers.below(12)]);
+    frames.extend(vec![0; numbers.below(room)]);
     let behind = if numbers.once_in(8) { numbers.bytes(3) } else { Vec::new() };
     [&[b'I', b'D', b'3', edition, 0, 0], &synchsafe(frames.len())[..], &frames, &behind].concat()
 }

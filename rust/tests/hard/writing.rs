@@ -42,11 +42,7 @@ impl Buffers {
         };
         let answer = calls::add(given, self.output.lent(), self.state.lent(), self.count.lent());
         self.meet("add", ADDS, answer);
-        assert_eq!(self.record.now(), self.record.was());
-        assert_eq!(self.name.now(), self.name.was());
-        assert_eq!(self.names.now(), self.names.was());
-        assert_eq!(self.rest.now(), self.rest.was());
-        assert_eq!(self.deviations.now(), self.deviations.was());
+        self.record_stayed();
         let enough = self.state.was().len() >= SV_WRITER_WORDS && self.record.was().len() >= SV_RECORD_WORDS;
         if self.counted(answer, enough) {
             self.appended();
@@ -63,6 +59,14 @@ impl Buffers {
     fn put_frame(&mut self, numbers: &mut Numbers) {
         let room = numbers.below(200);
         let used = if numbers.once_in(10) { numbers.below(300) } else { numbers.below(room + 1) };
+        self.put_record(numbers);
+        self.output.put(numbers.bytes(room), numbers.once_in(2));
+        self.state.put(writer_words(numbers, used), numbers.once_in(2));
+        self.count.put(some_words(numbers, SV_COUNT_WORDS), numbers.once_in(2));
+    }
+
+    /// A record with its bytes.
+    pub fn put_record(&mut self, numbers: &mut Numbers) {
         let small = numbers.once_in(2);
         let deviation = |numbers: &mut Numbers| if small { numbers.below(2) as u32 } else { word(numbers) as u32 };
         let deviations = (0..numbers.below(9)).map(|_| deviation(numbers)).collect();
@@ -71,9 +75,15 @@ impl Buffers {
         self.names.put(tags::part(numbers), numbers.once_in(2));
         self.rest.put(tags::part(numbers), numbers.once_in(2));
         self.deviations.put(deviations, numbers.once_in(2));
-        self.output.put(numbers.bytes(room), numbers.once_in(2));
-        self.state.put(writer_words(numbers, used), numbers.once_in(2));
-        self.count.put(some_words(numbers, SV_COUNT_WORDS), numbers.once_in(2));
+    }
+
+    /// No call changes a record that is given.
+    pub fn record_stayed(&self) {
+        assert_eq!(self.record.now(), self.record.was());
+        assert_eq!(self.name.now(), self.name.was());
+        assert_eq!(self.names.now(), self.names.was());
+        assert_eq!(self.rest.now(), self.rest.was());
+        assert_eq!(self.deviations.now(), self.deviations.was());
     }
 
     /// Checks the count; whether the call was accepted. Where words are lacking, nothing at all changes.

@@ -10,7 +10,9 @@ use std::path::PathBuf;
 pub const USAGE: &str = "\
 usage: streamvault sum [--csv | --json] [--jobs N] PATH...
        streamvault list FILE
-       streamvault raise (--user U | --user-hex U) --by N [--dry-run] FILE...
+       streamvault raise (--user U | --user-hex U) --by N [--keep-size] [--dry-run]
+                         FILE...
+       streamvault recover FILE...
        streamvault --help | --version";
 
 /// What `--help` prints.
@@ -42,6 +44,9 @@ streamvault sum [--csv | --json] [--jobs N] PATH...
     - A further tag, which is not summed: directly after the first one, or at the
       end of the file, where the footer of a 2.4 tag stands last or before an
       ID3v1 tag. Nothing is looked for elsewhere.
+    - A file beside which a journal stands: a raise of it did not end, or has not
+      ended yet (see recover). Nothing of it is counted, since its bytes may be half
+      changed. A journal whose file is not there is listed too.
     - A link to a folder that is not summed under another name. It can be named as
       one of the paths.
     - A file or a folder that cannot be read, or that became shorter meanwhile.
@@ -72,21 +77,31 @@ streamvault list FILE
     - for an empty one. An id is printed as its bytes; on a terminal it has escapes,
     as paths have.
 
-    A refusal is the last line. What else sum would list of this tag is said on
-    standard error. Further tags are not looked for.
+    A refusal is the last line. What else sum would list of this tag, or of a
+    journal beside the file, is said on standard error. Further tags are not looked
+    for.
 
-streamvault raise (--user U | --user-hex U) --by N [--dry-run] FILE...
+streamvault raise (--user U | --user-hex U) --by N [--keep-size] [--dry-run]
+                  FILE...
 
     Adds N to the counter of the user U in the tag at the front of each file, in
-    place: no other byte of the file changes, and nothing of the sound is read.
+    place: the file keeps its length, and nothing of the sound is read or changed.
 
-    - One popularimeter of the top level has that user, and the sum fits the bytes
-      of its counter. The tag is plain: whole, without extended header,
-      unsynchronisation and compression, and with zeros alone after its frames.
-      Else the file is refused, with the number and its meaning, and stays as it
-      was.
-    - The changed bytes are written by one write, and only if the file still has
-      its length and the tag that was read.
+    - One popularimeter of the top level has that user. The tag is plain: whole,
+      without extended header, unsynchronisation and compression, and with zeros
+      alone after its frames. Else the file is refused, with the number and its
+      meaning, and stays as it was.
+    - Where the sum fits the bytes of the counter, these change and nothing else, by
+      one write.
+    - Where it does not, the popularimeter gets a new frame with the same user and
+      rating, later frames are moved, and the padding makes up for it; without room
+      the file is refused with the number 20. The line then says: in a new frame.
+      From the first changed byte to the last the file is written anew. Before that
+      a journal is put beside it, with the bytes as they were, and removed when the
+      disk has all: see recover.
+    - A file is written only if it still has its length and the tag that was read.
+      A file with several names (hard links) gets no new frame.
+    - What a raise that did not end left is put back first, and the line says so.
     - A file that is named twice, by whatever name, is raised once. The second name
       counts as not raised.
     - Links to files are followed. Folders are not entered.
@@ -97,12 +112,29 @@ streamvault raise (--user U | --user-hex U) --by N [--dry-run] FILE...
     --user U      the bytes of the user as they are given, which may be none
     --user-hex U  the same in hexadecimal, as list prints it, or sum after hex:
     --by N        0 to 18446744073709551615
+    --keep-size   no new frame: a counter that has too few bytes is refused with
+                  the number 44
     --dry-run     opens the files for reading only, changes nothing, and says what
                   would be
 
+streamvault recover FILE...
+
+    Puts each file back as it was before a raise that did not end, because the
+    program or the machine stopped. The sign of that is a journal beside the file,
+    named as the file with .streamvault-journal after it: the raise did not happen,
+    and until the file is put back it is not summed. A raise of the file does the
+    same first.
+
+    - A whole journal has the bytes that were. They are put back where the file has
+      its length and, where they go, only bytes that were or were to be; else
+      neither is touched. Then the journal is removed.
+    - An incomplete journal is removed: the file was not changed yet.
+    - Whatever else has such a name is not touched.
+
 Exit status:
 
-    0  all was read to its end, and printed; every file that was named was raised
+    0  all was read to its end, and printed; every file that was named was raised,
+       or has nothing more to be put back
     1  something was refused or cut, or may be missing from the sum or the list; a
        file was named twice to be raised; or not all could be printed
     2  bad usage
@@ -137,6 +169,8 @@ pub enum Command {
     List { file: PathBuf },
     /// Raise a counter in each file.
     Raise { order: Order, files: Vec<PathBuf> },
+    /// Put each file back whose raise did not end.
+    Recover { files: Vec<PathBuf> },
 }
 
 /// The command that the words make, or why they make none.
@@ -149,6 +183,7 @@ pub fn parse(words: &[OsString]) -> Result<Command, String> {
         Some("sum") => sum(rest),
         Some("list") => list(rest),
         Some("raise") => raise(rest),
+        Some("recover") => recover(rest),
         _ => Err(format!("unknown command: {}", shown(first))),
     }
 }
@@ -247,7 +282,8 @@ fn list(words: &[OsString]) -> Result<Command, String> {
 
 /// A raise: the user and the amount are given once, the files as often as wanted.
 fn raise(words: &[OsString]) -> Result<Command, String> {
-    let (mut user, mut amount, mut dry_run, mut files) = (None, None, false, Vec::new());
+    let (mut user, mut amount, mut files) = (None, None, Vec::new());
+    let (mut keep_size, mut dry_run) = (false, false);
     let mut words = Words::of(words);
     while let Some(word) = words.next() {
         match word {
@@ -257,6 +293,7 @@ fn raise(words: &[OsString]) -> Result<Command, String> {
                 Some("--user") => once(&mut user, bytes(words.value())?, "a user")?,
                 Some("--user-hex") => once(&mut user, from_hex(words.value())?, "a user")?,
                 Some("--by") => once(&mut amount, whole_number(words.value())?, "--by")?,
+                Some("--keep-size") => keep_size = true,
                 Some("--dry-run") => dry_run = true,
                 Some("--help" | "-h") => return Ok(Command::Help),
                 _ => return Err(no_option(option)),
@@ -268,7 +305,23 @@ fn raise(words: &[OsString]) -> Result<Command, String> {
     if files.is_empty() {
         return Err("raise needs a file".to_string());
     }
-    Ok(Command::Raise { order: Order { user, amount, dry_run }, files })
+    Ok(Command::Raise { order: Order { user, amount, keep_size, dry_run }, files })
+}
+
+fn recover(words: &[OsString]) -> Result<Command, String> {
+    let mut files = Vec::new();
+    for word in Words::of(words) {
+        match word {
+            Word::Path(file) if file == "-" => return Err("recover changes files, not standard input".to_string()),
+            Word::Path(file) => files.push(PathBuf::from(file)),
+            Word::Option(option) if option == "--help" || option == "-h" => return Ok(Command::Help),
+            Word::Option(option) => return Err(no_option(option)),
+        }
+    }
+    if files.is_empty() {
+        return Err("recover needs a file".to_string());
+    }
+    Ok(Command::Recover { files })
 }
 
 /// Takes what may be given once.
@@ -345,7 +398,7 @@ mod tests {
     fn a_raise_has_a_user_an_amount_and_files() {
         let want = |user: &[u8], amount, dry_run| {
             let files = vec![PathBuf::from("a"), PathBuf::from("b")];
-            Ok(Command::Raise { order: Order { user: user.to_vec(), amount, dry_run }, files })
+            Ok(Command::Raise { order: Order { user: user.to_vec(), amount, keep_size: false, dry_run }, files })
         };
         assert_eq!(parsed(&["raise", "--user", "room 7", "--by", "3", "a", "b"]), want(b"room 7", 3, false));
         assert_eq!(parsed(&["raise", "a", "--dry-run", "--by", "0", "b", "--user", ""]), want(b"", 0, true));
@@ -361,8 +414,30 @@ mod tests {
     fn a_user_is_any_bytes() {
         let user = OsStr::from_bytes(b"caf\xE9").to_os_string();
         let words = ["raise".into(), "--user".into(), user, "--by".into(), "1".into(), "a".into()];
-        let order = Order { user: b"caf\xE9".to_vec(), amount: 1, dry_run: false };
+        let order = Order { user: b"caf\xE9".to_vec(), amount: 1, keep_size: false, dry_run: false };
         assert_eq!(parse(&words), Ok(Command::Raise { order, files: vec![PathBuf::from("a")] }));
+    }
+
+    #[test]
+    fn a_raise_may_keep_the_size() {
+        let order = Order { user: b"a".to_vec(), amount: 1, keep_size: true, dry_run: false };
+        let want = Ok(Command::Raise { order, files: vec![PathBuf::from("f")] });
+        assert_eq!(parsed(&["raise", "--keep-size", "--user", "a", "--by", "1", "f"]), want);
+        assert_eq!(parsed(&["raise", "f", "--user", "a", "--by", "1", "--keep-size", "--keep-size"]), want);
+    }
+
+    #[test]
+    fn files_are_named_to_be_put_back() {
+        let files = vec![PathBuf::from("a"), PathBuf::from("-b")];
+        assert_eq!(parsed(&["recover", "a", "--", "-b"]), Ok(Command::Recover { files }));
+        assert_eq!(parsed(&["recover", "--help"]), Ok(Command::Help));
+        for (words, why) in [
+            (&["recover"][..], "recover needs a file"),
+            (&["recover", "-"], "recover changes files, not standard input"),
+            (&["recover", "--by", "1"], "unknown option: --by"),
+        ] {
+            assert_eq!(parsed(words), Err(why.to_string()));
+        }
     }
 
     #[test]

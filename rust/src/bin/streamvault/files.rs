@@ -1,5 +1,6 @@
 //! Files below paths.
 
+use crate::journal;
 use std::collections::{HashSet, VecDeque};
 use std::fs::{self, Metadata};
 use std::io;
@@ -13,6 +14,8 @@ pub enum Met {
     File(PathBuf),
     /// A file that was met before under another name.
     Again,
+    /// The journal of a file, by its name, and that file.
+    Journal(PathBuf, PathBuf),
     /// A link to a folder, which is not followed: its files are met under its own name.
     Link,
     /// A link to a folder that is not met otherwise, and not followed either.
@@ -73,7 +76,9 @@ impl Files {
     }
 
     fn file(&mut self, path: PathBuf, metadata: &Metadata) -> Met {
-        if self.seen.insert(identity(metadata)) {
+        if let Some(song) = journal::song_of(&path) {
+            Met::Journal(path, song)
+        } else if self.seen.insert(identity(metadata)) {
             Met::File(path)
         } else {
             Met::Again

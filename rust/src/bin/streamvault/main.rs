@@ -1,20 +1,27 @@
-//! Sums the popularimeters of sound files by user, lists the frames of a tag, and raises counters in place.
+//! Sums the popularimeters of sound files by user, lists the frames of a tag, raises counters in place, and puts files back
+//! whose raise did not end.
 
 mod args;
 mod files;
+#[cfg(test)]
+mod folder;
+mod journal;
 mod left;
 mod list;
 mod parts;
 mod progress;
 mod raise;
+mod recover;
 mod report;
 mod show;
+mod song;
 mod sum;
 
 use args::{Command, Format};
 use files::Files;
 use progress::Progress;
 use raise::{Order, Raiser};
+use recover::Recoverer;
 use std::ffi::OsString;
 use std::fs::File;
 use std::io::{self, BufWriter, ErrorKind, IsTerminal, Write};
@@ -25,7 +32,7 @@ use std::process::ExitCode;
 use std::thread;
 use sum::{Lack, Sum, TooLarge};
 
-/// Everything was read, or raised, and printed.
+/// Everything was read, raised or put back, and printed.
 const ALL_READ: u8 = 0;
 /// Something was refused or cut, may be missing from the sum, was not raised, or was not printed.
 const NOT_ALL: u8 = 1;
@@ -82,6 +89,7 @@ fn run(words: &[OsString], to: &mut Outputs<'_>, progress: Progress) -> io::Resu
         }
         Ok(Command::List { file }) => run_list(&file, to),
         Ok(Command::Raise { order, files }) => run_raise(&order, &files, to, progress),
+        Ok(Command::Recover { files }) => run_recover(&files, to),
         Err(message) => {
             tell(to.err, &format!("{message}\n\n{}", args::USAGE));
             Ok(BAD_USAGE)
@@ -129,27 +137,30 @@ fn status(sum: &Sum) -> u8 {
 /// The listing of one file, or of standard input. What it has no lines for is told.
 fn run_list(file: &Path, to: &mut Outputs<'_>) -> io::Result<u8> {
     let mut tag = Vec::new();
-    if let Err(error) = read_tag(file, &mut tag) {
-        tell(to.err, &format!("{}: {error}", show::path(file)));
-        return Ok(UNREADABLE);
-    }
+    let interrupted = match read_tag(file, &mut tag) {
+        Ok(interrupted) => interrupted,
+        Err(error) => {
+            tell(to.err, &format!("{}: {error}", show::path(file)));
+            return Ok(UNREADABLE);
+        }
+    };
     let ended = list::list(&tag, to.terminal, to.out)?;
     to.out.flush()?;
-    let lacks = sum::lacks_of(&tag);
+    let mut lacks = sum::lacks_of(&tag);
+    lacks.extend(interrupted.then_some(Lack::Interrupted));
     for lack in lacks.iter().filter(|lack| !matches!(lack, Lack::Refused { .. })) {
         tell(to.err, &format!("{}: {}", show::path(file), report::what(lack)));
     }
     Ok(if ended && lacks.is_empty() { ALL_READ } else { NOT_ALL })
 }
 
-/// Reads the tag of a file, or of standard input.
-fn read_tag(file: &Path, tag: &mut Vec<u8>) -> io::Result<()> {
-    let read = if file == Path::new("-") {
-        parts::read_front(io::stdin().lock(), 0, tag)
-    } else {
-        parts::read_front(File::open(file)?, 0, tag)
-    };
-    read.map(|_| ())
+/// Reads the tag of a file, or of standard input. Gives whether a journal stands beside the file then.
+fn read_tag(file: &Path, tag: &mut Vec<u8>) -> io::Result<bool> {
+    if file == Path::new("-") {
+        return parts::read_front(io::stdin().lock(), 0, tag).map(|_| false);
+    }
+    parts::read_front(File::open(file)?, 0, tag)?;
+    journal::stands(file)
 }
 
 /// Raises a counter in each file. A line is printed before the next file is looked at: where it cannot be, it is told, and
@@ -174,6 +185,17 @@ fn run_raise(order: &Order, files: &[PathBuf], to: &mut Outputs<'_>, mut progres
     })
 }
 
+/// Puts each file back as it was before a raise that did not end.
+fn run_recover(files: &[PathBuf], to: &mut Outputs<'_>) -> io::Result<u8> {
+    let mut recoverer = Recoverer::default();
+    for path in files {
+        let line = recoverer.file(path);
+        writeln!(to.out, "{line}").and_then(|()| to.out.flush()).inspect_err(|_| tell(to.err, &line))?;
+    }
+    writeln!(to.out, "{}", recoverer.counts())?;
+    Ok(if recoverer.any_failed() { UNREADABLE } else { ALL_READ })
+}
+
 #[cfg(test)]
 mod tests {
     use super::*;
@@ -192,8 +214,12 @@ mod tests {
         let (status, out, err) = said(&["--help"]);
         assert_eq!((status, err.as_str()), (ALL_READ, ""));
         let parts = ["streamvault sum", "streamvault list", "--csv", "--json", "--jobs N", "inside chapters", "hex:"];
-        let raise = ["streamvault raise", "--user U", "--user-hex U", "--by N", "--dry-run", "named twice"];
-        for part in parts.into_iter().chain(raise).chain(["\n    0  ", "\n    1  ", "\n    2  ", "\n    3  "]) {
+        let raise =
+            ["streamvault raise", "--user U", "--user-hex U", "--by N", "--keep-size", "--dry-run", "named twice"];
+        let recover = ["streamvault recover", journal::SUFFIX];
+        for part in
+            parts.into_iter().chain(raise).chain(recover).chain(["\n    0  ", "\n    1  ", "\n    2  ", "\n    3  "])
+        {
             assert!(out.contains(part), "{part}");
         }
     }
@@ -210,7 +236,8 @@ mod tests {
     fn bad_usage_is_status_2_and_prints_nothing() {
         let raises = [&["raise"][..], &["raise", "a"], &["raise", "--user", "u", "a"], &["raise", "--by", "1", "a"]];
         let others = [&[][..], &["sum"], &["list"], &["list", "a", "b"], &["sum", "--xml", "a"], &["drop", "a"]];
-        for words in others.into_iter().chain(raises) {
+        let recovers = [&["recover"][..], &["recover", "-"], &["recover", "--all", "a"]];
+        for words in others.into_iter().chain(raises).chain(recovers) {
             let (status, out, err) = said(words);
             assert_eq!((status, out.as_str()), (BAD_USAGE, ""), "{words:?}");
             assert!(err.starts_with("streamvault: "), "{words:?}");
@@ -230,6 +257,9 @@ mod tests {
         assert_eq!((status, err.as_str()), (UNREADABLE, ""));
         assert!(out.contains(missing));
         assert!(out.ends_with("\n0 files raised, 0 refused, 1 not read or written\n"), "{out}");
+        let (status, out, err) = said(&["recover", missing]);
+        assert_eq!((status, err.as_str()), (UNREADABLE, ""));
+        assert!(out.ends_with("\n0 files put back, 0 with nothing to put back, 1 not read or written\n"), "{out}");
     }
 
     #[test]
@@ -270,7 +300,11 @@ mod tests {
     #[test]
     fn what_cannot_be_printed_is_an_error() {
         let sums = [&["sum", "no such"][..], &["sum", "--csv", "no such"], &["sum", "--json", "no such"]];
-        for words in sums.into_iter().chain([&["--help"][..], &["raise", "--user", "u", "--by", "1", "no such"]]) {
+        for words in sums.into_iter().chain([
+            &["--help"][..],
+            &["raise", "--user", "u", "--by", "1", "no such"],
+            &["recover", "no such"],
+        ]) {
             let words: Vec<OsString> = words.iter().map(OsString::from).collect();
             let mut outputs = Outputs { out: &mut Full, terminal: false, err: &mut Vec::new() };
             assert!(run(&words, &mut outputs, Progress::new(false)).is_err());

@@ -53,6 +53,7 @@ fn told(lack: &Lack) -> String {
             format!("{what} (popularimeters counted before it: {counted})")
         }
         Lack::Compressed => "a compressed popularimeter, not counted".to_string(),
+        Lack::Interrupted => format!("not counted: {what}"),
         _ => what,
     }
 }
@@ -70,6 +71,8 @@ pub fn what(lack: &Lack) -> String {
         Lack::Left(Left::Id(id, at)) => format!("the id {id} at byte {at}, after the frames, not read"),
         Lack::Further(Further::Second(at)) => format!("a second tag at byte {at}, not read"),
         Lack::Further(Further::AtEnd(at)) => format!("a tag at the end, its footer at byte {at}, not read"),
+        Lack::Interrupted => "a raise did not end, and streamvault recover puts it back".to_string(),
+        Lack::JournalAlone => "a journal of a raise that did not end, without its file".to_string(),
         Lack::Elsewhere => "a link to a folder elsewhere, not followed".to_string(),
         Lack::Unreadable(error) => format!("not readable: {error}"),
     }
@@ -103,7 +106,7 @@ pub fn json(sum: &Sum, out: &mut dyn Write) -> io::Result<()> {
     writeln!(out, "  \"further_names\": {},", sum.again)?;
     writeln!(out, "  \"links_not_followed\": {},", sum.links)?;
     let named = |name| list(sum.problems.iter().filter_map(move |problem| item(problem, name)));
-    for name in ["refused", "cut", "compressed", "behind_frames", "further_tags", "links_elsewhere"] {
+    for name in ["refused", "cut", "compressed", "behind_frames", "further_tags", "interrupted", "links_elsewhere"] {
         writeln!(out, "  \"{name}\": {},", named(name))?;
     }
     writeln!(out, "  \"unreadable\": {}", named("unreadable"))?;
@@ -144,6 +147,8 @@ fn listed(lack: &Lack) -> (&'static str, String) {
         Lack::Left(Left::Id(id, at)) => ("behind_frames", format!(", \"found\": \"id {id}\", \"at\": {at}")),
         Lack::Further(Further::Second(at)) => ("further_tags", format!(", \"found\": \"second tag\", \"at\": {at}")),
         Lack::Further(Further::AtEnd(at)) => ("further_tags", format!(", \"found\": \"footer at the end\", \"at\": {at}")),
+        Lack::Interrupted => ("interrupted", ", \"found\": \"journal beside it\"".to_string()),
+        Lack::JournalAlone => ("interrupted", ", \"found\": \"journal without its file\"".to_string()),
         Lack::Elsewhere => ("links_elsewhere", String::new()),
         Lack::Unreadable(error) => ("unreadable", format!(", \"why\": {}", show::json(&error.to_string()))),
     }
@@ -169,6 +174,8 @@ mod tests {
         sum.list("s.mp3", Lack::Left(Left::Id("POPM", 67)));
         sum.list("t.mp3", Lack::Further(Further::Second(70)));
         sum.list("t.mp3", Lack::Further(Further::AtEnd(700)));
+        sum.list("t.mp3", Lack::Interrupted);
+        sum.list("j", Lack::JournalAlone);
         sum.list("folder", Lack::Elsewhere);
         sum.list("u.mp3", Lack::Unreadable(io::Error::other("gone")));
         sum
@@ -189,6 +196,8 @@ s.mp3: a frame header at byte 66, cut by the end of the tag, not read
 s.mp3: the id POPM at byte 67, after the frames, not read
 t.mp3: a second tag at byte 70, not read
 t.mp3: a tag at the end, its footer at byte 700, not read
+t.mp3: not counted: a raise did not end, and streamvault recover puts it back
+j: a journal of a raise that did not end, without its file
 folder: a link to a folder elsewhere, not followed
 u.mp3: not readable: gone
 "#;
@@ -241,6 +250,10 @@ in all 12345683 from 3 popularimeters
   "further_tags": [
     {"file": "t.mp3", "found": "second tag", "at": 70},
     {"file": "t.mp3", "found": "footer at the end", "at": 700}
+  ],
+  "interrupted": [
+    {"file": "t.mp3", "found": "journal beside it"},
+    {"file": "j", "found": "journal without its file"}
   ],
   "links_elsewhere": [
     {"file": "folder"}

@@ -4,6 +4,7 @@
 //! front. Those inside chapters do not count. All that may be missing from the sum is listed.
 
 use crate::files::{Files, Met};
+use crate::journal;
 use crate::left::{left, Left};
 use crate::parts::{Further, Parts, KEPT};
 use crate::progress::Progress;
@@ -80,6 +81,10 @@ pub enum Lack {
     Left(Left),
     /// It has a further tag.
     Further(Further),
+    /// A raise of it did not end: its journal stands beside it, and its bytes may be half changed.
+    Interrupted,
+    /// It is a journal, and its file is not there.
+    JournalAlone,
     /// It is a link to a folder that is not summed.
     Elsewhere,
     /// It cannot be read.
@@ -251,6 +256,7 @@ impl Worker {
             match met {
                 Met::File(path) => self.file(order, path)?,
                 Met::Again => self.sum.again += 1,
+                Met::Journal(path, song) => self.journal(order, path, &song),
                 Met::Link => self.sum.links += 1,
                 Met::Elsewhere(path) => {
                     self.sum.links += 1;
@@ -264,18 +270,28 @@ impl Worker {
 
     fn file(&mut self, order: usize, path: PathBuf) -> Result<(), TooLarge> {
         let lacks = match self.read(&path) {
-            Ok(()) => self.add_parts()?,
+            Ok(false) => self.add_parts()?,
+            Ok(true) => vec![Lack::Interrupted],
             Err(error) => vec![Lack::Unreadable(error)],
         };
         self.lacking(order, path, lacks);
         Ok(())
     }
 
-    /// Reads the parts of a file. Its length is that of the open file, and not of what the path may lead to by now.
-    fn read(&mut self, path: &Path) -> io::Result<()> {
+    /// Reads the parts of a file. Its length is that of the open file, and not of what the path may lead to by now. Gives
+    /// whether a journal stands beside it then: a raise that began meanwhile is met as well.
+    fn read(&mut self, path: &Path) -> io::Result<bool> {
         let file = File::open(path)?;
         let len = file.metadata()?.len();
-        self.parts.read(&file, len)
+        self.parts.read(&file, len)?;
+        journal::stands(path)
+    }
+
+    /// A journal holds nothing to be summed. Where its file is there, that one is listed.
+    fn journal(&mut self, order: usize, path: PathBuf, song: &Path) {
+        if !song.exists() {
+            self.lacking(order, path, vec![Lack::JournalAlone]);
+        }
     }
 
     /// Adds what was read of a file. Gives what may be missing.
