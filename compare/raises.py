@@ -151,7 +151,7 @@ class Raiser:
 
     def run(self, path, user, amount, options):
         """The exit status, and the words of what was printed without the marks around them."""
-        words = ["raise", "--user", user.encode("latin-1"), "--by", str(amount), *options, path]
+        words = ["raise", "--keep-size", "--user", user.encode("latin-1"), "--by", str(amount), *options, path]
         done = subprocess.run(self.command + words, capture_output=True)
         printed = (done.stdout + done.stderr).decode("latin-1")
         return done.returncode, [word.strip("(),:;.") for word in printed.split()]

@@ -2,10 +2,11 @@
 # Holds the new library against the crate id3 1.17.2 and against other programs: lays everything out, builds it and runs all.
 #
 #   compare/run.sh                     all: the comparison, then peers.sh, speed.sh and sum.sh
-#   compare/run.sh compare [OPTIONS]   the comparison: 10,000,000 generated tags, every short input and cut, 1,000,000 lists, 1,000,000 raises; OPTIONS as in README.md
+#   compare/run.sh compare [OPTIONS]   the comparison: 10,000,000 generated tags, every short input and cut, 1,000,000 lists, 1,000,000 raises, 1,000,000 edits; OPTIONS as in README.md
 #   compare/run.sh read HEX            both answers to one tag
 #   compare/run.sh write LIST          the verdict on one list
 #   compare/run.sh raise HEX USER N    the verdict on one raise, the user in hex
+#   compare/run.sh edit HEX CHANGE     the verdict on one edit; CHANGE as in README.md
 #   compare/run.sh record              chooses questions and writes them with the crate's answers to crates/test_replay
 #
 #   OUT                  the folder to lay it out in; target/compare if not given

@@ -1,18 +1,25 @@
 /*
- * Reads the tag that a box leaves again and again, from opening to the end, by the meter or by a reader's steps, or raises its counter by 1, with 64 bytes of
- * padding or so many, and without a picture or with one of so many bytes; or reads a 2.4 tag with a counter of so many bytes, zeros but for the last, by the
- * meter; or adds a 2.4 frame with a raw body of 1 MiB: a loop whose instructions are counted.
+ * Goes through tags that a box leaves, each from opening to the end, by the meter or by a reader's steps, or changes each in place (the ways are named below),
+ * with 64 bytes of padding or so many, and without a picture or with one of so many bytes; or reads 2.4 tags with a counter of so many bytes, zeros but for the
+ * last, by the meter; or adds a 2.4 frame with a raw body of 1 MiB; or has the C library move or clear bytes: a loop whose instructions are counted. The tags
+ * are laid out before it, as many in every run of the same words.
  *
- *     turns meter|steps|raise EDITION MODE TURNS [PADDING [PICTURE]]
+ *     turns WAY EDITION MODE TURNS [PADDING [PICTURE]]
  *     turns counter meter BYTES TURNS
  *     turns add clean|random|dense MODE TURNS
+ *     turns bytes up|down|clear BYTES TURNS
  */
 #include "streamvault.h"
 
 #include <stdlib.h>
 #include <string.h>
 
-static uint8_t frames[1 << 17], body[1 << 20], tag[2 * sizeof body], work[sizeof tag], stored[2 * sizeof body + 10];
+/* The counter has three bytes; the least that takes four, and the most that takes two. Tags begin at pages, and so many are laid out where they fit. */
+enum { COUNTER = 977000, FOUR_BYTES = 1 << 24, TWO_BYTES = (1 << 16) - 1, PAGE = 4096, MOST = 1100 };
+
+static uint8_t frames[1 << 17], body[1 << 20], pattern[2 * sizeof body], work[sizeof pattern], stored[2 * sizeof body + 10];
+static uint8_t tags[1 << 24] __attribute__((aligned(PAGE)));
+static sv_given given;
 
 /* Adds a frame; its id by its letters, in 2.2 three of them. */
 static void add(uint64_t *writer, uint64_t kind, const char *letters, const char *name, const uint8_t *rest, size_t rest_len, uint64_t counter)
@@ -27,7 +34,7 @@ static void add(uint64_t *writer, uint64_t kind, const char *letters, const char
         abort();
 }
 
-/* Two texts, a picture of so many bytes if any, a popularimeter, 200 private bytes, padding; answers its length. */
+/* Two texts, a popularimeter, a picture of so many bytes if any, 200 private bytes, padding; answers its length. It lies in `pattern`. */
 static size_t box_tag(uint64_t edition, uint64_t mode, uint64_t padding, size_t picture)
 {
     static const uint8_t title[] = "A song of some length", artist[] = "Somebody";
@@ -39,33 +46,33 @@ static size_t box_tag(uint64_t edition, uint64_t mode, uint64_t padding, size_t 
         abort();
     add(writer, SV_KIND_TEXT, old ? "TT2" : "TIT2", "", title, sizeof title - 1, 0);
     add(writer, SV_KIND_TEXT, old ? "TP1" : "TPE1", "", artist, sizeof artist - 1, 0);
+    add(writer, SV_KIND_POPULARIMETER, old ? "POP" : "POPM", "room 7", NULL, 0, COUNTER);
     if (picture > 0)
         add(writer, SV_KIND_RAW, old ? "PIC" : "APIC", "", body, picture, 0);
-    add(writer, SV_KIND_POPULARIMETER, old ? "POP" : "POPM", "room 7", NULL, 0, 977000);
     add(writer, SV_KIND_RAW, old ? "UFI" : "PRIV", "", private, sizeof private, 0);
-    if (sv_finish(padding, frames, sizeof frames, tag, sizeof tag, writer, SV_WRITER_WORDS, count, SV_COUNT_WORDS) != 0)
+    if (sv_finish(padding, frames, sizeof frames, pattern, sizeof pattern, writer, SV_WRITER_WORDS, count, SV_COUNT_WORDS) != 0)
         abort();
     return (size_t)count[0];
 }
 
-/* A 2.4 tag with one popularimeter, whose counter has so many bytes and is 977000; answers its length. */
+/* A 2.4 tag with one popularimeter, whose counter has so many bytes; answers its length. */
 static size_t long_tag(size_t bytes)
 {
     static const uint8_t before[] = {'I', 'D', '3', 4, 0, 0, 0, 0, 0, 0, 'P', 'O', 'P', 'M', 0, 0, 0, 0, 0, 0, 0, 5};
-    size_t body = bytes + 2, len = sizeof before + bytes;
-    if (bytes < 3 || len > sizeof tag)
+    size_t content = bytes + 2, len = sizeof before + bytes;
+    if (bytes < 3 || len > sizeof pattern)
         abort();
-    memcpy(tag, before, sizeof before);
+    memcpy(pattern, before, sizeof before);
     for (int i = 0; i < 4; i++) {
-        tag[6 + i] = (uint8_t)((body + 10) >> (21 - 7 * i) & 0x7F);
-        tag[14 + i] = (uint8_t)(body >> (21 - 7 * i) & 0x7F);
+        pattern[6 + i] = (uint8_t)((content + 10) >> (21 - 7 * i) & 0x7F);
+        pattern[14 + i] = (uint8_t)(content >> (21 - 7 * i) & 0x7F);
     }
     for (int i = 0; i < 3; i++)
-        tag[len - 1 - i] = (uint8_t)(977000 >> (8 * i));
+        pattern[len - 1 - i] = (uint8_t)(COUNTER >> (8 * i));
     return len;
 }
 
-static uint64_t by_meter(size_t len)
+static uint64_t by_meter(uint8_t *tag, size_t len)
 {
     uint64_t meter[SV_METER_WORDS], metered[SV_METERED_WORDS], sum = 0;
     uint32_t answer = sv_meter_open(tag, len, work, len, meter, SV_METER_WORDS);
@@ -77,7 +84,7 @@ static uint64_t by_meter(size_t len)
     return sum;
 }
 
-static uint64_t by_steps(size_t len)
+static uint64_t by_steps(uint8_t *tag, size_t len)
 {
     uint64_t reader[SV_READER_WORDS], record[SV_RECORD_WORDS], sum = 0;
     uint32_t answer = sv_open(tag, len, work, len, reader, SV_READER_WORDS);
@@ -89,12 +96,115 @@ static uint64_t by_steps(size_t len)
     return sum;
 }
 
-/* Raises the counter by 1; answers the new one. */
-static uint64_t by_raising(size_t len)
+/* Changes that answer the new counter. */
+
+static const uint8_t user[] = "room 7";
+
+static uint64_t by_raising(uint8_t *tag, size_t len)
 {
-    static const uint8_t user[] = "room 7";
     uint64_t counter[SV_COUNTER_WORDS];
     return sv_raise(tag, len, user, sizeof user - 1, 1, counter, SV_COUNTER_WORDS) == 0 ? counter[0] : 0;
+}
+
+static uint64_t by_lifting(uint8_t *tag, size_t len)
+{
+    uint64_t counter[SV_COUNTER_WORDS];
+    return sv_lift(tag, len, user, sizeof user - 1, 1, counter, SV_COUNTER_WORDS) == 0 ? counter[0] : 0;
+}
+
+static uint64_t by_outgrowing(uint8_t *tag, size_t len)
+{
+    uint64_t counter[SV_COUNTER_WORDS];
+    return sv_lift(tag, len, user, sizeof user - 1, FOUR_BYTES, counter, SV_COUNTER_WORDS) == 0 ? counter[0] : 0;
+}
+
+/* Changes of a frame, which answer 0. The popularimeter is number 2, and what follows it, the picture if there is one, is number 3. */
+
+static uint64_t by_replacing(uint8_t *tag, size_t len)
+{
+    return sv_replace_given(tag, len, 2, &given);
+}
+
+static uint64_t by_appending(uint8_t *tag, size_t len)
+{
+    return sv_append_given(tag, len, &given);
+}
+
+static uint64_t by_removing(uint8_t *tag, size_t len)
+{
+    return sv_remove(tag, len, 2);
+}
+
+static uint64_t by_freeing(uint8_t *tag, size_t len)
+{
+    return sv_remove(tag, len, 3);
+}
+
+/* What a turn does, what it answers, the counter that is put, if one is, and the counters' sum then. */
+static const struct way {
+    const char *name;
+    uint64_t (*turn)(uint8_t *tag, size_t len);
+    uint64_t answer, put, sum;
+} ways[] = {
+    {"meter", by_meter, COUNTER, 0, COUNTER},
+    {"counter", by_meter, COUNTER, 0, COUNTER},
+    {"steps", by_steps, COUNTER, 0, COUNTER},
+    {"raise", by_raising, COUNTER + 1, 0, COUNTER + 1},
+    {"lift", by_lifting, COUNTER + 1, 0, COUNTER + 1},
+    {"lift-longer", by_outgrowing, COUNTER + FOUR_BYTES, 0, COUNTER + FOUR_BYTES},
+    {"replace-equal", by_replacing, 0, COUNTER + 1, COUNTER + 1},
+    {"replace-longer", by_replacing, 0, FOUR_BYTES, FOUR_BYTES},
+    {"replace-shorter", by_replacing, 0, TWO_BYTES, TWO_BYTES},
+    {"remove", by_removing, 0, 0, 0},
+    {"remove-next", by_freeing, 0, 0, COUNTER},
+    {"append", by_appending, 0, 0, COUNTER},
+};
+
+/* What replacing and appending put: a popularimeter with this counter, or without one a text. */
+static void give(uint64_t edition, uint64_t counter)
+{
+    static const uint8_t album[] = "An album";
+    int old = edition == 2;
+    if (counter > 0) {
+        given = sv_given_of(SV_KIND_POPULARIMETER, old ? "POP" : "POPM");
+        given.record[SV_POPULARIMETER_COUNTER] = counter;
+        given.name = user;
+        given.name_len = sizeof user - 1;
+    } else {
+        given = sv_given_of(SV_KIND_TEXT, old ? "TAL" : "TALB");
+        given.rest = album;
+        given.rest_len = sizeof album - 1;
+    }
+}
+
+/* As many turns, each with a tag of its own; whether each answered what it should, and the tag then reads so. */
+static int by_way(const struct way *way, uint64_t turns, size_t len)
+{
+    size_t step = (len + PAGE - 1) / PAGE * PAGE, most = sizeof tags / step < MOST ? sizeof tags / step : MOST;
+    uint64_t sum = 0;
+    if (turns > most)
+        return 2;
+    for (size_t i = 0; i < most; i++)
+        memcpy(tags + i * step, pattern, len);
+    for (uint64_t i = 0; i < turns; i++)
+        sum += way->turn(tags + i * step, len);
+    return sum == turns * way->answer && by_steps(tags, len) == way->sum ? 0 : 1;
+}
+
+/* Has the C library move so many bytes up by one or down by 21, or clear them. */
+static int by_library(const char *what, size_t bytes, uint64_t turns)
+{
+    if (bytes + 21 > sizeof body)
+        return 2;
+    for (uint64_t i = 0; i < turns; i++) {
+        if (strcmp(what, "up") == 0)
+            memmove(body + 1, body, bytes);
+        else if (strcmp(what, "down") == 0)
+            memmove(body, body + 21, bytes);
+        else
+            memset(body, 0, bytes);
+    }
+    return 0;
 }
 
 /* A body without an FF, one with every byte equally often, or FF E0 FF 00 over and over. */
@@ -134,15 +244,18 @@ int main(int argc, char **argv)
 {
     if (argc < 5 || argc > 7)
         return 2;
-    uint64_t number = number_of(argc, argv, 3, 0), turns = number_of(argc, argv, 4, 0), sum = 0;
+    uint64_t edition = number_of(argc, argv, 2, 0), number = number_of(argc, argv, 3, 0), turns = number_of(argc, argv, 4, 0);
     if (strcmp(argv[1], "add") == 0)
         return by_adding(argv[2], number, turns);
-    int raises = strcmp(argv[1], "raise") == 0;
-    size_t len = strcmp(argv[1], "counter") == 0
-                     ? long_tag(number)
-                     : box_tag(number_of(argc, argv, 2, 0), number, number_of(argc, argv, 5, 64), number_of(argc, argv, 6, 0));
-    uint64_t (*turn)(size_t) = raises ? by_raising : strcmp(argv[1], "steps") == 0 ? by_steps : by_meter;
-    for (uint64_t i = 0; i < turns; i++)
-        sum += turn(len);
-    return sum == turns * 977000 + (raises ? turns * (turns + 1) / 2 : 0) ? 0 : 1;
+    if (strcmp(argv[1], "bytes") == 0)
+        return by_library(argv[2], number, turns);
+    for (const struct way *way = ways; way < ways + sizeof ways / sizeof *ways; way++) {
+        if (strcmp(argv[1], way->name) != 0)
+            continue;
+        give(edition, way->put);
+        size_t len = strcmp(argv[1], "counter") == 0 ? long_tag(number)
+                                                     : box_tag(edition, number, number_of(argc, argv, 5, 64), number_of(argc, argv, 6, 0));
+        return by_way(way, turns, len);
+    }
+    return 2;
 }

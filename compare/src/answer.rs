@@ -17,6 +17,7 @@ fn answer(question: &[u8], work: &mut Vec<u8>) -> Vec<u8> {
     match wire::question(question) {
         Question::Tag(tag) => wire::put_seen(&linked::read(&tag, work)),
         Question::Order(order) => wire::put_written(&linked::write(&order)),
-        Question::Raise(raise) => wire::put_raised(&linked::raise(&raise)),
+        Question::Raise(raise) => wire::put_changed(&linked::raise(&raise)),
+        Question::Edit(edit) => wire::put_changed(&linked::edit(&edit)),
     }
 }

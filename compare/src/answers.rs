@@ -57,16 +57,46 @@ pub struct Raise {
     pub amount: u64,
 }
 
-/// What became of it.
+/// A tag to be edited: the tag and what follows it, and the change. A record is given as the library takes it, or in another form.
+#[derive(Clone, Debug, PartialEq, Eq)]
+#[allow(missing_docs)]
+pub struct Edit<R> {
+    pub tag: Vec<u8>,
+    pub change: Change<R>,
+}
+
+/// A frame of the top level is replaced or removed by its number, or added after the last; or a user's counter is lifted by an amount.
+#[derive(Clone, Debug, PartialEq, Eq)]
+#[allow(missing_docs)]
+pub enum Change<R> {
+    Replace(u64, R),
+    Remove(u64),
+    Append(R),
+    Lift(Vec<u8>, u64),
+}
+
+impl<R> Change<R> {
+    /// The same with its record in another form.
+    pub fn map<S>(self, to: impl FnOnce(R) -> S) -> Change<S> {
+        match self {
+            Change::Replace(number, record) => Change::Replace(number, to(record)),
+            Change::Remove(number) => Change::Remove(number),
+            Change::Append(record) => Change::Append(to(record)),
+            Change::Lift(user, amount) => Change::Lift(user, amount),
+        }
+    }
+}
+
+/// What became of a tag to be raised or edited.
 #[derive(Clone, Debug, Default, PartialEq, Eq)]
-pub struct Raised {
+pub struct Changed {
     /// The refusal or 0.
     pub number: u32,
-    /// The new counter, 0 where it is refused.
+    /// The new counter, 0 where there is none.
     pub counter: u64,
     /// The lent bytes afterwards.
     pub tag: Vec<u8>,
-    /// The word of a refused raise, and the words after the one that it has, are as they were.
+    /// The word of a refused raise, the words after the one that it has, and the bytes after the lent ones are as they were.
     pub clean: bool,
     /// What reading the tag is refused with where no work buffer is lent, or 0.
     pub roomless: u32,

@@ -1,6 +1,9 @@
-//! A list of records in the oracle's form, which `oracle write` and `compare write` read.
+//! A list of records in the oracle's form, which `oracle write` and `compare write` read, and an edit for `compare edit`.
 use crate::classes::Class;
-use oracle::{hex, Fields, List, Record, Subs};
+use compare::answers::{Change, Edit};
+use compare::ids::version_of;
+use compare::plains;
+use oracle::{hex, unhex, Fields, List, Record, Subs};
 
 /// The list in one line.
 pub fn list(list: &List) -> String {
@@ -56,6 +59,34 @@ fn joined(items: impl Iterator<Item = String>) -> String {
         "none".to_string()
     } else {
         all.join(",")
+    }
+}
+
+/// An edit in one line, its record as a list of its own.
+pub fn edit(edit: &Edit<Record>) -> String {
+    let version = version_of(plains::edition(&edit.tag));
+    let alone = |record: &Record| {
+        let records = vec![record.clone()];
+        list(&List { version, unsynchronisation: false, padding: 0, file_altered: false, records })
+    };
+    let change = match &edit.change {
+        Change::Replace(number, record) => format!("replace {number} '{}'", alone(record)),
+        Change::Remove(number) => format!("remove {number}"),
+        Change::Append(record) => format!("append '{}'", alone(record)),
+        Change::Lift(user, amount) => format!("lift {} {amount}", hex(user)),
+    };
+    format!("{} {change}", hex(&edit.tag))
+}
+
+/// A change from its words.
+pub fn change(words: &[&str]) -> Option<Change<Record>> {
+    let first = |text: &str| oracle::parse_list(text).ok()?.records.into_iter().next();
+    match words {
+        ["replace", number, list] => Some(Change::Replace(number.parse().ok()?, first(list)?)),
+        ["remove", number] => Some(Change::Remove(number.parse().ok()?)),
+        ["append", list] => Some(Change::Append(first(list)?)),
+        ["lift", user, amount] => Some(Change::Lift(unhex(user).ok()?, amount.parse().ok()?)),
+        _ => None,
     }
 }
 

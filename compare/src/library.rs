@@ -2,7 +2,7 @@
 //!
 //! In another process it is asked in batches. A question whose answer is not at hand is noted and answered with nothing; whoever asked has to
 //! ask again after the next batch, and `take_waiting` tells so.
-use compare::answers::{Order, Raise, Raised, Seen, Stop, Written};
+use compare::answers::{Changed, Edit, Entry, Order, Raise, Seen, Stop, Written};
 use compare::ids::{wrapped, Kind};
 use compare::wire;
 use std::collections::HashMap;
@@ -75,13 +75,25 @@ impl Library {
     }
 
     /// What comes of a raise.
-    pub fn raise(&mut self, raise: &Raise) -> Raised {
+    pub fn raise(&mut self, raise: &Raise) -> Changed {
         match self {
             #[cfg(feature = "library")]
             Library::Linked(_) => compare::linked::raise(raise),
             Library::Other(other) => match other.ask(wire::put_raise(raise)) {
-                Some(answer) => wire::raised(answer),
-                None => Raised::default(),
+                Some(answer) => wire::changed(answer),
+                None => Changed::default(),
+            },
+        }
+    }
+
+    /// What comes of an edit.
+    pub fn edit(&mut self, edit: &Edit<Entry>) -> Changed {
+        match self {
+            #[cfg(feature = "library")]
+            Library::Linked(_) => compare::linked::edit(edit),
+            Library::Other(other) => match other.ask(wire::put_edit(edit)) {
+                Some(answer) => wire::changed(answer),
+                None => Changed::default(),
             },
         }
     }

@@ -1,5 +1,5 @@
 //! The new library, linked.
-use crate::answers::{Entry, Frame, Header, Order, Raise, Raised, Seen, Stop, Written};
+use crate::answers::{Change, Changed, Edit, Entry, Frame, Header, Order, Raise, Seen, Stop, Written};
 use streamvault::calls::{self, Given};
 use streamvault::sys;
 
@@ -120,14 +120,36 @@ fn references(record: &Words, rest: &[u8]) -> Vec<u32> {
 }
 
 /// Raises a counter, in a copy of the tag.
-pub fn raise(raise: &Raise) -> Raised {
+pub fn raise(raise: &Raise) -> Changed {
+    changed(&raise.tag, |tag| counted(|words| calls::raise(tag, &raise.user, raise.amount, words)))
+}
+
+/// Edits a copy of the tag.
+pub fn edit(edit: &Edit<Entry>) -> Changed {
+    changed(&edit.tag, |tag| match &edit.change {
+        Change::Replace(number, entry) => (calls::replace(tag, *number, given(entry, &words_of(entry))), 0, true),
+        Change::Remove(number) => (calls::remove(tag, *number), 0, true),
+        Change::Append(entry) => (calls::append(tag, given(entry, &words_of(entry))), 0, true),
+        Change::Lift(user, amount) => counted(|words| calls::lift(tag, user, *amount, words)),
+    })
+}
+
+/// Has a copy of the tag changed, by a call that answers its number, the counter, and whether it left all words alone that it should.
+fn changed(tag: &[u8], call: impl FnOnce(&mut [u8]) -> (u32, u64, bool)) -> Changed {
+    let mut lent = [tag, &[UNTOUCHED; 16]].concat();
+    let (number, counter, clean) = call(&mut lent[..tag.len()]);
+    let after = lent.split_off(tag.len());
+    Changed { number, counter, tag: lent, clean: clean && untouched(&after), roomless: roomless(tag) }
+}
+
+/// Makes a call that has a word for a counter: its number, the counter, and whether the other words are as they were.
+fn counted(call: impl FnOnce(&mut [u64]) -> u32) -> (u32, u64, bool) {
     const UNTOUCHED: u64 = 0xA5A5_A5A5_A5A5_A5A5;
-    let mut tag = raise.tag.clone();
     let mut words = [UNTOUCHED; sys::SV_COUNTER_WORDS + 1];
-    let number = calls::raise(&mut tag, &raise.user, raise.amount, &mut words);
+    let number = call(&mut words);
     let [counter, after] = words;
     let clean = after == UNTOUCHED && (number == 0 || counter == UNTOUCHED);
-    Raised { number, counter: if number == 0 { counter } else { 0 }, tag, clean, roomless: roomless(&raise.tag) }
+    (number, if number == 0 { counter } else { 0 }, clean)
 }
 
 /// What reading a tag is refused with where no work buffer is lent, or 0.
@@ -169,15 +191,22 @@ pub fn write(order: &Order) -> Written {
 }
 
 fn add(entry: &Entry, buffer: &mut [u8], writer: &mut [u64]) -> (u32, u64) {
+    let mut count = [u64::MAX];
+    let number = calls::add(given(entry, &words_of(entry)), buffer, writer, &mut count);
+    (number, count[0])
+}
+
+fn words_of(entry: &Entry) -> Words {
     let mut record: Words = [0; sys::SV_RECORD_WORDS];
     record[sys::SV_RECORD_KIND] = entry.kind;
     record[sys::SV_RECORD_ID] = entry.id;
     record[4..9].copy_from_slice(&entry.numbers);
+    record
+}
+
+fn given<'a>(entry: &'a Entry, record: &'a Words) -> Given<'a> {
     let Entry { name, names, rest, deviations, .. } = entry;
-    let given = Given { record: &record, name, names, rest, deviations };
-    let mut count = [u64::MAX];
-    let number = calls::add(given, buffer, writer, &mut count);
-    (number, count[0])
+    Given { record, name, names, rest, deviations }
 }
 
 fn untouched(bytes: &[u8]) -> bool {

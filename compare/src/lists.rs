@@ -43,6 +43,11 @@ pub fn list(seed: u64, index: u64) -> List {
     List { version: version_of(edition), unsynchronisation, padding, file_altered, records }
 }
 
+/// A record of an edition, of any kind.
+pub fn record(rng: Rng, edition: u8) -> Record {
+    Maker { rng, edition }.record(1)
+}
+
 fn padding(rng: &mut Rng) -> usize {
     const FAR: [usize; 5] = [(1 << 28) - 1, 1 << 28, (1 << 28) - 40, (1 << 32) + 5, usize::MAX];
     match rng.below(200) {

@@ -1,12 +1,15 @@
 //! Compares the new library with the crate id3 1.17.2, both linked into this program.
 //!
-//!     compare [--readings N] [--writings N] [--raises N] [--seed S] [--short BYTES] [--cuts N] [--threads N]
+//!     compare [--readings N] [--writings N] [--raises N] [--edits N] [--seed S] [--short BYTES] [--cuts N] [--threads N]
 //!     compare read HEX                  both answers to a tag
 //!     compare write LIST                the verdict on a list of records, in the oracle's form
 //!     compare raise HEX USER AMOUNT     the verdict on a raise, the user in hex
+//!     compare edit HEX CHANGE           the verdict on an edit: `replace NUMBER LIST`, `remove NUMBER`, `append LIST` or
+//!                                       `lift USER AMOUNT`, the record being the first of a list
 //!
 //! It ends with 0 where every difference is of a listed class.
 mod classes;
+mod edits;
 mod form;
 mod known;
 mod library;
@@ -18,12 +21,12 @@ mod work;
 mod writes;
 
 use classes::ALL;
-use compare::answers::Raise;
+use compare::answers::{Edit, Raise};
 use compare::lists;
 use compare::plains;
 use compare::sources::{shorts, Source};
 use library::Library;
-use oracle::List;
+use oracle::{List, Record};
 use reads::{settled, Met, Verdict};
 use std::process::ExitCode;
 use std::time::Instant;
@@ -32,12 +35,16 @@ use work::Tally;
 #[global_allocator]
 static MEMORY: memory::Memory = memory::Memory::new();
 
+/// A tag to be edited that is longer is not shown.
+const SHOWN: usize = 1 << 20;
+
 /// What is asked for.
 #[derive(Clone, Copy)]
 struct Options {
     readings: u64,
     writings: u64,
     raises: u64,
+    edits: u64,
     seed: u64,
     short: u32,
     cuts: u64,
@@ -52,6 +59,7 @@ fn main() -> ExitCode {
         ["read", hex] => one_tag(hex),
         ["write", list] => one_list(list),
         ["raise", hex, user, amount] => one_raise(hex, user, amount),
+        ["edit", hex, ref change @ ..] => one_edit(hex, change),
         _ => match options(&words) {
             Ok(options) => all(options),
             Err(why) => {
@@ -64,8 +72,9 @@ fn main() -> ExitCode {
 
 fn options(words: &[&str]) -> Result<Options, String> {
     let threads = std::thread::available_parallelism().map_or(1, |n| n.get());
-    let (readings, writings, raises) = (10_000_000, 1_000_000, 1_000_000);
-    let mut out = Options { readings, writings, raises, seed: 1, short: 3, cuts: 3000, threads };
+    let (readings, many) = (10_000_000, 1_000_000);
+    let mut out =
+        Options { readings, writings: many, raises: many, edits: many, seed: 1, short: 3, cuts: 3000, threads };
     for pair in words.chunks(2) {
         let [name, value] = pair else { return Err(format!("no value for {}", pair[0])) };
         let value: u64 = value.parse().map_err(|_| format!("not a number: {value}"))?;
@@ -73,6 +82,7 @@ fn options(words: &[&str]) -> Result<Options, String> {
             "--readings" => out.readings = value,
             "--writings" => out.writings = value,
             "--raises" => out.raises = value,
+            "--edits" => out.edits = value,
             "--seed" => out.seed = value,
             "--short" => out.short = value.min(3) as u32,
             "--cuts" => out.cuts = value,
@@ -95,10 +105,13 @@ fn all(options: Options) -> ExitCode {
     let name = format!("lists of records, seed {}", options.seed);
     let writing = timed(&name, || writings(options));
     let raising = timed(&format!("raises, seed {}", options.seed), || raises(options));
+    let editing = timed(&format!("edits, seed {}", options.seed), || edits(options));
     report("readings", &reading);
     report("writings", &writing);
     raised(&raising);
-    if wrong.is_empty() && reading.unlisted + writing.unlisted + raising.unlisted == 0 {
+    edited(&editing);
+    let unlisted = reading.unlisted + writing.unlisted + raising.unlisted + editing.unlisted;
+    if wrong.is_empty() && unlisted == 0 {
         ExitCode::SUCCESS
     } else {
         ExitCode::FAILURE
@@ -210,9 +223,48 @@ fn shrunk_raise(raise: Raise, what: String) -> Raise {
     })
 }
 
+// the last three edits have a body of 2^24 bytes, more or less
+fn edit(options: Options, index: u64) -> Edit<Record> {
+    match options.edits.checked_sub(index + 1) {
+        Some(last @ 0..=2) => plains::long()[last as usize].clone(),
+        _ => plains::edit(options.seed, index),
+    }
+}
+
+fn edits(options: Options) -> Tally {
+    let tally = work::run("edits", options.edits, options.threads, |index, comparison| {
+        comparison.edit(&edit(options, index));
+    });
+    for (index, what) in tally.kept.clone() {
+        let edit = edit(options, index);
+        println!("UNLISTED edit {index}: {what}");
+        if edit.tag.len() > SHOWN {
+            println!("    its tag has {} bytes and is not shown", edit.tag.len());
+            continue;
+        }
+        println!("    {}", form::edit(&edit));
+        println!("    shrunk: {}", form::edit(&shrunk_edit(edit, what)));
+    }
+    tally
+}
+
+// the same change with a smaller record, in a smaller tag
+fn shrunk_edit(edit: Edit<Record>, what: String) -> Edit<Record> {
+    oracle::big_stack(move || {
+        let mut library = Library::new();
+        shrink::edit(&edit, &mut |less| {
+            settled(&mut library, |comparison| comparison.edit(less)).unlisted.as_deref() == Some(&what)
+        })
+    })
+}
+
 fn report(name: &str, tally: &Tally) {
     println!("{name}: {} cases, {} agreements", tally.cases, tally.agreed);
     met(&tally.met);
+    differences(tally);
+}
+
+fn differences(tally: &Tally) {
     for (class, count) in ALL.iter().zip(&tally.listed) {
         if *count > 0 {
             println!("    {count:>10}  {}", class.name());
@@ -225,6 +277,17 @@ fn raised(tally: &Tally) {
     println!("raises: {} cases, {} as foretold", tally.cases, tally.agreed);
     println!("    raised, by answer (0) or refusal: {}", numbered(&tally.met.raised));
     println!("    {:>10}  unlisted", tally.unlisted);
+}
+
+fn edited(tally: &Tally) {
+    println!("edits: {} cases, {} agreements", tally.cases, tally.agreed);
+    for (name, counts) in ["replaced", "removed", "added", "lifted"].iter().zip(&tally.met.edited) {
+        println!("    {name}, by answer (0) or refusal: {}", numbered(counts));
+    }
+    let Met { fits: [full, over], anew, unplain, .. } = tally.met;
+    println!("    frames of just the header's size: {full}, of one byte more: {over}");
+    println!("    lifts that take a new frame: {anew}; tags that are then not plain: {unplain}");
+    differences(tally);
 }
 
 // the counts that are not 0, each after its number
@@ -288,6 +351,20 @@ fn one_raise(hex: &str, user: &str, amount: &str) -> ExitCode {
         let verdict = settled(&mut library, |comparison| comparison.raise(&raise));
         println!("here: {:?}", library.raise(&raise));
         said(verdict)
+    })
+}
+
+fn one_edit(hex: &str, change: &[&str]) -> ExitCode {
+    let edit = match (oracle::unhex(hex), form::change(change)) {
+        (Ok(tag), Some(change)) => Edit { tag, change },
+        _ => {
+            eprintln!("compare: no edit: {hex} {}", change.join(" "));
+            return ExitCode::from(2);
+        }
+    };
+    oracle::big_stack(move || {
+        let mut library = Library::new();
+        said(settled(&mut library, |comparison| comparison.edit(&edit)))
     })
 }
 

@@ -7,12 +7,17 @@ use compare::ids::{is_compressed, kind_of, wrapped, Kind};
 use compare::listing::is_short;
 use oracle::{Header, Item, Kind as Theirs, Reading, Stop as TheirStop};
 
-/// What a raise must come to.
-enum Foretold {
-    /// Refused with one of these numbers.
-    Refused(Vec<u32>),
-    /// Accepted.
-    Counts(Counted),
+/// The numbers with one of which a call must be refused.
+pub type Numbers = Vec<u32>;
+
+/// A user's one popularimeter and a sum for it.
+pub struct Summed {
+    /// The number of its top-level frame.
+    pub frame: usize,
+    /// The counter and the amount together.
+    pub counter: u64,
+    /// The bytes that the counter has, with the sum in them; nothing where they are too few.
+    pub field: Option<Vec<u8>>,
 }
 
 /// A counter as it must be afterwards: the number of its top-level frame, its value, its bytes, and where they end in the tag.
@@ -35,13 +40,13 @@ impl Comparison<'_> {
         self.must(raised.clean, "a raise changes a word that it should not");
         let theirs = oracle::read_past(&raise.tag);
         match foretold(raise, &ours, raised.roomless, &theirs) {
-            Foretold::Refused(numbers) => {
+            Err(numbers) => {
                 if !numbers.contains(&raised.number) {
                     self.fault(|| format!("a raise is answered {}, and {numbers:?} was foretold", raised.number));
                 }
                 self.must(raised.tag == raise.tag, "a refused raise changes the tag");
             }
-            Foretold::Counts(counted) => {
+            Ok(counted) => {
                 self.must(raised.number == 0 && raised.counter == counted.counter, "the answer of a raise that fits");
                 let mut expected = raise.tag.clone();
                 replace_end(&mut expected[..counted.end], &counted.field);
@@ -71,64 +76,58 @@ impl Comparison<'_> {
     }
 }
 
-// puts bytes over the last ones
-fn replace_end(bytes: &mut [u8], field: &[u8]) {
+/// Puts bytes over the last ones.
+pub fn replace_end(bytes: &mut [u8], field: &[u8]) {
     let start = bytes.len() - field.len();
     bytes[start..].copy_from_slice(field);
 }
 
-// In the order of the numbers: what reading is refused with, 40, 41, 42, 43, 44. Where reading a 2.4 tag is refused, a flagged
-// frame may stand before that place, and 40 comes at it: there reading without a work buffer is refused with 14, if the frame
-// has a body.
-fn foretold(raise: &Raise, ours: &Seen, roomless: u32, theirs: &Reading) -> Foretold {
-    let one = |number| Foretold::Refused(vec![number]);
+// in the order of the numbers: what reading is refused with, 40, 41, 42, 43, 44
+fn foretold(raise: &Raise, ours: &Seen, roomless: u32, theirs: &Reading) -> Result<Counted, Numbers> {
+    let header = plain_header(&raise.tag, ours, roomless, theirs)?;
+    let Summed { frame, counter, field } = summed(&raise.user, raise.amount, &theirs.items)?;
+    let item = &theirs.items[frame];
+    Ok(Counted { frame, counter, field: field.ok_or(vec![44])?, end: header.start + item.at + item.took })
+}
+
+/// The header of a plain tag, or what changing the tag is refused with. Where reading a 2.4 tag is refused, a flagged frame may
+/// stand before that place, and 40 comes at it: there reading without a work buffer is refused with 14, if the frame has a body.
+pub fn plain_header<'a>(tag: &[u8], ours: &Seen, roomless: u32, theirs: &'a Reading) -> Result<&'a Header, Numbers> {
     let header = match (&ours.header, &theirs.header) {
         (Ok(_), Ok(header)) => header,
-        (Err(number), _) => return one(*number),
-        (Ok(_), Err(failure)) => return one(failure.number.into()),
+        (Err(number), _) => return Err(vec![*number]),
+        (Ok(_), Err(failure)) => return Err(vec![failure.number.into()]),
     };
     let whole = header.edition < 4 && header.flags & 0x80 != 0;
     match ours.stop {
-        _ if whole => one(40),
-        Stop::Refused { .. } if roomless == 14 => one(40),
-        Stop::Refused { number, .. } if header.edition == 4 => Foretold::Refused(vec![number, 40]),
-        Stop::Refused { number, .. } => one(number),
-        Stop::End { at } if !is_plain(&raise.tag, header, at, theirs) => one(40),
-        Stop::End { .. } => found(raise, header, &theirs.items),
+        _ if whole => Err(vec![40]),
+        Stop::Refused { .. } if roomless == 14 => Err(vec![40]),
+        Stop::Refused { number, .. } if header.edition == 4 => Err(vec![number, 40]),
+        Stop::Refused { number, .. } => Err(vec![number]),
+        Stop::End { at } if !is_plain(tag, header, at, theirs) => Err(vec![40]),
+        Stop::End { .. } => Ok(header),
     }
 }
 
-// the one popularimeter of that user
-fn found(raise: &Raise, header: &Header, items: &[Item]) -> Foretold {
-    let is_users = |item: &Item| matches!(&item.kind, Theirs::Popularimeter { user, .. } if *user == raise.user);
+/// The one popularimeter of that user (41, 42), its counter and the amount together fitting 64 bits (43).
+pub fn summed(user: &[u8], amount: u64, items: &[Item]) -> Result<Summed, Numbers> {
+    let is_users = |item: &Item| matches!(&item.kind, Theirs::Popularimeter { user: other, .. } if other == user);
     let mut mine = items.iter().enumerate().filter(|(_, item)| is_users(item));
-    match (mine.next(), mine.next()) {
-        (None, _) => Foretold::Refused(vec![41]),
-        (Some((frame, item)), None) => {
-            let field = counters::field(&item.body).unwrap_or_default();
-            let end = header.start + item.at + item.took;
-            match sum(field, raise.amount) {
-                Ok(counter) => Foretold::Counts(Counted { frame, counter, field: bytes(counter, field.len()), end }),
-                Err(number) => Foretold::Refused(vec![number]),
-            }
-        }
-        _ => Foretold::Refused(vec![42]),
-    }
+    let (frame, item) = match (mine.next(), mine.next()) {
+        (Some(one), None) => one,
+        (None, _) => return Err(vec![41]),
+        _ => return Err(vec![42]),
+    };
+    let field = counters::field(&item.body).unwrap_or_default();
+    let counter = counters::whole(field).and_then(|counter| counter.checked_add(amount)).ok_or(vec![43])?;
+    Ok(Summed { frame, counter, field: bytes(counter, field.len()) })
 }
 
-// the counter and the amount together, where that fits 64 bits (43) and as many bytes as the counter has (44)
-fn sum(field: &[u8], amount: u64) -> Result<u64, u32> {
-    let sum = counters::whole(field).and_then(|counter| counter.checked_add(amount)).ok_or(43u32)?;
-    if field.len() < 8 && sum >> (8 * field.len()) != 0 {
-        return Err(44);
-    }
-    Ok(sum)
-}
-
-// a number in so many bytes, zeros in front
-fn bytes(number: u64, len: usize) -> Vec<u8> {
+// a number in so many bytes, zeros in front, where they hold it
+fn bytes(number: u64, len: usize) -> Option<Vec<u8>> {
     let last = number.to_be_bytes();
-    [vec![0; len.saturating_sub(8)], last[8 - len.min(8)..].to_vec()].concat()
+    let fits = len >= 8 || number >> (8 * len) == 0;
+    fits.then(|| [vec![0; len.saturating_sub(8)], last[8 - len.min(8)..].to_vec()].concat())
 }
 
 // all bytes there, neither flag 40 nor 80, plain frames, and zeros from their end on
@@ -145,7 +144,8 @@ fn are_plain(edition: u8, reading: &Reading) -> bool {
     ended && reading.items.iter().all(|item| is_plain_frame(edition, item))
 }
 
-fn is_plain_frame(edition: u8, item: &Item) -> bool {
+/// Whether a frame, and each one in it, is neither compressed nor flagged nor short.
+pub fn is_plain_frame(edition: u8, item: &Item) -> bool {
     let flagged = edition == 4 && item.flags & 2 != 0;
     let inside = match kind_of(edition, &item.id) {
         Kind::Chapter | Kind::Contents => oracle::run_of(&item.id, &item.body).unwrap_or_default(),

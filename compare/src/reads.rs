@@ -31,11 +31,20 @@ pub struct Met {
     pub runs: u64,
     /// Raises: accepted (0), or the number of the refusal.
     pub raised: [u64; 45],
+    /// Edits, by their sort, the same.
+    pub edited: [[u64; 47]; 4],
+    /// Edits after which the frames would have just the header's size, and one byte more.
+    pub fits: [u64; 2],
+    /// Lifts that take a new frame.
+    pub anew: u64,
+    /// Accepted edits after which the tag is not plain.
+    pub unplain: u64,
 }
 
 impl Default for Met {
     fn default() -> Met {
-        Met { kinds: [0; 6], ends: [0; 36], runs: 0, raised: [0; 45] }
+        let (kinds, ends, raised, edited) = ([0; 6], [0; 36], [0; 45], [[0; 47]; 4]);
+        Met { kinds, ends, runs: 0, raised, edited, fits: [0; 2], anew: 0, unplain: 0 }
     }
 }
 

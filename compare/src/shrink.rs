@@ -1,4 +1,5 @@
 //! Smaller inputs that still show a difference of no class.
+use compare::answers::{Change, Edit};
 use oracle::{Fields, List, Record, Subs};
 
 /// A smaller tag for which the test still holds: parts are left out, then bytes made simpler.
@@ -59,6 +60,30 @@ pub fn list(list: &List, test: &mut dyn FnMut(&List) -> bool) -> List {
             }
         }
         return best;
+    }
+}
+
+/// A smaller edit for which the test still holds: a smaller tag, then a smaller record.
+pub fn edit(edit: &Edit<Record>, test: &mut dyn FnMut(&Edit<Record>) -> bool) -> Edit<Record> {
+    let with = |tag: &[u8]| Edit { tag: tag.to_vec(), change: edit.change.clone() };
+    let mut best = with(&tag(&edit.tag, &mut |less| test(&with(less))));
+    'again: loop {
+        for fields in smaller_change(&best.change) {
+            let change = best.change.clone().map(|record| Record { fields, ..record });
+            let next = Edit { tag: best.tag.clone(), change };
+            if test(&next) {
+                best = next;
+                continue 'again;
+            }
+        }
+        return best;
+    }
+}
+
+fn smaller_change(change: &Change<Record>) -> Vec<Fields> {
+    match change {
+        Change::Replace(_, record) | Change::Append(record) => smaller_fields(&record.fields),
+        Change::Remove(_) | Change::Lift(..) => Vec::new(),
     }
 }
 

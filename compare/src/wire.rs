@@ -1,5 +1,5 @@
 //! Questions to the library and its answers as bytes, for a library that runs in another process.
-use crate::answers::{Entry, Frame, Header, Order, Raise, Raised, Seen, Stop, Written};
+use crate::answers::{Change, Changed, Edit, Entry, Frame, Header, Order, Raise, Seen, Stop, Written};
 use std::io::{self, Read, Write};
 
 /// Puts numbers and bytes one after the other.
@@ -66,13 +66,14 @@ impl<'a> Take<'a> {
 
 // ---- questions
 
-/// A question: a tag, an order, or a raise.
+/// A question: a tag, an order, a raise, or an edit.
 #[derive(Clone, Debug, PartialEq, Eq)]
 #[allow(missing_docs)]
 pub enum Question {
     Tag(Vec<u8>),
     Order(Order),
     Raise(Raise),
+    Edit(Edit<Entry>),
 }
 
 /// A question for a tag as bytes.
@@ -96,13 +97,15 @@ pub fn put_order(order: &Order) -> Vec<u8> {
         order.output as u64,
     ]);
     out.number(order.entries.len() as u64);
-    for entry in &order.entries {
-        out.numbers(&[entry.kind, entry.id]);
-        out.numbers(&entry.numbers);
-        [&entry.name, &entry.names, &entry.rest].into_iter().for_each(|part| out.bytes(part));
-        out.words(&entry.deviations);
-    }
+    order.entries.iter().for_each(|entry| put_entry(&mut out, entry));
     out.0
+}
+
+fn put_entry(out: &mut Put, entry: &Entry) {
+    out.numbers(&[entry.kind, entry.id]);
+    out.numbers(&entry.numbers);
+    [&entry.name, &entry.names, &entry.rest].into_iter().for_each(|part| out.bytes(part));
+    out.words(&entry.deviations);
 }
 
 /// A raise as bytes.
@@ -112,6 +115,30 @@ pub fn put_raise(raise: &Raise) -> Vec<u8> {
     out.bytes(&raise.tag);
     out.bytes(&raise.user);
     out.number(raise.amount);
+    out.0
+}
+
+/// An edit as bytes.
+pub fn put_edit(edit: &Edit<Entry>) -> Vec<u8> {
+    let mut out = Put::default();
+    out.number(3);
+    out.bytes(&edit.tag);
+    match &edit.change {
+        Change::Replace(number, entry) => {
+            out.numbers(&[0, *number]);
+            put_entry(&mut out, entry);
+        }
+        Change::Remove(number) => out.numbers(&[1, *number]),
+        Change::Append(entry) => {
+            out.number(2);
+            put_entry(&mut out, entry);
+        }
+        Change::Lift(user, amount) => {
+            out.number(3);
+            out.bytes(user);
+            out.number(*amount);
+        }
+    }
     out.0
 }
 
@@ -126,7 +153,17 @@ pub fn question(bytes: &[u8]) -> Question {
     match from.number() {
         0 => Question::Tag(from.bytes()),
         1 => Question::Order(order(&mut from)),
-        _ => Question::Raise(Raise { tag: from.bytes(), user: from.bytes(), amount: from.number() }),
+        2 => Question::Raise(Raise { tag: from.bytes(), user: from.bytes(), amount: from.number() }),
+        _ => Question::Edit(Edit { tag: from.bytes(), change: change(&mut from) }),
+    }
+}
+
+fn change(from: &mut Take) -> Change<Entry> {
+    match from.number() {
+        0 => Change::Replace(from.number(), entry(from)),
+        1 => Change::Remove(from.number()),
+        2 => Change::Append(entry(from)),
+        _ => Change::Lift(from.bytes(), from.number()),
     }
 }
 
@@ -225,18 +262,18 @@ pub fn written(bytes: &[u8]) -> Written {
     }
 }
 
-/// What was raised, as bytes.
-pub fn put_raised(raised: &Raised) -> Vec<u8> {
+/// What was raised or edited, as bytes.
+pub fn put_changed(changed: &Changed) -> Vec<u8> {
     let mut out = Put::default();
-    out.numbers(&[raised.number.into(), raised.counter, raised.clean.into(), raised.roomless.into()]);
-    out.bytes(&raised.tag);
+    out.numbers(&[changed.number.into(), changed.counter, changed.clean.into(), changed.roomless.into()]);
+    out.bytes(&changed.tag);
     out.0
 }
 
-/// What was raised, from bytes.
-pub fn raised(bytes: &[u8]) -> Raised {
+/// What was raised or edited, from bytes.
+pub fn changed(bytes: &[u8]) -> Changed {
     let mut from = Take(bytes);
-    Raised {
+    Changed {
         number: from.number() as u32,
         counter: from.number(),
         clean: from.number() == 1,

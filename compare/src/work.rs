@@ -73,6 +73,11 @@ fn join(met: &mut Met, other: &Met) {
     met.ends.iter_mut().zip(other.ends).for_each(|(count, more)| *count += more);
     met.runs += other.runs;
     met.raised.iter_mut().zip(other.raised).for_each(|(count, more)| *count += more);
+    let edited = met.edited.iter_mut().flatten().zip(other.edited.iter().flatten());
+    edited.for_each(|(count, more)| *count += more);
+    met.fits.iter_mut().zip(other.fits).for_each(|(count, more)| *count += more);
+    met.anew += other.anew;
+    met.unplain += other.unplain;
 }
 
 /// Compares the cases below a number.

@@ -7,13 +7,13 @@ use compare::ids::{edition_of, is_id, is_lost, is_people, kind_of, widths_refusa
 use oracle::{Fields, List, Record, Subs, Unwritten};
 
 /// The run of a chapter's subframes, or the number with which one of them is refused.
-type Run = Result<Vec<u8>, u32>;
+pub type Run = Result<Vec<u8>, u32>;
 
 /// Padding above it is not made: there is no room for it, here or at the crate.
 const FAR: usize = 1 << 14;
 
 /// A record and the run of its subframes.
-type Given = (Record, Vec<u8>);
+pub type Given = (Record, Vec<u8>);
 
 impl Comparison<'_> {
     /// Has the records written, each refusal worked out beforehand; what was accepted is written by the crate too and compared.
@@ -55,8 +55,8 @@ impl Comparison<'_> {
         out
     }
 
-    // what the crate writes for the accepted records, a record that it cannot hold as its body
-    fn theirs(&mut self, list: &List, accepted: &[Given]) -> Result<Vec<u8>, Unwritten> {
+    /// What the crate writes for the accepted records, a record that it cannot hold as its body.
+    pub fn theirs(&mut self, list: &List, accepted: &[Given]) -> Result<Vec<u8>, Unwritten> {
         let mut given = Vec::new();
         for (record, run) in accepted {
             let edition = edition_of(list.version);
@@ -164,8 +164,8 @@ impl Comparison<'_> {
         }
     }
 
-    // the run of a record's subframes: as given, or as this library writes them
-    fn run(&mut self, list: &List, record: &Record) -> Run {
+    /// The run of a record's subframes: as given, or as this library writes them.
+    pub fn run(&mut self, list: &List, record: &Record) -> Run {
         let subs = match &record.fields {
             Fields::Chapter { subs, .. } | Fields::Contents { subs, .. } => subs,
             _ => return Ok(Vec::new()),
@@ -202,8 +202,8 @@ impl Comparison<'_> {
         Ok(written.frames)
     }
 
-    // the first check of the table that speaks of a record, or 0
-    fn refusal(&mut self, list: &List, record: &Record, run: &[u8]) -> u32 {
+    /// The first check of the table that speaks of a record, or 0.
+    pub fn refusal(&mut self, list: &List, record: &Record, run: &[u8]) -> u32 {
         let edition = edition_of(list.version);
         let id = record.id.as_bytes();
         let kind = kind_of_record(record);
@@ -337,7 +337,8 @@ fn order(list: &List, given: &[Given], room: usize, output: usize) -> Order {
     }
 }
 
-fn entry(record: &Record, run: &[u8]) -> Entry {
+/// A record as the library takes it.
+pub fn entry(record: &Record, run: &[u8]) -> Entry {
     let mut out = Entry { kind: kind_of_record(record) as u64, id: number(record.id.as_bytes()), ..Entry::default() };
     match &record.fields {
         Fields::Text { encoding, bytes } => {
