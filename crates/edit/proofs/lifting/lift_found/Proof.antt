@@ -12,7 +12,7 @@ start c = c .before .before .before .before
 
 -- the raise, where it was refused with 44
 abbrev raised : tie.Else1 → tie.After-raise-at
-raised c = c .before .before .before .before .before .before
+raised c = let refused = c .before .before .before in refused .before .before .before
 
 returns : tie.Need-returns
 returns c =

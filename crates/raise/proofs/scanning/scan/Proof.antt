@@ -27,9 +27,10 @@ returns-2 : tie.Need-returns-2
 unfolding scannedOf scannedIn
 returns-2 c =
     let at-framed = c .before .before in
-    let a = at-framed .before .before .before .before .before .args in
+    let at-frames = at-framed .before .before in
+    let a = at-frames .before .before .before .args in
     c .search .ensures
-    ∙ framed-looked Scanned.Refused _ (λ (v : Version) (begin end : ℕ) (s : List ℕ). scannedOn v (a .user .now) (a .number) begin end (blocksIn v s)) (told (at-framed .before .before) (at-framed .framed2 .given .1))
+    ∙ framed-looked Scanned.Refused _ (λ (v : Version) (begin end : ℕ) (s : List ℕ). scannedOn v (a .user .now) (a .number) begin end (blocksIn v s)) (told at-frames (at-framed .framed2 .given .1))
 
 pub scan-spec : {M : Type 1} → statement M
 scan-spec = tie.close (tie.spec (λ c κs. search needs) (λ c. search needs) (λ c. search needs) search-requires returns returns-2)

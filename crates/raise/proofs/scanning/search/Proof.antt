@@ -137,7 +137,8 @@ is-user-requires c κs = let s = start (c .before .before .before .before) in om
 
 loop-less-2 : tie.Need-loop-less-2 Inv-loop μ-loop
 loop-less-2 c =
-    let at-next = c .before .before .before .before .before in
+    let at-also = c .before in
+    let at-next = at-also .before .before .before .before in
     let le = start (at-next .before .before) .pre in
     let m = meter at-next .met in
     omega (arith, later le m, within le m)
