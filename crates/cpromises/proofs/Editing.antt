@@ -39,9 +39,6 @@ module _ (tag : List ℕ) (c : Change) where
   kept k (Edited.Done, t) e z = absurd (omega (arith, z))
   kept k (Edited.Refused j, t) e z = edit-refused-same c tag j t e
 
-  number-done : (o : Edit) → o .0 ≡ Edited.Done → editNumber (o .0) ≡ 0
-  number-done o e = ap editNumber e
-
 -- ---- a record that words say
 
 module _ (tag words name names rest deviations : List ℕ) where
