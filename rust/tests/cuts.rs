@@ -3,14 +3,11 @@
 
 mod common;
 
-use common::{command, folder, root, said};
+use common::{command, folder, id, root, said, MODES, VERSIONS};
 use std::collections::BTreeMap;
 use std::fs;
 use std::path::Path;
-use streamvault::{Content, Encoding, Id, Mode, Reader, Version, Writer};
-
-const VERSIONS: [Version; 3] = [Version::Id3v22, Version::Id3v23, Version::Id3v24];
-const MODES: [Mode; 3] = [Mode::Off, Mode::Crate, Mode::Standard];
+use streamvault::{Content, Encoding, Mode, Reader, Version, Writer};
 
 /// Popularimeters and their sum by user.
 type Totals = BTreeMap<String, (u64, u64)>;
@@ -22,14 +19,6 @@ fn add(totals: &mut Totals, user: &[u8], counter: u64) {
 }
 
 // ---- the tags
-
-fn id(version: Version, three: &[u8; 3], four: &[u8; 4]) -> Id {
-    if version == Version::Id3v22 {
-        three.into()
-    } else {
-        four.into()
-    }
-}
 
 fn add_popularimeter(writer: &mut Writer, user: &[u8], counter: u64) {
     let id = id(writer.version(), b"POP", b"POPM");

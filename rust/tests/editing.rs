@@ -5,12 +5,10 @@ mod common;
 
 use common::layout::{chapter, counted, edited, frame, head, raw, tag, Edit, EDITIONS};
 use common::plain::plain_tag;
-use common::{Numbers, LARGE_COUNTER};
+use common::{Numbers, LARGE_COUNTER, VERSIONS};
 use streamvault::calls::{self, Given};
 use streamvault::sys::*;
 use streamvault::{header, read, Content, Encoding, Id, Record, Refusal, Table, Version, Writer};
-
-const VERSIONS: [Version; 3] = [Version::Id3v22, Version::Id3v23, Version::Id3v24];
 
 // ---- records
 

@@ -2,7 +2,7 @@
 
 mod common;
 
-use common::{unsynchronised, Numbers, LARGE_COUNTER, LONG_COUNTER};
+use common::{id, unsynchronised, Numbers, LARGE_COUNTER, LONG_COUNTER};
 use streamvault::{
     calls, read, sys, Content, Encoding, Ending, Id, Meter, Mode, Reader, Record, Refusal, Version, Work, Writer,
 };
@@ -40,14 +40,6 @@ fn by_reader(tag: &[u8]) -> Result<(Vec<Kept>, Ending), Refusal> {
 }
 
 // ---- tags
-
-fn id(version: Version, three: &[u8; 3], four: &[u8; 4]) -> Id {
-    if version == Version::Id3v22 {
-        three.into()
-    } else {
-        four.into()
-    }
-}
 
 fn popularimeter(version: Version, user: &[u8], counter: u64) -> Record {
     Record::new(id(version, b"POP", b"POPM"), Content::Popularimeter { user: user.to_vec(), rating: 7, counter })

@@ -4,7 +4,7 @@
 mod common;
 
 use common::layout::{chapter, counted, frame, head, raised, tag, EDITIONS};
-use common::{LARGE_COUNTER, LONG_COUNTER};
+use common::{LARGE_COUNTER, LONG_COUNTER, VERSIONS};
 use streamvault::{calls, raise, Content, Encoding, Id, Mode, Refusal, Version, Writer};
 
 /// Those that have flags and chapters.
@@ -464,8 +464,6 @@ fn too_few_words_are_refused_before_all_else() {
 }
 
 // ---- tags that were written
-
-const VERSIONS: [Version; 3] = [Version::Id3v22, Version::Id3v23, Version::Id3v24];
 
 /// A tag with a title, the popularimeter of the user `a`, and padding.
 fn written(version: Version, mode: Mode, counter: u64) -> Vec<u8> {

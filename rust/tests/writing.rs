@@ -2,24 +2,11 @@
 
 mod common;
 
-use common::{Numbers, LARGE_COUNTER, LONG_COUNTER};
+use common::{id, Numbers, LARGE_COUNTER, LONG_COUNTER, MODES, VERSIONS};
 use std::hash::{DefaultHasher, Hash, Hasher};
 use streamvault::{
-    read, references, sys, Content, Encoding, Frame, Id, Mode, Reader, Record, Reference, Refusal, Table, Version,
-    Writer,
+    read, references, sys, Content, Encoding, Frame, Mode, Reader, Record, Reference, Refusal, Table, Version, Writer,
 };
-
-const VERSIONS: [Version; 3] = [Version::Id3v22, Version::Id3v23, Version::Id3v24];
-const MODES: [Mode; 3] = [Mode::Off, Mode::Crate, Mode::Standard];
-
-/// The id that an edition has for a frame.
-fn id(version: Version, three: &[u8; 3], four: &[u8; 4]) -> Id {
-    if version == Version::Id3v22 {
-        three.into()
-    } else {
-        four.into()
-    }
-}
 
 /// Records of every kind that an edition has, with bytes that call for unsynchronising.
 fn records(version: Version) -> Vec<Record> {

@@ -16,6 +16,7 @@ use Rattle.format.specs.Header.{editionOf, flagsOf, sizeOf, versionOf, isWhole,
 use Rattle.format.specs.Numbered.{modeOf}
 use Rattle.format.specs.declared.Version.{Version}
 use Rattle.format.proofs.Checks.{of-picked, none-of, first-stops}
+use Rattle.format.proofs.Fronts.{front-take}
 use Rattle.format.proofs.Tags.{tag-headed}
 use Rattle.reader.specs.Reader.{readerAt, openWhole, openOf}
 use Rattle.reader.specs.declared.Opened.{Opened}
@@ -28,7 +29,6 @@ use Rattle.promises.proofs.Bounds.{finishes}
 use Rattle.promises.proofs.Adding.{told-as}
 use Rattle.promises.proofs.Headers.{size-there}
 use Rattle.blocks.specs.Promises.{Followed, WrittenFollowed}
-use Rattle.blocks.proofs.Fronts.{front-take}
 use Rattle.blocks.proofs.Headers.{same-edition, same-flags, same-version, same-whole, same-size, same-extended}
 use Rattle.blocks.proofs.Regions.{more-steps}
 use Rattle.blocks.proofs.Anywhere.{same-read}

@@ -1,5 +1,4 @@
 -- What holds of blocks.
-pub mod Fronts
 pub mod Seen
 pub mod Sights
 pub mod NoRoom

@@ -1,5 +1,5 @@
 -- What is stored in words is loaded again, and the words after stay. Assumes nothing.
-use mathlib.Core.Path.{_≡_, refl, ap, _∙_}
+use mathlib.Core.Path.{_≡_, refl, sym, ap, _∙_}
 use Prim.Native.Nat.{ℕ, _+_, _^_, _≤_, _<_}
 use native.Mathlib.Omega.{arith}
 use native.Mathlib.Nat.{min-eq-left}
@@ -8,7 +8,7 @@ use mathlib.Core.List.{List, [], _∷_, _++_}
 use lib.ListN.{length, getD, drop, List·getD-append}
 use lib.Seq.{sets, sets-eq}
 use lib.Dec.{leb, eqb}
-use borrow.Author.Tests.{le-leb, lt-ltb}
+use borrow.Author.Tests.{eqb-true, eqb-false, leb-true, le-leb, lt-ltb}
 use Rattle.laws.proofs.Stores.{drop-behind}
 use Rattle.format.specs.Header.{versionOf}
 use Rattle.format.specs.Numbered.{isVersion, modeNumber, modeOf, versionNumber}
@@ -51,9 +51,17 @@ flag-known : (b : Bool) → isFlag (flag b) ≡ true
 flag-known true = refl
 flag-known false = refl
 
-flag-back : (b : Bool) → eqb (flag b) 1 ≡ b
+pub flag-back : (b : Bool) → eqb (flag b) 1 ≡ b
 flag-back true = refl
 flag-back false = refl
+
+-- a word that is a flag is that of what it says
+pub flag-same : (n : ℕ) → isFlag n ≡ true → flag (eqb n 1) ≡ n
+flag-same n e = same-by-test (eqb n 1) refl
+  where
+    same-by-test : (a : Bool) → eqb n 1 ≡ a → flag a ≡ n
+    same-by-test true ea = sym (eqb-true n 1 ea)
+    same-by-test false ea = let l = leb-true n 1 e in let h = eqb-false n 1 ea in omega (arith, h)
 
 mark-back : (b : Bool) → isMark (flag b) ≡ b
 mark-back true = refl

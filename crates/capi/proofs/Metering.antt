@@ -26,11 +26,12 @@ use Rattle.meter.specs.declared.Next.{Next}
 use Rattle.meter.proofs.Meets.{next-ended, next-failed}
 use Rattle.meter.proofs.Keeps.{Goes, next-goes}
 use Rattle.capi.specs.declared.meters.GivenVersion.{GivenVersion}
-use Rattle.capi.specs.Words.{word, flag, isFlag, stopNumber, failure, isStop, stopOf, isReader}
+use Rattle.capi.specs.Words.{word, isFlag, stopNumber, failure, isStop, stopOf, isReader}
 use Rattle.capi.specs.Calls.{short, Left2, Left3}
 use Rattle.capi.specs.Meters.{meterWords, isMeter, meterWith, meterOf, svMeterOpen, afterNext, nextWith, svMeterNext}
 use Rattle.capi.proofs.Loads.{number-small}
 use Rattle.capi.proofs.Left.{enough2}
+use Rattle.capi.proofs.Backs.{flag-same}
 use Rattle.capi.specs.Metering.{openedWords, isRunning, versionIn, stoppedOf, movedWords, answeredOf}
 
 -- ---- single words say what they are
@@ -65,13 +66,6 @@ version-same n e = same-by-tests (eqb n 2) (eqb n 3) refl refl
         let h3 = eqb-false n 3 eb in
         let z : 4 ≡ n = omega (arith, h2, h3) in
         rw (ea, eb) z
-
-flag-same : (n : ℕ) → isFlag n ≡ true → flag (eqb n 1) ≡ n
-flag-same n e = same-by-test (eqb n 1) refl
-  where
-    same-by-test : (a : Bool) → eqb n 1 ≡ a → flag a ≡ n
-    same-by-test true ea = sym (eqb-true n 1 ea)
-    same-by-test false ea = let l = leb-true n 1 e in let h = eqb-false n 1 ea in omega (arith, h)
 
 -- a refusal alone has a number
 stop-same : (s n : ℕ) → isStop s n ≡ true → (stopNumber (stopOf s n) ≡ s) × (failure (stopOf s n) ≡ n)

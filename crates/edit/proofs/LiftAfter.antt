@@ -15,8 +15,8 @@ use Rattle.format.specs.Looks.{tagLook}
 use Rattle.format.specs.declared.Version.{Version}
 use Rattle.format.specs.declared.Mode.{Mode}
 use Rattle.format.specs.declared.Look.{Look}
+use Rattle.format.proofs.Fronts.{front-byte}
 use Rattle.blocks.specs.Blocks.{joined, blocksIn, Reads, PlainTag, splice, regionIn}
-use Rattle.blocks.proofs.Fronts.{front-byte}
 use Rattle.blocks.proofs.Headers.{same-size}
 use Rattle.blocks.proofs.Edits.{splice-one, reads-splice}
 use Rattle.blocks.proofs.Bodies.{reads-length}

@@ -76,3 +76,22 @@ first-goes-on [] b e = refl
 first-goes-on (k ∷ a) b e =
     let h = first-none k a e in
     rw (h .0) (first-goes-on a b (h .1))
+
+-- ---- the number of a check
+
+-- what holds of 0 and of its number holds of a check, which gives it where its test holds, or where it fails
+pub then-at : (P : ℕ → Type 0) (t : Bool) {k : ℕ} → P 0 → P k → P (pick t k 0)
+then-at P t z h = of-picked P t (λ e. h) (λ e. z)
+
+pub else-at : (P : ℕ → Type 0) (t : Bool) {k : ℕ} → P 0 → P k → P (pick t 0 k)
+else-at P t z h = of-picked P t (λ e. z) (λ e. h)
+
+abbrev pub AllOf : (ℕ → Type 0) → List ℕ → Type 0
+AllOf P [] = Unit {0}
+AllOf P (k ∷ l) = P k × AllOf P l
+
+-- what holds of 0 and of each check of a list holds of what the list gives
+pub of-first : (P : ℕ → Type 0) → P 0 → (l : List ℕ) → AllOf P l → P (first l)
+unfolding first
+of-first P z [] h = z
+of-first P z (k ∷ l) h = of-picked P (eqb k 0) (λ e. of-first P z l (h .1)) (λ e. h .0)

@@ -3,10 +3,13 @@ pub mod Cases
 pub mod Readings
 pub mod Writings
 pub mod Checks
+pub mod CheckNumbers
 pub mod Unsynch
 pub mod Numbers
 pub mod Ids
 pub mod Heads
+pub mod Fronts
+pub mod CutHeads
 pub mod Encoded
 pub mod Walks
 pub mod Moves

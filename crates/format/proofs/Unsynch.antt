@@ -1,15 +1,16 @@
 -- Laws of unsynchronising and resynchronising. Assumes nothing.
 use mathlib.Core.Path.{_≡_, refl, sym, ap, _∙_}
-use Prim.Native.Nat.{ℕ, zero, suc, _+_, _*_, _≤_, _<_}
+use Prim.Native.Nat.{ℕ, zero, suc, _+_, _-_, _*_, _≤_, _<_}
+use native.Mathlib.Nat.{sub-zero}
 use native.Mathlib.Omega.{arith}
 use mathlib.Core.Bool.{Bool, true, false, not, _&&_}
 use mathlib.Core.List.{List, [], _∷_, _++_, append-nil}
-use lib.ListN.{length}
+use lib.ListN.{length, take, length-take}
 use lib.Dec.{eqb, leb}
 use borrow.Author.Tests.{eqb-true, leb-false, ne-eqb}
 use Rattle.laws.proofs.Bools.{false-not-true, or-false}
-use Rattle.format.specs.Bytes.{onlyIf, zeros}
-use Rattle.format.specs.Unsynch.{resync, resynchronised, guards, unsync, unsynchronised, isOn, endsFF, NoSync}
+use Rattle.format.specs.Bytes.{onlyIf, pick, zeros}
+use Rattle.format.specs.Unsynch.{resync, resynchronised, dropped, guards, unsync, unsynchronised, isOn, endsFF, NoSync}
 use Rattle.format.specs.declared.Mode.{Mode}
 use Rattle.format.specs.declared.Mode.the-variants.{Off, Crate, Standard}
 
@@ -39,9 +40,12 @@ back-with-more Off on prev s more = absurd (false-not-true on)
 back-with-more Crate on prev s more = unsynced (guards Crate) refl prev s more
 back-with-more Standard on prev s more = unsynced (guards Standard) refl prev s more
 
-pub back : (m : Mode) → isOn m ≡ true → (s : List ℕ) → resynchronised (unsynchronised m s) ≡ s
+all-back : (m : Mode) → isOn m ≡ true → (prev : Bool) (s : List ℕ) → resync prev (unsync (guards m) prev s) ≡ s
 unfolding resync
-back m on s = ap (resync false) (sym (append-nil (unsynchronised m s))) ∙ back-with-more m on false s [] ∙ append-nil s
+all-back m on prev s = ap (resync prev) (sym (append-nil (unsync (guards m) prev s))) ∙ back-with-more m on prev s [] ∙ append-nil s
+
+pub back : (m : Mode) → isOn m ≡ true → (s : List ℕ) → resynchronised (unsynchronised m s) ≡ s
+back m on s = all-back m on false s
 
 -- ---- lengths
 
@@ -76,6 +80,86 @@ pub unsync-length : (m : Mode) (s : List ℕ) → 1 ≤ length s → length (uns
 unfolding unsync
 unsync-length m [] h = absurd (omega arith)
 unsync-length m (x ∷ s) h = omega (arith, doubled (guards m) (eqb x 255) s)
+
+-- ---- a front part
+
+-- of FF 00 00 FF 00 FF the second byte goes and the fifth, and no other
+two-go : dropped false (0xFF ∷ 0 ∷ 0 ∷ 0xFF ∷ 0 ∷ 0xFF ∷ []) ≡ 2
+unfolding dropped
+two-go = refl
+
+-- each byte stays or goes
+pub resync-length : (prev : Bool) (s : List ℕ) → length (resync prev s) + dropped prev s ≡ length s
+unfolding resync dropped
+resync-length prev [] = refl
+resync-length prev (x ∷ s) = by-byte (prev && eqb x 0) (resync-length (eqb x 255) s)
+  where
+    by-byte : (t : Bool) → length (resync (eqb x 255) s) + dropped (eqb x 255) s ≡ length s
+        → length (onlyIf (not t) x (resync (eqb x 255) s)) + (pick t 1 0 + dropped (eqb x 255) s) ≡ suc (length s)
+    by-byte true e = omega (arith, e)
+    by-byte false e = omega (arith, e)
+
+pub resync-take : (prev : Bool) (m : ℕ) (s : List ℕ) → resync prev (take m s) ≡ take (m - dropped prev (take m s)) (resync prev s)
+unfolding resync dropped
+resync-take prev zero s = refl
+resync-take prev (suc m) [] = rw sub-zero
+resync-take prev (suc m) (x ∷ s) = by-byte (prev && eqb x 0) (resync-take (eqb x 255) m s)
+  where
+    by-byte : (t : Bool) → resync (eqb x 255) (take m s) ≡ take (m - dropped (eqb x 255) (take m s)) (resync (eqb x 255) s)
+        → onlyIf (not t) x (resync (eqb x 255) (take m s))
+        ≡ take (suc m - (pick t 1 0 + dropped (eqb x 255) (take m s))) (onlyIf (not t) x (resync (eqb x 255) s))
+    by-byte true e =
+        let n : suc m - (1 + dropped (eqb x 255) (take m s)) ≡ m - dropped (eqb x 255) (take m s) = omega arith in
+        e ∙ ap (λ (k : ℕ). take k (resync (eqb x 255) s)) (sym n)
+    by-byte false e =
+        let few : dropped (eqb x 255) (take m s) ≤ m = omega (arith, resync-length (eqb x 255) (take m s), length-take m s) in
+        let n : suc m - (0 + dropped (eqb x 255) (take m s)) ≡ suc (m - dropped (eqb x 255) (take m s)) = omega arith in
+        ap {B = List ℕ} (λ (l : List ℕ). x ∷ l) e ∙ ap (λ (k : ℕ). take k (x ∷ resync (eqb x 255) s)) (sym n)
+
+-- Resynchronising a front part gives a front part: so many bytes, less the zeros among them that go.
+pub part-resynchronised : (m : ℕ) (s : List ℕ) → resynchronised (take m s) ≡ take (m - dropped false (take m s)) (resynchronised s)
+part-resynchronised m s = resync-take false m s
+
+module _ (guard : ℕ → Bool) (zero-guarded : guard 0 ≡ true) where
+  -- one byte, and so many of those after it
+  fewer-with : (prev g z : Bool) (n x : ℕ) (s u : List ℕ) → guard x ≡ g → eqb x 0 ≡ z → suc n < length (onlyIf (prev && guard x) 0 (x ∷ u))
+      → ((k : ℕ) → k < length u → length (resync (eqb x 255) (take k u)) < length s)
+      → length (resync prev (take (suc n) (onlyIf (prev && guard x) 0 (x ∷ u)))) < suc (length s)
+  unfolding resync
+  fewer-with false g z n x s u eg ez lt go = omega (arith, go n (omega arith))
+  fewer-with true true z zero x s u eg ez lt go = rw eg (omega arith)
+  fewer-with true true z (suc n) x s u eg ez lt go =
+      let lt′ : suc (suc n) < length (0 ∷ x ∷ u) = rw eg at lt in
+      rw eg (omega (arith, go n (omega arith)))
+  fewer-with true false true n x s u eg ez lt go = absurd (false-not-true (sym eg ∙ ap guard (eqb-true x 0 ez) ∙ zero-guarded))
+  fewer-with true false false n x s u eg ez lt go =
+      let lt′ : suc n < length (x ∷ u) = rw eg at lt in
+      rw (eg, ez) (omega (arith, go n (omega arith)))
+
+  fewer : (prev : Bool) (n : ℕ) (s : List ℕ) → n < length (unsync guard prev s) → length (resync prev (take n (unsync guard prev s))) < length s
+  unfolding unsync resync
+  fewer prev n [] lt = absurd (omega arith)
+  fewer prev zero (x ∷ s) lt = omega arith
+  fewer prev (suc n) (x ∷ s) lt =
+      fewer-with prev (guard x) (eqb x 0) n x s (unsync guard (eqb x 255) s) refl refl lt (λ k. fewer (eqb x 255) k s)
+
+-- The last byte of what was unsynchronised is none that goes: without it fewer bytes come back.
+pub fewer-back : (m : Mode) → isOn m ≡ true → (prev : Bool) (n : ℕ) (s : List ℕ) → n < length (unsync (guards m) prev s)
+    → length (resync prev (take n (unsync (guards m) prev s))) < length s
+fewer-back Off on prev n s = absurd (false-not-true on)
+fewer-back Crate on prev n s = fewer (guards Crate) refl prev n s
+fewer-back Standard on prev n s = fewer (guards Standard) refl prev n s
+
+-- What was unsynchronised, cut before its last byte, comes back as a front part of it, and not as all.
+pub part-back : (m : Mode) → isOn m ≡ true → (prev : Bool) (n : ℕ) (s : List ℕ) → n < length (unsync (guards m) prev s)
+    → (j : ℕ) × (j < length s) × (resync prev (take n (unsync (guards m) prev s)) ≡ take j s)
+part-back m on prev n s lt =
+    let u = unsync (guards m) prev s in
+    let j = n - dropped prev (take n u) in (
+      j,
+      omega (arith, fewer-back m on prev n s lt, resync-length prev (take n u), length-take n u),
+      resync-take prev n u ∙ ap (take j) (all-back m on prev s),
+    )
 
 -- ---- parts, and what is off
 

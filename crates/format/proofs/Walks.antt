@@ -1,23 +1,23 @@
 -- The equation of the walk: nothing past here sees the count. Assumes nothing.
-use mathlib.Core.Path.{_≡_, refl, sym, ap, ap₂, _∙_}
+use mathlib.Core.Path.{_≡_, refl, sym, _∙_}
 use Prim.Native.Nat.{ℕ, zero, suc, _+_, _-_, _≤_, _<_}
-use native.Mathlib.Nat.{le-refl, le-trans, le-of-suc-le-suc, not-suc-le-zero}
+use native.Mathlib.Nat.{le-refl, le-trans, not-suc-le-zero}
 use native.Mathlib.Omega.{arith}
 use mathlib.Core.Bool.{Bool, true, false}
 use mathlib.Core.List.{List, [], _∷_}
 use lib.ListN.{length, take, drop, length-take, length-drop}
 use Rattle.format.specs.Bytes.{pick}
-use Rattle.format.specs.Unsynch.{resync, resynchronised}
+use Rattle.format.specs.Unsynch.{resynchronised}
 use Rattle.format.specs.Frame.{headOf}
 use Rattle.format.specs.Chapter.{chapterRun, contentsRun}
-use Rattle.format.specs.Record.{bodyRefusal, runOf}
+use Rattle.format.specs.Record.{runOf}
 use Rattle.format.specs.Walk.{Out, andThen, insideOf, resyncedOf, bodyOf, isResynced, shownKind, leftOver, unfit, onHead, stepOf, walkBytes, walked}
 use Rattle.format.specs.declared.Version.{Version}
 use Rattle.format.specs.declared.Version.the-variants.{Id3v22, Id3v23, Id3v24}
 use Rattle.format.specs.declared.Kind.{Kind}
 use Rattle.format.specs.declared.Head.{Head}
 use Rattle.format.proofs.Unsynch.{resync-shorter}
-use Rattle.format.proofs.Heads.{Stands, stands, Lies, lies}
+use Rattle.format.proofs.Heads.{stands, lies}
 
 pub run-shorter : (kind : Kind) (b : List ℕ) → length (runOf kind b) ≤ length b
 unfolding runOf
@@ -67,7 +67,7 @@ module _ (strict : Bool) (v : Version) (go go′ : ℕ → List ℕ → List ℕ
 -- ---- counts that suffice agree
 
 -- of nothing no frame begins
-none-begins : (v : Version) (depth : ℕ) → headOf v depth [] ≡ Head.Nothing
+pub none-begins : (v : Version) (depth : ℕ) → headOf v depth [] ≡ Head.Nothing
 unfolding headOf
 none-begins Id3v22 depth = refl
 none-begins Id3v23 depth = refl

@@ -1,11 +1,11 @@
 -- Unsynchronising and back (document 01, "Numbers and bytes"; 2.4.0 structure, section 6.1). Assumes nothing.
 use mathlib.Core.Path.{_≡_}
-use Prim.Native.Nat.{ℕ, suc, _<_}
+use Prim.Native.Nat.{ℕ, suc, _+_, _<_}
 use mathlib.Core.Bool.{Bool, true, false, not, _&&_, _||_}
 use mathlib.Core.List.{List, [], _∷_}
 use lib.ListN.{getD}
 use lib.Dec.{eqb, leb}
-use Rattle.format.specs.Bytes.{onlyIf}
+use Rattle.format.specs.Bytes.{onlyIf, pick}
 use Rattle.format.specs.declared.Mode.{Mode}
 use Rattle.format.specs.declared.Mode.the-variants.{Off, Crate, Standard}
 
@@ -16,6 +16,11 @@ resync prev (x ∷ s) = onlyIf (not (prev && eqb x 0)) x (resync (eqb x 255) s)
 
 abbrev pub resynchronised : List ℕ → List ℕ
 resynchronised s = resync false s
+
+-- how many bytes go so
+unfoldable pub dropped : Bool → List ℕ → ℕ
+dropped prev [] = 0
+dropped prev (x ∷ s) = pick (prev && eqb x 0) 1 0 + dropped (eqb x 255) s
 
 -- which byte after an FF gets a 00 before it
 abbrev pub guards : Mode → ℕ → Bool

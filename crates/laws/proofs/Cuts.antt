@@ -1,6 +1,7 @@
 -- Laws on the rest of a list from a place on, and on slices whose ends lie anywhere. Assumes nothing.
 use mathlib.Core.Path.{_≡_, sym, ap, _∙_}
 use Prim.Native.Nat.{ℕ, zero, suc, _+_, _-_, _≤_, _<_, min}
+use native.Mathlib.Nat.{sub-zero, zero-sub}
 use native.Mathlib.Numerals.{add-one}
 use native.Mathlib.Omega.{arith}
 use mathlib.Core.List.{List, [], _∷_, _++_}
@@ -32,6 +33,15 @@ pub take-drop : (k a : ℕ) (l : List ℕ) → take k (drop a l) ≡ slice a (a 
 take-drop k zero l = let e : 0 + k ≡ k = omega arith in rw e
 take-drop k (suc a) [] = rw (take-nil k, take-nil (suc a + k))
 take-drop k (suc a) (x ∷ l) = let e : suc a + k ≡ suc (a + k) = omega arith in rw e (take-drop k a l)
+
+-- what is left of a front part from a place on
+pub drop-part : (k n : ℕ) (b : List ℕ) → drop k (take n b) ≡ take (n - k) (drop k b)
+drop-part zero n b = rw sub-zero
+drop-part (suc k) zero b = rw zero-sub
+drop-part (suc k) (suc n) [] = sym (take-nil (suc n - suc k))
+drop-part (suc k) (suc n) (x ∷ b) =
+    let e : suc n - suc k ≡ n - k = omega arith in
+    rw e (drop-part k n b)
 
 -- a part in two
 pub cut-in-two : (at n end : ℕ) (l : List ℕ) → at + n ≤ end → slice at end l ≡ slice at (at + n) l ++ slice (at + n) end l

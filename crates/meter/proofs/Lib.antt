@@ -4,3 +4,4 @@ mod Glances
 pub mod Meets
 mod Openings
 pub mod Keeps
+pub mod Numbered

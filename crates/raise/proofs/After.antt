@@ -15,7 +15,6 @@ use Rattle.format.specs.Walk.{isResynced, shownKind, shownBody}
 use Rattle.format.specs.declared.Version.{Version}
 use Rattle.format.specs.declared.Kind.{Kind}
 use Rattle.blocks.specs.Blocks.{Block, joined, blocksIn, PlainTag, splice, regionIn}
-use Rattle.blocks.proofs.Fronts.{front-byte}
 use Rattle.blocks.proofs.Seen.{contentIn}
 use Rattle.blocks.proofs.Edits.{splice-one}
 use Rattle.blocks.proofs.Bodies.{reads-length}
@@ -24,6 +23,7 @@ use Rattle.blocks.proofs.Places.{within-blocks}
 use Rattle.format.specs.Looks.{lookAt, tagLook}
 use Rattle.raise.specs.Raise.{isMine, fieldIn, fieldAt, fieldOf, placesFrom, blockAt, placeOf, countedTag, tagVersion, tagBlocks}
 use Rattle.raise.specs.Promises.{counted}
+use Rattle.format.proofs.Fronts.{front-byte}
 use Rattle.format.proofs.Looking.{Plainly, frame-plain}
 use Rattle.raise.proofs.Plainness.{PlainBlock, plain-at, plain-set, recordsOf, records-at, Plain, tag-plain, plain-tag}
 use Rattle.raise.proofs.Fields.{field-length, field-counter}

@@ -18,6 +18,7 @@ use Rattle.format.specs.declared.Kind.{Kind}
 use Rattle.format.specs.declared.Span.{Span}
 use Rattle.format.specs.declared.Head.{Head}
 use Rattle.format.specs.declared.Look.{Look}
+use Rattle.format.proofs.Fronts.{same-head}
 use Rattle.format.proofs.Looking.{look-head, frame-plain}
 use Rattle.walk.specs.declared.plain.Seen.{Seen}
 use Rattle.walk.specs.Plain.{seenKind, seenAs, onSeen, seenOf}
@@ -25,7 +26,6 @@ use Rattle.walk.proofs.Onwards.{Placed, placed}
 use Rattle.walk.proofs.Looks.{turned-on}
 use Rattle.blocks.specs.Blocks.{Block, joined, blocksIn}
 use Rattle.blocks.proofs.Seen.{zero-le}
-use Rattle.blocks.proofs.Fronts.{same-head}
 use Rattle.raise.specs.declared.users.Found.{Found}
 use Rattle.raise.specs.Raise.{isPopularimeter, sameBytes, userOf, isMine, fieldIn, fieldAt}
 use Rattle.raise.specs.Seeks.{alsoOf, foundOn}

@@ -16,9 +16,9 @@ use Rattle.format.specs.Record.{Rec, runOf}
 use Rattle.format.specs.Walk.{Out, shownKind, insideOf, walked}
 use Rattle.format.specs.declared.Version.{Version}
 use Rattle.format.specs.declared.Head.{Head}
+use Rattle.format.proofs.Fronts.{same-head}
 use Rattle.format.proofs.Strict.{inside-run}
 use Rattle.blocks.specs.Blocks.{Block, NoBlock, Sight, sightOf, joined, AllBlocks, blocksIn, Reads, PlainTag, regionIn, Shows}
-use Rattle.blocks.proofs.Fronts.{same-head}
 use Rattle.blocks.proofs.Reading.{block-front}
 use Rattle.blocks.proofs.Sights.{outOf, recIn, verdict, sight-is}
 use Rattle.blocks.proofs.Regions.{needs-none, quiet-head}

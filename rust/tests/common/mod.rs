@@ -1,13 +1,27 @@
-//! What several tests use: running and compiling programs, a folder of one's own, tags, long counters, and a generator of
-//! numbers.
+//! What several tests use: running and compiling programs, a folder of one's own, tags, records, long counters, settings,
+//! and a generator of numbers.
 #![allow(dead_code)]
 
 pub mod layout;
 pub mod plain;
+pub mod records;
 
 use std::fs;
 use std::path::{Path, PathBuf};
 use std::process::{Command, Output};
+use streamvault::{Id, Mode, Version};
+
+pub const VERSIONS: [Version; 3] = [Version::Id3v22, Version::Id3v23, Version::Id3v24];
+pub const MODES: [Mode; 3] = [Mode::Off, Mode::Crate, Mode::Standard];
+
+/// The id that an edition has for a frame.
+pub fn id(version: Version, three: &[u8; 3], four: &[u8; 4]) -> Id {
+    if version == Version::Id3v22 {
+        three.into()
+    } else {
+        four.into()
+    }
+}
 
 /// A command that runs an x86-64 program. `STREAMVAULT_RUNNER` names an emulator with its words, where one is needed.
 pub fn command(program: impl AsRef<Path>) -> Command {
@@ -107,6 +121,29 @@ pub fn unsynchronised(bytes: &[u8]) -> Vec<u8> {
         }
     }
     stored
+}
+
+/// The number that a variable of the environment says.
+pub fn setting(name: &str, otherwise: u64) -> u64 {
+    match std::env::var(name) {
+        Ok(text) => text.parse().unwrap_or_else(|_| panic!("{name} is no number: {text}")),
+        Err(_) => otherwise,
+    }
+}
+
+/// Says which case it was when a check fails.
+pub struct Case {
+    pub number: u64,
+    /// The variable that says with which case a run begins.
+    pub from: &'static str,
+}
+
+impl Drop for Case {
+    fn drop(&mut self) {
+        if std::thread::panicking() {
+            eprintln!("in case {0}: {1}={0} begins with it", self.number, self.from);
+        }
+    }
 }
 
 /// A generator of numbers, the same ones each time: splitmix64.

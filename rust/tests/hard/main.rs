@@ -15,7 +15,7 @@ mod tags;
 mod words;
 mod writing;
 
-use common::Numbers;
+use common::{setting, Case, Numbers};
 use fence::Fenced;
 use std::collections::BTreeSet;
 use streamvault::sys::SV_END;
@@ -40,31 +40,16 @@ const NOT_MET: [(&str, u32); 5] = [("add", 23), ("add", 24), ("edit", 23), ("edi
 /// How many cases there are, if nothing else is said.
 const CASES: u64 = 50_000;
 
-fn setting(name: &str, otherwise: u64) -> u64 {
-    match std::env::var(name) {
-        Ok(text) => text.parse().unwrap_or_else(|_| panic!("{name} is no number: {text}")),
-        Err(_) => otherwise,
-    }
-}
-
-/// Says which case it was when a check fails.
-struct Case(u64);
-
-impl Drop for Case {
-    fn drop(&mut self) {
-        if std::thread::panicking() {
-            eprintln!("in case {}: STREAMVAULT_HARD_FROM={} begins with it", self.0, self.0);
-        }
-    }
-}
+/// The variable that says with which case a run begins.
+const FROM: &str = "STREAMVAULT_HARD_FROM";
 
 #[test]
 fn hard_use() {
-    let from = setting("STREAMVAULT_HARD_FROM", 0);
+    let from = setting(FROM, 0);
     let cases = setting("STREAMVAULT_HARD_CASES", CASES);
     let mut buffers = Buffers::new();
     for number in from..from + cases {
-        let _case = Case(number);
+        let _case = Case { number, from: FROM };
         let mut numbers = Numbers(number.wrapping_mul(0x1000_0000_01B3));
         match number % 20 {
             0 | 1 => buffers.reading(&mut numbers),
@@ -90,7 +75,7 @@ fn hard_use() {
 fn what_is_accepted_is_read_back() {
     let cases = setting("STREAMVAULT_HARD_CASES", CASES) / 40;
     for number in 0..cases {
-        let _case = Case(number);
+        let _case = Case { number, from: FROM };
         tags::there_and_back(&mut Numbers(number ^ 0xBAC4));
     }
 }

@@ -1,8 +1,9 @@
 //! Tags and records for hard use: well formed, cut, damaged and senseless.
 
-use crate::common::Numbers;
+use crate::common::records::record;
+use crate::common::{Numbers, MODES, VERSIONS};
 use streamvault::sys::*;
-use streamvault::{read, references, Content, Encoding, Id, Mode, Record, Refusal, Table, Version, Writer};
+use streamvault::{read, references, Content, Record, Refusal, Writer};
 
 /// A number that four characters make.
 const fn id4(id: &[u8; 4]) -> u64 {
@@ -243,8 +244,7 @@ fn rating_and_counter(numbers: &mut Numbers, mut some: Vec<u8>) -> Vec<u8> {
 
 /// A tag that was written, and the records that were accepted.
 pub fn written(numbers: &mut Numbers) -> Result<(Vec<u8>, Vec<Record>), Refusal> {
-    let version = *numbers.one(&[Version::Id3v22, Version::Id3v23, Version::Id3v24]);
-    let mode = *numbers.one(&[Mode::Off, Mode::Crate, Mode::Standard]);
+    let (version, mode) = (*numbers.one(&VERSIONS), *numbers.one(&MODES));
     let mut writer = Writer::new(version).mode(mode);
     let mut accepted = Vec::new();
     for _ in 0..numbers.below(6) {
@@ -255,74 +255,6 @@ pub fn written(numbers: &mut Numbers) -> Result<(Vec<u8>, Vec<Record>), Refusal>
     }
     let tag = writer.finish(numbers.below(16))?;
     Ok((tag, accepted))
-}
-
-/// A record that is mostly accepted.
-fn record(numbers: &mut Numbers, version: Version) -> Record {
-    let kind = numbers.below(6) as u64;
-    let three = version == Version::Id3v22;
-    let fits = |(of, id): &&(u64, u64)| *of == kind && (*id < 1 << 24) == three;
-    let ids: Vec<_> = KINDS_AND_IDS.iter().filter(fits).map(|(_, id)| *id as u32).collect();
-    let id = if ids.is_empty() { Id::from(b"PRIV") } else { Id::from_number(*numbers.one(&ids)) };
-    Record::new(id, content(numbers, kind, version))
-}
-
-fn content(numbers: &mut Numbers, kind: u64, version: Version) -> Content<Vec<u8>> {
-    let len = numbers.below(12);
-    let some = numbers.bytes(len);
-    let name: Vec<u8> = numbers.bytes(4).into_iter().filter(|byte| *byte != 0).collect();
-    let run = run(numbers, version);
-    match kind {
-        SV_KIND_TEXT => {
-            let encoding = *numbers.one(&[Encoding::Latin1, Encoding::Utf16, Encoding::Utf16Be, Encoding::Utf8]);
-            Content::Text { encoding, text: some }
-        }
-        SV_KIND_POPULARIMETER => {
-            let counter = numbers.any() >> numbers.below(64);
-            Content::Popularimeter { user: name, rating: numbers.byte(), counter }
-        }
-        SV_KIND_TABLE => table(numbers, some),
-        SV_KIND_CHAPTER => {
-            let [start_time, end_time, start_offset, end_offset] = [(); 4].map(|()| numbers.any() as u32);
-            Content::Chapter { element: name, start_time, end_time, start_offset, end_offset, run }
-        }
-        SV_KIND_CONTENTS => Content::Contents {
-            element: name,
-            top_level: numbers.once_in(2),
-            ordered: numbers.once_in(2),
-            children: b"a\0bb\0"[..*numbers.one(&[0, 2, 5])].to_vec(),
-            run,
-        },
-        _ => Content::Raw { body: some },
-    }
-}
-
-fn table(numbers: &mut Numbers, packed: Vec<u8>) -> Content<Vec<u8>> {
-    let bits_for_bytes = 1 + numbers.below(32) as u8;
-    let bits_for_millis = 4 - bits_for_bytes % 4 + 4 * numbers.below(7) as u8;
-    let [bytes, millis] = [(); 2].map(|()| numbers.any() as u32 >> 8);
-    let table = Table { frames: numbers.any() as u16, bytes, millis, bits_for_bytes, bits_for_millis };
-    Content::Table { table, packed }
-}
-
-/// A run of subframes as a writer makes it, often with a popularimeter that no writer makes: its counter is long.
-fn run(numbers: &mut Numbers, version: Version) -> Vec<u8> {
-    if version == Version::Id3v22 || numbers.once_in(2) {
-        return Vec::new();
-    }
-    let mut writer = Writer::new(version);
-    let text = Content::Text { encoding: Encoding::Latin1, text: b"inner" };
-    let counter = Content::Popularimeter { user: b"inner", rating: 1, counter: numbers.any() };
-    let both = writer.add(b"TIT2", &text).and_then(|_| writer.add(b"POPM", &counter));
-    let mut run = both.and_then(|_| writer.finish(0)).map_or_else(|_| Vec::new(), |tag| tag[10..].to_vec());
-    if numbers.once_in(2) {
-        let len = 8 + numbers.below(3);
-        let some = numbers.bytes(len);
-        let body = [b"inner\0".to_vec(), rating_and_counter(numbers, some)].concat();
-        run.extend(head(version.edition(), id4(b"POPM"), body.len(), 0));
-        run.extend(body);
-    }
-    run
 }
 
 /// Writes records and reads them back: what was accepted is there, in order, whole and equal.
