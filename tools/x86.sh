@@ -55,6 +55,8 @@ set_up_x86() {
     export STREAMVAULT_RUNNER="${runner[*]}"
     export CARGO_TARGET_X86_64_UNKNOWN_LINUX_GNU_LINKER=x86_64-linux-gnu-gcc
     export CARGO_TARGET_X86_64_UNKNOWN_LINUX_GNU_RUNNER=$STREAMVAULT_RUNNER
+    # glib's own allocator, which the emulator uses, can lock up where a program of several threads starts another
+    export G_SLICE=always-malloc
     # instructions that repeat are emulated one byte at a time
     export GLIBC_TUNABLES=glibc.cpu.x86_rep_stosb_threshold=1000000000:glibc.cpu.x86_rep_movsb_threshold=1000000000
 }
