@@ -6,7 +6,7 @@ pub mod refusals;
 pub mod small;
 
 // The editions of ID3v2.
-#[derive(Drop)]
+#[derive(Clone, Copy)]
 pub enum Version {
     Id3v22,
     Id3v23,
@@ -14,7 +14,7 @@ pub enum Version {
 }
 
 // What is done against false synchronisation: nothing, as the crate id3 does, or as the 2.4.0 text says.
-#[derive(Drop)]
+#[derive(Clone, Copy)]
 pub enum Mode {
     Off,
     Crate,
@@ -22,7 +22,7 @@ pub enum Mode {
 }
 
 // What a frame's id says of its body.
-#[derive(Drop)]
+#[derive(Clone, Copy)]
 pub enum Kind {
     Text,
     Popularimeter,
@@ -33,14 +33,14 @@ pub enum Kind {
 }
 
 // A part of a buffer.
-#[derive(Drop)]
+#[derive(Clone, Copy)]
 pub struct Span {
     pub start: usize,
     pub len: usize,
 }
 
 // A record's kind with its numbers.
-#[derive(Drop)]
+#[derive(Clone, Copy)]
 pub enum Fields {
     Text {
         encoding: u8,
@@ -70,7 +70,7 @@ pub enum Fields {
 }
 
 // What a record is apart from its bytes. The id is its bytes as one number, highest first.
-#[derive(Drop)]
+#[derive(Clone, Copy)]
 pub struct Heading {
     pub id: u32,
     pub short: bool,
@@ -80,7 +80,7 @@ pub struct Heading {
 
 // The fields of a body and the places of its parts: name is the user or the element id, names the children,
 // rest the text, the packed references, the run of subframes or the raw body. What a kind lacks is an empty span.
-#[derive(Drop)]
+#[derive(Clone, Copy)]
 pub struct Parts {
     pub fields: Fields,
     pub name: Span,

@@ -6,7 +6,7 @@ pub mod stepping;
 use format::{Record, Version};
 
 // The fields of a tag header; ext is 0 where there is no extended header.
-#[derive(Drop)]
+#[derive(Clone, Copy)]
 pub struct Header {
     pub version: Version,
     pub flags: u8,
@@ -21,7 +21,7 @@ pub enum Headed {
 }
 
 // Whether a reader goes on, has met the end, or was refused with a number.
-#[derive(Drop)]
+#[derive(Clone, Copy)]
 pub enum Stop {
     Running,
     Ended,
@@ -29,7 +29,7 @@ pub enum Stop {
 }
 
 // A reader's place: the frames lie from `begin` up to `end` in the tag, or resynchronised in the work buffer.
-#[derive(Drop)]
+#[derive(Clone, Copy)]
 pub struct Reader {
     pub version: Version,
     pub in_work: bool,

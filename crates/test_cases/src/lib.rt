@@ -6,7 +6,7 @@ use format::{Fields, Heading};
 use test_prints::input::{next_u8, next_u32, next_u64};
 
 // A case apart from its records. Its last lengths are of the collecting buffer, of what is lent beside the output, and of the output.
-#[derive(Drop)]
+#[derive(Clone, Copy)]
 pub struct Case {
     pub version: u8,
     pub by_mode: bool,

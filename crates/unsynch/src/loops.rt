@@ -11,7 +11,7 @@ use format::small::least;
 
 // An edit of bytes directly after an FF: of 00 where `zero` says so, of E0 to FF where `high` does.
 // Such a byte gets a 00 before it where `insert` says so, else it goes.
-#[derive(Drop)]
+#[derive(Clone, Copy)]
 pub(crate) struct How {
     pub(crate) insert: bool,
     pub(crate) zero: bool,

@@ -15,7 +15,7 @@ use format::{Heading, Mode, Version};
 use moves::shift;
 
 // The bytes from `from` up to `to` give way. Those after them up to `last` stay, and up to `end` there is room.
-#[derive(Drop)]
+#[derive(Clone, Copy)]
 pub struct Gap {
     pub from: usize,
     pub to: usize,
