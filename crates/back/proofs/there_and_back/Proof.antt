@@ -7,61 +7,61 @@ use borrow.Author.Rules.{rules}
 use Rattle.back.proofs.there_and_back.Statement.{statement}
 use Rattle.back.proofs.there_and_back.Tie as tie
 
-abbrev at_start : tie.After-write-one → tie.Start
+abbrev at_start : tie.After-write_one-wrote → tie.Start
 at_start c =
     let at_Names = c.before.before.before.before in
     let at_output = at_Names.before.before.before.before in
     at_output.before.before
 
-abbrev given : tie.After-write-one → Rec
+abbrev given : tie.After-write_one-wrote → Rec
 given c =
     let a = (at_start c).args in
     rec_of a.heading a.name.now a.names.now a.rest.now a.deviations.now
 
-slice_reshare_prefix_read_one : tie.Need-slice-reshare-prefix-read-one
+slice_reshare_prefix_read_one : tie.Need-slice_bounds-read_one-end
 slice_reshare_prefix_read_one c =
     let at_wrote = c.before.before in
     let at_output = at_wrote.before.before.before in
     let at_write_one = at_output.before.before.before in
     let a = (at_start at_write_one).args in
-    let w = at_write_one.write-one.ensures in
-    tag_within a.version a.mode a.padding (given at_write_one) a.buffer.now a.output.now a.work.now w.0 at_wrote.wrote.given.1
+    let w = at_write_one.write_one-wrote.ensures in
+    tag_within a.version a.mode a.padding (given at_write_one) a.buffer-1.now a.output-1.now a.work-1.now w.0 at_wrote.wrote-1.given.1
 
-slice_aggregate_read_one : tie.Need-slice-aggregate-read-one
+slice_aggregate_read_one : tie.Need-slice_bounds-read_one-end-in-Tag
 slice_aggregate_read_one c =
     let at_wrote = c.before.before.before in
     let at_output = at_wrote.before.before.before in
     let at_write_one = at_output.before.before.before in
     let a = (at_start at_write_one).args in
-    sym (length-take-le _ at_write_one.write-one.new.1.0 (tag_within a.version a.mode a.padding (given at_write_one) a.buffer.now a.output.now a.work.now at_write_one.write-one.ensures.0 at_wrote.wrote.given.1))
+    sym (length-take-le _ at_write_one.write_one-wrote.new.1.0 (tag_within a.version a.mode a.padding (given at_write_one) a.buffer-1.now a.output-1.now a.work-1.now at_write_one.write_one-wrote.ensures.0 at_wrote.wrote-1.given.1))
 
-returns : tie.Need-returns
+returns : tie.Need-returns-in-One
 returns c =
     let behind_read_one = c.before.before.before.before in
     let behind_wrote = behind_read_one.before.before.before.before in
     let at_output = behind_wrote.before.before.before.before in
     let at_write_one = at_output.before.before.before in
     let a = (at_start at_write_one).args in
-    let w = at_write_one.write-one.ensures in
-    back_read a.version a.mode a.padding (given at_write_one) a.buffer.now a.output.now a.work.now w.0 w.1 behind_wrote.before.wrote.given.1 c.before.only.given.1 behind_read_one.before.read_one.ensures
+    let w = at_write_one.write_one-wrote.ensures in
+    back_read a.version a.mode a.padding (given at_write_one) a.buffer-1.now a.output-1.now a.work-1.now w.0 w.1 behind_wrote.before.wrote-1.given.1 c.before.only-1.given.1 behind_read_one.before.read_one-only.ensures
 
-returns_2 : tie.Need-returns-2
+returns_2 : tie.Need-returns-in-Other
 returns_2 c =
     let at_read_one = c.before.before.before.before in
     let at_wrote = at_read_one.before.before.before.before in
     let at_output = at_wrote.before.before.before in
     let at_write_one = at_output.before.before.before in
     let a = (at_start at_write_one).args in
-    let w = at_write_one.write-one.ensures in
-    back_read a.version a.mode a.padding (given at_write_one) a.buffer.now a.output.now a.work.now w.0 w.1 at_wrote.wrote.given.1 c.enum_told.given.1 at_read_one.read_one.ensures
+    let w = at_write_one.write_one-wrote.ensures in
+    back_read a.version a.mode a.padding (given at_write_one) a.buffer-1.now a.output-1.now a.work-1.now w.0 w.1 at_wrote.wrote-1.given.1 c.enum_told-1.given.1 at_read_one.read_one-only.ensures
 
-returns_3 : tie.Need-returns-3
+returns_3 : tie.Need-returns-in-Refused
 returns_3 c =
     let at_output = c.before.before.before.before in
     let at_write_one = at_output.before.before.before in
     let a = (at_start at_write_one).args in
-    let w = at_write_one.write-one.ensures in
-    back_refused a.version a.mode a.padding (given at_write_one) a.buffer.now a.output.now a.work.now w.0 c.before.wrote2.given.1
+    let w = at_write_one.write_one-wrote.ensures in
+    back_refused a.version a.mode a.padding (given at_write_one) a.buffer-1.now a.output-1.now a.work-1.now w.0 c.before.wrote-in-Refused-1.given.1
 
 pub there_and_back_spec : {M : Type 1} → statement M
 there_and_back_spec =

@@ -6,17 +6,17 @@ use borrow.Author.Rules.{rules}
 use Rattle.capi.proofs.references.Statement.{statement}
 use Rattle.capi.proofs.references.Tie as tie
 
-returns : tie.Need-returns
+returns : tie.Need-returns-in-Table
 returns c =
     let at_unpacked = c.before.before in
     let at_table = at_unpacked.before.before.before in
     let at_start = at_table.before.before.before.before in
-    rw (at_table.fields.given.1, ← take-length at_start.args.rest.now) at_unpacked.unpack.ensures
+    rw (at_table.fields-1.given.1, ← take-length at_start.args.rest.now) at_unpacked.unpack.ensures
 
-returns_2 : tie.Need-returns-2
+returns_2 : tie.Need-returns-in_default
 returns_2 c =
     let at_start = c.before.before.before in
-    let a = at_start.args in sym (no_references a.fields a.rest.now a.out.now c.match.keys2)
+    let a = at_start.args in sym (no_references a.fields a.rest.now a.out.now c.in_default.keys2)
 
 pub references_spec : {M : Type 1} → statement M
 references_spec =

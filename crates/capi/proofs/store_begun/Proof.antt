@@ -3,13 +3,13 @@ use borrow.Author.Rules.{rules}
 use Rattle.capi.proofs.store_begun.Statement.{statement}
 use Rattle.capi.proofs.store_begun.Tie as tie
 
-returns : tie.Need-returns
+returns : tie.Need-returns-in-Ready
 returns c =
     let at_before = c.before.before.before in
-    let at_match = at_before.before in rw (at_match.before.begun.given.1, c.before.before.store-writer.ensures)
+    let at_match = at_before.before in rw (at_match.before.begun-1.given.1, c.before.before.store_writer.ensures)
 
-returns_2 : tie.Need-returns-2
-returns_2 c = rw c.before.begun2.given.1
+returns_2 : tie.Need-returns-in-Refused
+returns_2 c = rw c.before.begun-in-Refused-1.given.1
 
 pub store_begun_spec : {M : Type 1} → statement M
 store_begun_spec =

@@ -13,75 +13,75 @@ use Rattle.capi.proofs.sv_add.Tie as tie
 
 -- ---- the words are enough
 
-abbrev given : tie.Else1 → tie.Start
+abbrev given : tie.Else-record-writer → tie.Start
 given t = let known = t.before.before.before.before in let all_Known = known.before.before in all_Known.before.before.before
 
-room : (t : tie.Else1) → let a = (given t).args in (19 ≤ length a.«record».now) × ((4 ≤ length a.writer.now) × (1 ≤ length a.count.now))
-room t = let a = (given t).args in enough3 19 4 1 a.«record».now a.writer.now a.count.now t.if1.false
+room : (t : tie.Else-record-writer) → let a = (given t).args in (19 ≤ length a.«record».now) × ((4 ≤ length a.writer-1.now) × (1 ≤ length a.count.now))
+room t = let a = (given t).args in enough3 19 4 1 a.«record».now a.writer-1.now a.count.now t.if-record-writer.false
 
 -- ---- the writer has answered, and its answer picks the case
 
-abbrev at_heading : tie.After-slice-known4 → tie.After-load-heading
+abbrev at_heading : tie.After-slice_known-4-1 → tie.After-load_heading-given
 at_heading c = let at_good = c.before.before.before.before in at_good.before.before.before
 
-abbrev at_writer : tie.After-slice-known4 → tie.After-load-writer
+abbrev at_writer : tie.After-slice_known-4-1 → tie.After-load_writer-state
 at_writer c = (at_heading c).before.before.before.before
 
-abbrev at_words : tie.After-slice-known4 → tie.Else1
+abbrev at_words : tie.After-slice_known-4-1 → tie.Else-record-writer
 at_words c = (at_writer c).before.before
 
-answer_picks : (c : tie.After-slice-known4) {r : Added} → c.before.before.add.result ≡ r
-    → let a = (given (at_words c)).args in sv_add a.«record».now a.name.now a.names.now a.rest.now a.deviations.now a.buffer.now a.writer.now a.count.now ≡ after_add (r, c.before.before.add.new.1.0) a.writer.now a.count.now
+answer_picks : (c : tie.After-slice_known-4-1) {r : Added} → c.before.before.add-added.result ≡ r
+    → let a = (given (at_words c)).args in sv_add a.«record».now a.name.now a.names.now a.rest.now a.deviations.now a.buffer-1.now a.writer-1.now a.count.now ≡ after_add (r, c.before.before.add-added.new.1.0) a.writer-1.now a.count.now
 answer_picks c h =
     let at_add = c.before.before in
     let w = sym (at_writer c).load-writer.ensures ∙ (at_heading c).before.before.state.given.1 in
-    let g = sym (at_heading c).load-heading.ensures ∙ at_add.before.before.before.given.given.1 in
-    add_then _ _ _ _ _ _ _ _ (at_words c).if1.false w g at_add.add.ensures.0 h
+    let g = sym (at_heading c).load-heading.ensures ∙ at_add.before.before.before.given-1.given.1 in
+    add_then _ _ _ _ _ _ _ _ (at_words c).if1.false w g at_add.add-added.ensures.0 h
 
 -- ---- the needs
 
-returns : tie.Need-returns
-returns c = sym (add_short _ _ _ _ _ _ _ _ c.if1.true)
+returns : tie.Need-returns-then-record-writer
+returns c = sym (add_short _ _ _ _ _ _ _ _ c.if-record-writer.true)
 
-slice_write_count : tie.Need-slice-write-count
+slice_write_count : tie.Need-bounds-count-0
 slice_write_count c = (room c).1.1
 
-load_writer_requires : tie.Need-load-writer-requires
+load_writer_requires : tie.Need-load_writer-state-requires
 load_writer_requires c κs = (room c.before).1.0
 
-returns_2 : tie.Need-returns-2
+returns_2 : tie.Need-returns-in_default
 returns_2 c =
     let at_load = c.before.before in
-    sym (add_bad _ _ _ _ _ _ _ _ at_load.before.before.if1.false (sym at_load.load-writer.ensures ∙ c.enum_told.given.1))
+    sym (add_bad _ _ _ _ _ _ _ _ at_load.before.before.if-record-writer.false (sym at_load.load_writer-state.ensures ∙ c.enum_told-1.given.1))
 
-load_heading_requires : tie.Need-load-heading-requires
+load_heading_requires : tie.Need-load_heading-given-requires
 load_heading_requires c κs = let at_load = c.before.before.before in (room at_load.before.before).0
 
-returns_3 : tie.Need-returns-3
+returns_3 : tie.Need-returns-in_default-given
 returns_3 c =
     let at_state = c.before.before.before.before in
     let at_load = at_state.before.before in
-    sym (add_none _ _ _ _ _ _ _ _ at_load.before.before.if1.false (sym at_load.load-writer.ensures ∙ at_state.state.given.1) (sym c.before.before.load-heading.ensures ∙ c.enum-told2.given.1))
+    sym (add_none _ _ _ _ _ _ _ _ at_load.before.before.if-record-writer.false (sym at_load.load_writer-state.ensures ∙ at_state.state-1.given.1) (sym c.before.before.load_heading-given.ensures ∙ c.enum_told-in_default-given-1.given.1))
 
-store_writer_requires : tie.Need-store-writer-requires
+store_writer_requires : tie.Need-store_writer-requires
 store_writer_requires c κs = let at_answer = c.before.before.before.before in (room (at_words at_answer)).1.0
 
-slice_write_count_2 : tie.Need-slice-write-count-2
+slice_write_count_2 : tie.Need-bounds-count-0-in-Accepted
 slice_write_count_2 c =
     let at_stored = c.before.before.before in
     let at_answer = at_stored.before.before.before.before in
     let h = (room (at_words at_answer)).1.1 in
     simp length-set (omega arith)
 
-returns_4 : tie.Need-returns-4
+returns_4 : tie.Need-returns-in-Accepted
 returns_4 c =
     let at_stored = c.before.before in
     let at_accepted = at_stored.before.before.before in
-    let e = answer_picks at_accepted.before.before at_accepted.added.given.1 in
-    rw set-set (cc (e, at_stored.store-writer.ensures))
+    let e = answer_picks at_accepted.before.before at_accepted.added-1.given.1 in
+    rw set-set (cc (e, at_stored.store_writer.ensures))
 
-returns_5 : tie.Need-returns-5
-returns_5 c = sym (answer_picks c.before.before.before c.before.added2.given.1)
+returns_5 : tie.Need-returns-in-Refused
+returns_5 c = sym (answer_picks c.before.before.before c.before.added-in-Refused-1.given.1)
 
 pub sv_add_spec : {M : Type 1} → statement M
 sv_add_spec =

@@ -5,14 +5,14 @@ use Rattle.capi.proofs.Editing.{append_short, append_then}
 use Rattle.capi.proofs.sv_append.Statement.{statement}
 use Rattle.capi.proofs.sv_append.Tie as tie
 
-returns : tie.Need-returns
-returns c = sym (append_short _ _ _ _ _ _ c.if1.true)
+returns : tie.Need-returns-then-record-lt-RECORD_WORDS
+returns c = sym (append_short _ _ _ _ _ _ c.if-record-lt-RECORD_WORDS.true)
 
-returns_2 : tie.Need-returns-2
+returns_2 : tie.Need-returns
 returns_2 c =
     let at_append = c.before.before.before in
     let at_heading = at_append.before.before in
-    append_then _ _ _ _ _ _ at_heading.before.if1.false at_heading.heading-in.ensures at_append.append.ensures.0 c.number_of_lem.ensures
+    append_then _ _ _ _ _ _ at_heading.before.if-record-lt-RECORD_WORDS.false at_heading.heading_in-heading.ensures at_append.append-edited.ensures.0 c.number_of_lem.ensures
 
 pub sv_append_spec : {M : Type 1} → statement M
 sv_append_spec =

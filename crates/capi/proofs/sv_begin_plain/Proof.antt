@@ -6,16 +6,16 @@ use borrow.Author.Rules.{rules}
 use Rattle.capi.proofs.sv_begin_plain.Statement.{statement}
 use Rattle.capi.proofs.sv_begin_plain.Tie as tie
 
-returns : tie.Need-returns
-returns c = sym (begin_short _ 0 0 _ c.if1.true)
+returns : tie.Need-returns-then-writer-lt-WRITER_WORDS
+returns c = sym (begin_short _ 0 0 _ c.if-writer-lt-WRITER_WORDS.true)
 
-returns_2 : tie.Need-returns-2
-returns_2 c = sym (begin_version _ 0 0 _ c.before.if1.false (omega arith) c.if2.true)
+returns_2 : tie.Need-returns-then-version-gt4
+returns_2 c = sym (begin_version _ 0 0 _ c.before.if-writer-lt-WRITER_WORDS.false (omega arith) c.if-version-gt4.true)
 
-returns_3 : tie.Need-returns-3
+returns_3 : tie.Need-returns
 returns_3 c =
     let at_begin = c.before.before.before.before in
-    c.before.before.store-begun.ensures ∙ sym (begin_then _ 0 0 _ at_begin.before.before.if1.false (omega arith) (sym at_begin.begin-plain.ensures))
+    c.before.before.store_begun.ensures ∙ sym (begin_then _ 0 0 _ at_begin.before.before.if-writer-lt-WRITER_WORDS.false (omega arith) (sym at_begin.begin_plain-begun.ensures))
 
 pub sv_begin_plain_spec : {M : Type 1} → statement M
 sv_begin_plain_spec =

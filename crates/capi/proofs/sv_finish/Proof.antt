@@ -13,50 +13,50 @@ use Rattle.capi.proofs.sv_finish.Tie as tie
 
 -- ---- the words are enough
 
-abbrev given : tie.Else1 → tie.Start
+abbrev given : tie.Else-writer-count → tie.Start
 given t = let all_Known = t.before.before.before in all_Known.before.before
 
-room : (t : tie.Else1) → let a = (given t).args in (4 ≤ length a.writer.now) × (1 ≤ length a.count.now)
-room t = let a = (given t).args in enough2 4 1 a.writer.now a.count.now t.if1.false
+room : (t : tie.Else-writer-count) → let a = (given t).args in (4 ≤ length a.writer.now) × (1 ≤ length a.count.now)
+room t = let a = (given t).args in enough2 4 1 a.writer.now a.count.now t.if-writer-count.false
 
 -- ---- the writer has answered, and its answer picks the case
 
-abbrev at_loaded : tie.After-slice-known3 → tie.After-load-writer
+abbrev at_loaded : tie.After-slice_known-3-1 → tie.After-load_writer-state
 at_loaded c = let at_good = c.before.before.before.before in at_good.before.before.before
 
-abbrev at_words : tie.After-slice-known3 → tie.Else1
+abbrev at_words : tie.After-slice_known-3-1 → tie.Else-writer-count
 at_words c = (at_loaded c).before
 
-answer_picks : (c : tie.After-slice-known3) {r : Finished} → c.before.before.finish.result ≡ r
-    → let a = (given (at_words c)).args in sv_finish a.padding a.buffer.now a.output.now a.writer.now a.count.now ≡ after_finish (r, c.before.before.finish.new.1.0) a.count.now
+answer_picks : (c : tie.After-slice_known-3-1) {r : Finished} → c.before.before.finish-finished.result ≡ r
+    → let a = (given (at_words c)).args in sv_finish a.padding a.buffer.now a.output-1.now a.writer.now a.count.now ≡ after_finish (r, c.before.before.finish-finished.new.1.0) a.count.now
 answer_picks c h =
     let at_finish = c.before.before in
-    finish_then _ _ _ _ _ (at_words c).if1.false (sym (at_loaded c).load-writer.ensures ∙ at_finish.before.before.before.state.given.1) at_finish.finish.ensures h
+    finish_then _ _ _ _ _ (at_words c).if1.false (sym (at_loaded c).load-writer.ensures ∙ at_finish.before.before.before.state-1.given.1) at_finish.finish-finished.ensures h
 
 -- ---- the needs
 
-returns : tie.Need-returns
-returns c = sym (finish_short _ _ _ _ _ c.if1.true)
+returns : tie.Need-returns-then-writer-count
+returns c = sym (finish_short _ _ _ _ _ c.if-writer-count.true)
 
-slice_write_count : tie.Need-slice-write-count
+slice_write_count : tie.Need-bounds-count-0
 slice_write_count c = (room c).1
 
-load_writer_requires : tie.Need-load-writer-requires
+load_writer_requires : tie.Need-load_writer-state-requires
 load_writer_requires c κs = (room c).0
 
-returns_2 : tie.Need-returns-2
+returns_2 : tie.Need-returns-in_default
 returns_2 c =
     let at_load = c.before.before in
-    sym (finish_bad _ _ _ _ _ at_load.before.if1.false (sym at_load.load-writer.ensures ∙ c.enum_told.given.1))
+    sym (finish_bad _ _ _ _ _ at_load.before.if-writer-count.false (sym at_load.load_writer-state.ensures ∙ c.enum_told-1.given.1))
 
-slice_write_count_2 : tie.Need-slice-write-count-2
+slice_write_count_2 : tie.Need-bounds-count-0-in-Done
 slice_write_count_2 c = let h = (room (at_words c.before.before.before)).1 in simp length-set (omega arith)
 
-returns_3 : tie.Need-returns-3
-returns_3 c = rw set-set (sym (answer_picks c.before.before.before c.before.finished.given.1))
+returns_3 : tie.Need-returns-in-Done
+returns_3 c = rw set-set (sym (answer_picks c.before.before.before c.before.finished-1.given.1))
 
-returns_4 : tie.Need-returns-4
-returns_4 c = sym (answer_picks c.before.before.before c.before.finished2.given.1)
+returns_4 : tie.Need-returns-in-Refused
+returns_4 c = sym (answer_picks c.before.before.before c.before.finished-in-Refused-1.given.1)
 
 pub sv_finish_spec : {M : Type 1} → statement M
 sv_finish_spec =

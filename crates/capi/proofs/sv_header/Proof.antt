@@ -5,20 +5,20 @@ use borrow.Author.Rules.{rules}
 use Rattle.capi.proofs.sv_header.Statement.{statement}
 use Rattle.capi.proofs.sv_header.Tie as tie
 
-returns : tie.Need-returns
-returns c = sym (header_short _ _ c.if1.true)
+returns : tie.Need-returns-then-header-lt-HEADER_WORDS
+returns c = sym (header_short _ _ c.if-header-lt-HEADER_WORDS.true)
 
-returns_2 : tie.Need-returns-2
+returns_2 : tie.Need-returns-in-Found
 returns_2 c =
     let at_stored = c.before.before in
     let at_found = at_stored.before.before.before in
     let at_header = at_found.before.before in
-    rw at_stored.store-header.ensures (sym (header_then _ _ at_header.before.if1.false (sym at_header.header.ensures ∙ at_found.headed.given.1)))
+    rw at_stored.store_header.ensures (sym (header_then _ _ at_header.before.if-header-lt-HEADER_WORDS.false (sym at_header.header-headed.ensures ∙ at_found.headed-1.given.1)))
 
-returns_3 : tie.Need-returns-3
+returns_3 : tie.Need-returns-in-Refused
 returns_3 c =
     let at_header = c.before.before.before in
-    sym (header_then _ _ at_header.before.if1.false (sym at_header.header.ensures ∙ c.before.headed2.given.1))
+    sym (header_then _ _ at_header.before.if-header-lt-HEADER_WORDS.false (sym at_header.header-headed.ensures ∙ c.before.headed-in-Refused-1.given.1))
 
 pub sv_header_spec : {M : Type 1} → statement M
 sv_header_spec =

@@ -5,14 +5,14 @@ use borrow.Author.Rules.{rules}
 use Rattle.capi.proofs.sv_lift.Statement.{statement}
 use Rattle.capi.proofs.sv_lift.Tie as tie
 
-returns : tie.Need-returns
-returns c = sym (lift_short _ _ _ _ c.if1.true)
+returns : tie.Need-returns-then-counter-lt-COUNTER_WORDS
+returns c = sym (lift_short _ _ _ _ c.if-counter-lt-COUNTER_WORDS.true)
 
-returns_2 : tie.Need-returns-2
+returns_2 : tie.Need-returns
 returns_2 c =
     let at_stored = c.before.before in
     let at_lift = at_stored.before.before.before.before in
-    lift_then _ _ _ _ at_lift.before.before.if1.false at_stored.store-raised.ensures at_lift.lift.ensures
+    lift_then _ _ _ _ at_lift.before.before.if-counter-lt-COUNTER_WORDS.false at_stored.store_raised.ensures at_lift.lift-raised.ensures
 
 pub sv_lift_spec : {M : Type 1} → statement M
 sv_lift_spec =

@@ -18,43 +18,43 @@ use Rattle.capi.proofs.sv_meter_next.Tie as tie
 
 -- ---- the words are enough, and say a meter that runs
 
-abbrev given : tie.Else1 → tie.Start
+abbrev given : tie.Else-meter-metered → tie.Start
 given t = let all_Known = t.before.before.before in all_Known.before.before
 
-room : (t : tie.Else1) → let a = (given t).args in (11 ≤ length a.meter.now) × (6 ≤ length a.metered.now)
-room t = let a = (given t).args in enough2 11 6 a.meter.now a.metered.now t.if1.false
+room : (t : tie.Else-meter-metered) → let a = (given t).args in (11 ≤ length a.meter-1.now) × (6 ≤ length a.metered-1.now)
+room t = let a = (given t).args in enough2 11 6 a.meter-1.now a.metered-1.now t.if-meter-metered.false
 
-abbrev at_runs : tie.After-version-in → tie.Else2
+abbrev at_runs : tie.After-version_in-given → tie.Else-not-is_running
 at_runs c = c.before.before
 
-abbrev at_words : tie.After-version-in → tie.Else1
+abbrev at_words : tie.After-version_in-given → tie.Else-meter-metered
 at_words c = (at_runs c).before.before.before
 
 -- ---- the needs
 
-returns : tie.Need-returns
-returns c = sym (next_short _ _ _ _ c.if1.true)
+returns : tie.Need-returns-then-meter-metered
+returns c = sym (next_short _ _ _ _ c.if-meter-metered.true)
 
-is_running_requires : tie.Need-is-running-requires
+is_running_requires : tie.Need-is_running-requires
 is_running_requires c κs = (room c.before).0
 
 stopped_requires : tie.Need-stopped-requires
 stopped_requires c κs = let at_Stops = c.before in (room at_Stops.before.before.before).0
 
-returns_2 : tie.Need-returns-2
+returns_2 : tie.Need-returns-then-not-is_running
 returns_2 c =
     let at_Stops = c.before.before in
     let t = at_Stops.before.before.before in
-    rw c.stopped.ensures (sym (next_stopped _ _ _ _ t.if1.false (sym at_Stops.before.is-running.ensures ∙ not-true _ at_Stops.if2.true)))
+    rw c.stopped.ensures (sym (next_stopped _ _ _ _ t.if-meter-metered.false (sym at_Stops.before.is_running.ensures ∙ not-true _ at_Stops.if-not-is_running.true)))
 
-slice_read_version_in : tie.Need-slice-read-version-in
+slice_read_version_in : tie.Need-bounds-meter-0
 slice_read_version_in c = let at_runs = c.before in let h = room at_runs.before.before.before in omega (arith, h.0)
 
-returns_3 : tie.Need-returns-3
+returns_3 : tie.Need-returns-in_default
 returns_3 c =
     let at_version = c.before.before in
     let t = at_words at_version in
-    sym (next_unknown _ _ _ _ t.if1.left (bad_version (word 0 (given t).args.meter.now) (sym at_version.version-in.ensures ∙ c.enum_told.given.1)))
+    sym (next_unknown _ _ _ _ t.if-meter-metered.left (bad_version (word 0 (given t).args.meter.now) (sym at_version.version_in-given.ensures ∙ c.enum_told-1.given.1)))
 
 running_requires : tie.Need-running-requires
 running_requires c κs = (room (at_words c.before.before.before.before)).0
@@ -66,7 +66,7 @@ answered_requires c κs =
     let h = room (at_words at_good.before.before.before) in
     (omega (arith, h.0), omega (arith, h.1))
 
-returns_4 : tie.Need-returns-4
+returns_4 : tie.Need-returns
 returns_4 c =
     let at_answered = c.before.before.before.before in
     let at_lent = at_answered.before.before.before in
@@ -76,10 +76,10 @@ returns_4 c =
     let at_version = at_good.before.before in
     let t = at_words at_version in
     let a = (given t).args in
-    let v = good_version (word 0 a.meter.now) (sym at_version.version-in.ensures ∙ at_good.given.given.1) in
-    let m = at_running.running.ensures ∙ ap (λ (z : Version). meter_with z Stop.Running a.meter.now) v.1 in
-    let n = at_next.next.ensures ∙ ap (λ (z : Meter). next_of z a.tag.now a.work.now) m in
-    next_then _ _ _ _ t.if1.left v.0 (sym (at_runs at_version).before.is-running.ensures ∙ not-false _ (at_runs at_version).if2.false) n at_answered.answered.ensures
+    let v = good_version (word 0 a.meter-1.now) (sym at_version.version_in-given.ensures ∙ at_good.given-1.given.1) in
+    let m = at_running.running.ensures ∙ ap (λ (z : Version). meter_with z Stop.running a.meter-1.now) v.1 in
+    let n = at_next.next-next.ensures ∙ ap (λ (z : Meter). next_of z a.tag.now a.work-1.now) m in
+    next_then _ _ _ _ t.if-meter-metered.left v.0 (sym (at_runs at_version).before.is-running.ensures ∙ not-false _ (at_runs at_version).if2.false) n at_answered.answered.ensures
 
 pub sv_meter_next_spec : {M : Type 1} → statement M
 sv_meter_next_spec =

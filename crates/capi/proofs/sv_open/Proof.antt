@@ -5,23 +5,23 @@ use borrow.Author.Rules.{rules}
 use Rattle.capi.proofs.sv_open.Statement.{statement}
 use Rattle.capi.proofs.sv_open.Tie as tie
 
-returns : tie.Need-returns
-returns c = sym (open_short _ _ _ c.if1.true)
+returns : tie.Need-returns-then-reader-lt-READER_WORDS
+returns c = sym (open_short _ _ _ c.if-reader-lt-READER_WORDS.true)
 
-returns_2 : tie.Need-returns-2
+returns_2 : tie.Need-returns-in-Ready
 returns_2 c =
     let at_stored = c.before.before in
     let at_ready = at_stored.before.before.before in
     let at_open = at_ready.before.before.before.before in
     let at_words = at_open.before.before in
-    rw at_stored.store-reader.ensures (sym (open_then _ _ _ at_words.if1.false at_open.«open».ensures at_ready.opened.given.1))
+    rw at_stored.store_reader.ensures (sym (open_then _ _ _ at_words.if-reader-lt-READER_WORDS.false at_open.«open».ensures at_ready.opened-1.given.1))
 
-returns_3 : tie.Need-returns-3
+returns_3 : tie.Need-returns-in-Refused
 returns_3 c =
     let at_refused = c.before in
     let at_open = at_refused.before.before.before.before in
     let at_words = at_open.before.before in
-    sym (open_then _ _ _ at_words.if1.false at_open.«open».ensures at_refused.opened2.given.1)
+    sym (open_then _ _ _ at_words.if-reader-lt-READER_WORDS.false at_open.«open».ensures at_refused.opened-in-Refused-1.given.1)
 
 pub sv_open_spec : {M : Type 1} → statement M
 sv_open_spec =

@@ -5,14 +5,14 @@ use borrow.Author.Rules.{rules}
 use Rattle.capi.proofs.sv_raise.Statement.{statement}
 use Rattle.capi.proofs.sv_raise.Tie as tie
 
-returns : tie.Need-returns
-returns c = sym (raise_short _ _ _ _ c.if1.true)
+returns : tie.Need-returns-then-counter-lt-COUNTER_WORDS
+returns c = sym (raise_short _ _ _ _ c.if-counter-lt-COUNTER_WORDS.true)
 
-returns_2 : tie.Need-returns-2
+returns_2 : tie.Need-returns
 returns_2 c =
     let at_stored = c.before.before in
     let at_raise = at_stored.before.before.before.before in
-    raise_then _ _ _ _ at_raise.before.before.if1.false at_stored.store-raised.ensures at_raise.raise.ensures
+    raise_then _ _ _ _ at_raise.before.before.if-counter-lt-COUNTER_WORDS.false at_stored.store_raised.ensures at_raise.raise-raised.ensures
 
 pub sv_raise_spec : {M : Type 1} → statement M
 sv_raise_spec =

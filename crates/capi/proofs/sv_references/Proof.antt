@@ -13,50 +13,50 @@ use Rattle.capi.proofs.sv_references.Tie as tie
 
 -- ---- the words are enough
 
-abbrev given : tie.Else1 → tie.Start
+abbrev given : tie.Else-record-count → tie.Start
 given t = let all_Known = t.before.before.before in all_Known.before.before
 
-room : (t : tie.Else1) → let a = (given t).args in (19 ≤ length a.«record».now) × (1 ≤ length a.count.now)
-room t = let a = (given t).args in enough2 19 1 a.«record».now a.count.now t.if1.false
+room : (t : tie.Else-record-count) → let a = (given t).args in (19 ≤ length a.«record».now) × (1 ≤ length a.count.now)
+room t = let a = (given t).args in enough2 19 1 a.«record».now a.count.now t.if-record-count.false
 
 -- ---- the references are put, and the answer picks the case
 
-abbrev at_loaded : tie.After-slice-known3 → tie.After-load-heading
+abbrev at_loaded : tie.After-slice_known-3-1 → tie.After-load_heading-given
 at_loaded c = let at_good = c.before.before.before.before in at_good.before.before.before
 
-abbrev at_words : tie.After-slice-known3 → tie.Else1
+abbrev at_words : tie.After-slice_known-3-1 → tie.Else-record-count
 at_words c = (at_loaded c).before
 
-answer_picks : (c : tie.After-slice-known3) {o : Unpacked} → c.before.before.references.result ≡ o
-    → let a = (given (at_words c)).args in sv_references a.«record».now a.rest.now a.deviations.now a.count.now ≡ after_unpack (o, c.before.before.references.new.0) a.count.now
+answer_picks : (c : tie.After-slice_known-3-1) {o : Unpacked} → c.before.before.references-put.result ≡ o
+    → let a = (given (at_words c)).args in sv_references a.«record».now a.rest.now a.deviations-1.now a.count.now ≡ after_unpack (o, c.before.before.references-put.new.0) a.count.now
 answer_picks c h =
     let at_put = c.before.before in
-    references_then _ _ _ _ (at_words c).if1.false (sym (at_loaded c).load-heading.ensures ∙ at_put.before.before.before.given.given.1) at_put.references.ensures h
+    references_then _ _ _ _ (at_words c).if1.false (sym (at_loaded c).load-heading.ensures ∙ at_put.before.before.before.given-1.given.1) at_put.references-put.ensures h
 
 -- ---- the needs
 
-returns : tie.Need-returns
-returns c = sym (references_short _ _ _ _ c.if1.true)
+returns : tie.Need-returns-then-record-count
+returns c = sym (references_short _ _ _ _ c.if-record-count.true)
 
-slice_write_count : tie.Need-slice-write-count
+slice_write_count : tie.Need-bounds-count-0
 slice_write_count c = (room c).1
 
-load_heading_requires : tie.Need-load-heading-requires
+load_heading_requires : tie.Need-load_heading-given-requires
 load_heading_requires c κs = (room c).0
 
-returns_2 : tie.Need-returns-2
+returns_2 : tie.Need-returns-in_default
 returns_2 c =
     let at_load = c.before.before in
-    sym (references_bad _ _ _ _ at_load.before.if1.false (sym at_load.load-heading.ensures ∙ c.enum_told.given.1))
+    sym (references_bad _ _ _ _ at_load.before.if-record-count.false (sym at_load.load_heading-given.ensures ∙ c.enum_told-1.given.1))
 
-slice_write_count_2 : tie.Need-slice-write-count-2
+slice_write_count_2 : tie.Need-bounds-count-0-in-Numbers
 slice_write_count_2 c = let h = (room (at_words c.before.before.before)).1 in simp length-set (omega arith)
 
-returns_3 : tie.Need-returns-3
-returns_3 c = rw set-set (sym (answer_picks c.before.before.before c.before.put.given.1))
+returns_3 : tie.Need-returns-in-Numbers
+returns_3 c = rw set-set (sym (answer_picks c.before.before.before c.before.put-1.given.1))
 
-returns_4 : tie.Need-returns-4
-returns_4 c = sym (answer_picks c.before.before.before c.before.put2.given.1)
+returns_4 : tie.Need-returns-in-Refused
+returns_4 c = sym (answer_picks c.before.before.before c.before.put-in-Refused-1.given.1)
 
 pub sv_references_spec : {M : Type 1} → statement M
 sv_references_spec =

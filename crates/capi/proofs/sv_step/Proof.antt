@@ -12,76 +12,76 @@ use Rattle.capi.proofs.sv_step.Tie as tie
 
 -- ---- the words are enough
 
-abbrev given : tie.Else1 → tie.Start
+abbrev given : tie.Else-reader-record → tie.Start
 given t = let all_Known = t.before.before.before in all_Known.before.before
 
-room : (t : tie.Else1) → let a = (given t).args in (7 ≤ length a.reader.now) × (19 ≤ length a.«record».now)
-room t = let a = (given t).args in enough2 7 19 a.reader.now a.«record».now t.if1.false
+room : (t : tie.Else-reader-record) → let a = (given t).args in (7 ≤ length a.reader-1.now) × (19 ≤ length a.«record».now)
+room t = let a = (given t).args in enough2 7 19 a.reader-1.now a.«record».now t.if-reader-record.false
 
 -- ---- the reader has made its step, whose answer picks the case
 
-abbrev at_loaded : tie.After-slice-known4 → tie.After-load-reader
+abbrev at_loaded : tie.After-slice_known-4-1 → tie.After-load_reader-given
 at_loaded c = let at_good = c.before.before.before.before in at_good.before.before.before
 
-abbrev at_words : tie.After-slice-known4 → tie.Else1
+abbrev at_words : tie.After-slice_known-4-1 → tie.Else-reader-record
 at_words c = (at_loaded c).before.before
 
-answer_picks : (c : tie.After-slice-known4) {s : Step} → c.before.before.step.result ≡ s
-    → let a = (given (at_words c)).args in sv_step a.tag.now a.work.now a.reader.now a.«record».now ≡ after_step (s, c.before.before.step.new.1.0) a.reader.now a.«record».now
+answer_picks : (c : tie.After-slice_known-4-1) {s : Step} → c.before.before.step-step.result ≡ s
+    → let a = (given (at_words c)).args in sv_step a.tag.now a.work-1.now a.reader-1.now a.«record».now ≡ after_step (s, c.before.before.step-step.new.1.0) a.reader-1.now a.«record».now
 answer_picks c h =
     let at_step = c.before.before in
-    step_then _ _ _ _ (at_words c).if1.false (sym (at_loaded c).load-reader.ensures ∙ at_step.before.before.before.given.given.1) at_step.step.ensures h
+    step_then _ _ _ _ (at_words c).if1.false (sym (at_loaded c).load-reader.ensures ∙ at_step.before.before.before.given-1.given.1) at_step.step-step.ensures h
 
 -- ---- the needs
 
-returns : tie.Need-returns
-returns c = sym (step_short _ _ _ _ c.if1.true)
+returns : tie.Need-returns-then-reader-record
+returns c = sym (step_short _ _ _ _ c.if-reader-record.true)
 
-load_reader_requires : tie.Need-load-reader-requires
+load_reader_requires : tie.Need-load_reader-given-requires
 load_reader_requires c κs = (room c.before).0
 
-returns_2 : tie.Need-returns-2
+returns_2 : tie.Need-returns-in_default
 returns_2 c =
     let at_load = c.before.before in
-    sym (step_bad _ _ _ _ at_load.before.before.if1.false (sym at_load.load-reader.ensures ∙ c.enum_told.given.1))
+    sym (step_bad _ _ _ _ at_load.before.before.if-reader-record.false (sym at_load.load_reader-given.ensures ∙ c.enum_told-1.given.1))
 
-store_reader_requires : tie.Need-store-reader-requires
+store_reader_requires : tie.Need-store_reader-requires
 store_reader_requires c κs = let at_answer = c.before.before.before.before in let h = room (at_words at_answer) in omega (arith, h.0, h.1)
 
-store_record_requires : tie.Need-store-record-requires
+store_record_requires : tie.Need-store_record-requires
 store_record_requires c κs =
     let at_stored = c.before.before.before.before in
     let at_answer = at_stored.before.before.before.before in
     let h = room (at_words at_answer) in
     omega (arith, h.0, h.1)
 
-store_reader_requires_2 : tie.Need-store-reader-requires-2
+store_reader_requires_2 : tie.Need-store_reader-requires-in-End
 store_reader_requires_2 c κs = let at_answer = c.before.before.before.before in let h = room (at_words at_answer) in omega (arith, h.0, h.1)
 
-store_reader_requires_3 : tie.Need-store-reader-requires-3
+store_reader_requires_3 : tie.Need-store_reader-requires-in-Refused
 store_reader_requires_3 c κs = let at_answer = c.before.before.before.before in let h = room (at_words at_answer) in omega (arith, h.0, h.1)
 
-returns_3 : tie.Need-returns-3
+returns_3 : tie.Need-returns-in-Frame
 returns_3 c =
     let at_put = c.before.before in
     let at_stored = at_put.before.before.before.before in
     let at_frame = at_stored.before.before.before in
-    let e = answer_picks at_frame.before.before at_frame.step2.given.1 in
-    cc (e, at_stored.store-reader.ensures, at_put.store-record.ensures)
+    let e = answer_picks at_frame.before.before at_frame.step-1.given.1 in
+    cc (e, at_stored.store_reader.ensures, at_put.store_record.ensures)
 
-returns_4 : tie.Need-returns-4
+returns_4 : tie.Need-returns-in-End
 returns_4 c =
     let at_stored = c.before.before in
     let at_end = at_stored.before.before.before in
-    let e = answer_picks at_end.before.before at_end.step3.given.1 in
-    cc (e, at_stored.store-reader2.ensures)
+    let e = answer_picks at_end.before.before at_end.step-in-End-1.given.1 in
+    cc (e, at_stored.store_reader-in-End.ensures)
 
-returns_5 : tie.Need-returns-5
+returns_5 : tie.Need-returns-in-Refused
 returns_5 c =
     let at_stored = c.before.before in
     let at_refused = at_stored.before.before.before in
-    let e = answer_picks at_refused.before.before at_refused.step4.given.1 in
-    cc (e, at_stored.store-reader3.ensures)
+    let e = answer_picks at_refused.before.before at_refused.step-in-Refused-1.given.1 in
+    cc (e, at_stored.store_reader-in-Refused.ensures)
 
 pub sv_step_spec : {M : Type 1} → statement M
 sv_step_spec =

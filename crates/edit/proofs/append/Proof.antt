@@ -10,7 +10,7 @@ use Rattle.edit.proofs.Finding.{located_refused, known, appended_found}
 use Rattle.edit.proofs.append.Statement.{statement}
 use Rattle.edit.proofs.append.Tie as tie
 
-abbrev start : tie.After-locate → tie.Start
+abbrev start : tie.After-locate-located → tie.Start
 start c = let known = c.before.before.before in known.before.before.before.before
 
 -- the numbers that were given are of their types
@@ -18,23 +18,23 @@ fits : (s : tie.Start) → let a = s.args in Fits (content_of a.heading.fields a
 fits s = let a = s.args in heading_fits a.name.now a.names.now a.rest.now a.deviations.now a.heading _ s.well-formed.1.0
 
 -- what was found
-found : (c : tie.After-locate) {x : Located} → c.locate.result ≡ x → x ≡ located_of (start c).args.tag.now 0
-found c e = sym e ∙ c.locate.ensures
+found : (c : tie.After-locate-located) {x : Located} → c.locate-located.result ≡ x → x ≡ located_of (start c).args.tag.now 0
+found c e = sym e ∙ c.locate-located.ensures
 
-returns : tie.Need-returns
+returns : tie.Need-returns-in-Refused
 unfolding appended_of
 returns c =
     let at_locate = c.before.before.before in
     let a = (start at_locate).args in
-    (located_refused a.tag.now 0 (found at_locate c.before.located.given.1) _, fits (start at_locate))
+    (located_refused a.tag.now 0 (found at_locate c.before.located-1.given.1) _, fits (start at_locate))
 
-returns_2 : tie.Need-returns-2
+returns_2 : tie.Need-returns-in-Frames
 returns_2 c =
     let at_put = c.before.before in
     let at_located = at_put.before.before.before in
     let at_locate = at_located.before.before in
     let a = (start at_locate).args in
-    (at_put.put-between.ensures ∙ appended_found a.tag.now (known a.tag.now 0 (found at_locate at_located.located2.given.1)) _, fits (start at_locate))
+    (at_put.put_between.ensures ∙ appended_found a.tag.now (known a.tag.now 0 (found at_locate at_located.located-in-Frames-1.given.1)) _, fits (start at_locate))
 
 pub append_spec : {M : Type 1} → statement M
 append_spec =

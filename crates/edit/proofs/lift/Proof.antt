@@ -9,26 +9,26 @@ use Rattle.edit.proofs.lift.Statement.{statement}
 use Rattle.edit.proofs.lift.Tie as tie
 
 -- what was sought
-sought : (c : tie.After-seek) {x : Sought} → c.seek.result ≡ x
+sought : (c : tie.After-seek-sought) {x : Sought} → c.seek-sought.result ≡ x
     → let a = c.before.before.before.before.args in x ≡ sought_of a.tag.now a.user.now
-sought c e = sym e ∙ c.seek.ensures
+sought c e = sym e ∙ c.seek-sought.ensures
 
-returns : tie.Need-returns
+returns : tie.Need-returns-in-Refused
 returns c =
     let at_seek = c.before.before.before in
     let a = at_seek.before.before.before.before.args in
     sym (lifted_sought a.tag.now a.user.now a.amount
-    ∙ ap (λ (x : Sought). lifted_by x a.user.now a.amount a.tag.now) (sym (sought at_seek c.before.sought.given.1)))
+    ∙ ap (λ (x : Sought). lifted_by x a.user.now a.amount a.tag.now) (sym (sought at_seek c.before.sought-1.given.1)))
 
-returns_2 : tie.Need-returns-2
+returns_2 : tie.Need-returns-in-Counter
 returns_2 c =
     let at_lifted = c.before.before in
     let at_sought = at_lifted.before.before.before in
     let at_seek = at_sought.before.before in
     let a = at_seek.before.before.before.before.args in
-    at_lifted.lift-found.ensures
+    at_lifted.lift_found.ensures
     ∙ sym (lifted_sought a.tag.now a.user.now a.amount
-    ∙ ap (λ (x : Sought). lifted_by x a.user.now a.amount a.tag.now) (sym (sought at_seek at_sought.sought2.given.1)))
+    ∙ ap (λ (x : Sought). lifted_by x a.user.now a.amount a.tag.now) (sym (sought at_seek at_sought.sought-in-Counter-1.given.1)))
 
 pub lift_spec : {M : Type 1} → statement M
 lift_spec =

@@ -11,39 +11,39 @@ use Rattle.edit.proofs.Finding.{located_refused, Known, known, no_number, remove
 use Rattle.edit.proofs.remove.Statement.{statement}
 use Rattle.edit.proofs.remove.Tie as tie
 
-abbrev start : tie.After-locate → tie.Start
+abbrev start : tie.After-locate-located → tie.Start
 start c = c.before.before.before
 
 -- what was found
-found : (c : tie.After-locate) {x : Located} → c.locate.result ≡ x → x ≡ located_of (start c).args.tag.now (start c).args.number
-found c e = sym e ∙ c.locate.ensures
+found : (c : tie.After-locate-located) {x : Located} → c.locate-located.result ≡ x → x ≡ located_of (start c).args.tag.now (start c).args.number
+found c e = sym e ∙ c.locate-located.ensures
 
-frames : (c : tie.After-located2) → let a = (start c.before.before).args in
-    let g = c.located2.given.0 in
-    Known a.tag.now a.number g.0 g.1.0 g.1.1.0 g.1.1.1.0
-frames c = let a = (start c.before.before).args in known a.tag.now a.number (found c.before.before c.located2.given.1)
+frames : (c : tie.In-Frames-2) → let a = (start c.before.before).args in
+    let g = c.located-in-Frames-1.given.0 in
+    Known a.tag-1.now a.number g.0 g.1.0 g.1.1.0 g.1.1.1.0
+frames c = let a = (start c.before.before).args in known a.tag-1.now a.number (found c.before.before c.located-in-Frames-1.given.1)
 
-returns : tie.Need-returns
+returns : tie.Need-returns-in-Refused
 unfolding removed_of
 returns c =
     let at_locate = c.before.before.before in
     let a = (start at_locate).args in
-    located_refused a.tag.now a.number (found at_locate c.before.located.given.1) _
+    located_refused a.tag-1.now a.number (found at_locate c.before.located-1.given.1) _
 
-returns_2 : tie.Need-returns-2
+returns_2 : tie.Need-returns-in-Before
 unfolding removed_of
 returns_2 c =
     let at_located = c.before.before.before in
     let a = (start at_located.before.before).args in
-    no_number a.tag.now a.number (frames at_located) c.enum_told.given.1 _
+    no_number a.tag-1.now a.number (frames at_located) c.enum_told-1.given.1 _
 
-returns_3 : tie.Need-returns-3
+returns_3 : tie.Need-returns-in-Frame
 returns_3 c =
     let at_shift = c.before.before in
     let at_aim = at_shift.before.before.before in
     let at_located = at_aim.before.before.before in
     let a = (start at_located.before.before).args in
-    ap {B = Edit} (λ (l : List ℕ). (Edited.Done, l)) at_shift.shift.ensures ∙ removed_found a.tag.now a.number (frames at_located) at_aim.aim.given.1
+    ap {B = Edit} (λ (l : List ℕ). (Edited.Done, l)) at_shift.shift.ensures ∙ removed_found a.tag-1.now a.number (frames at_located) at_aim.aim-1.given.1
 
 pub remove_spec : {M : Type 1} → statement M
 remove_spec =

@@ -10,7 +10,7 @@ use Rattle.edit.proofs.Finding.{located_refused, Known, known, no_number, replac
 use Rattle.edit.proofs.replace.Statement.{statement}
 use Rattle.edit.proofs.replace.Tie as tie
 
-abbrev start : tie.After-locate → tie.Start
+abbrev start : tie.After-locate-located → tie.Start
 start c = let known = c.before.before.before in known.before.before.before.before
 
 -- the numbers that were given are of their types
@@ -18,35 +18,35 @@ fits : (s : tie.Start) → let a = s.args in Fits (content_of a.heading.fields a
 fits s = let a = s.args in heading_fits a.name.now a.names.now a.rest.now a.deviations.now a.heading _ s.well-formed.1.1.0
 
 -- what was found
-found : (c : tie.After-locate) {x : Located} → c.locate.result ≡ x → x ≡ located_of (start c).args.tag.now (start c).args.number
-found c e = sym e ∙ c.locate.ensures
+found : (c : tie.After-locate-located) {x : Located} → c.locate-located.result ≡ x → x ≡ located_of (start c).args.tag.now (start c).args.number
+found c e = sym e ∙ c.locate-located.ensures
 
-frames : (c : tie.After-located2) → let a = (start c.before.before).args in
-    let g = c.located2.given.0 in
+frames : (c : tie.In-Frames-2) → let a = (start c.before.before).args in
+    let g = c.located-in-Frames-1.given.0 in
     Known a.tag.now a.number g.0 g.1.0 g.1.1.0 g.1.1.1.0
-frames c = let a = (start c.before.before).args in known a.tag.now a.number (found c.before.before c.located2.given.1)
+frames c = let a = (start c.before.before).args in known a.tag.now a.number (found c.before.before c.located-in-Frames-1.given.1)
 
-returns : tie.Need-returns
+returns : tie.Need-returns-in-Refused
 unfolding replaced_of
 returns c =
     let at_locate = c.before.before.before in
     let a = (start at_locate).args in
-    (located_refused a.tag.now a.number (found at_locate c.before.located.given.1) _, fits (start at_locate))
+    (located_refused a.tag.now a.number (found at_locate c.before.located-1.given.1) _, fits (start at_locate))
 
-returns_2 : tie.Need-returns-2
+returns_2 : tie.Need-returns-in-Before
 unfolding replaced_of
 returns_2 c =
     let at_located = c.before.before.before in
     let a = (start at_located.before.before).args in
-    (no_number a.tag.now a.number (frames at_located) c.enum_told.given.1 _, fits (start at_located.before.before))
+    (no_number a.tag.now a.number (frames at_located) c.enum_told-1.given.1 _, fits (start at_located.before.before))
 
-returns_3 : tie.Need-returns-3
+returns_3 : tie.Need-returns-in-Frame
 returns_3 c =
     let at_put = c.before.before in
     let at_aim = at_put.before.before.before in
     let at_located = at_aim.before.before.before in
     let a = (start at_located.before.before).args in
-    (at_put.put-between.ensures ∙ replaced_found a.tag.now a.number (frames at_located) at_aim.aim.given.1 _, fits (start at_located.before.before))
+    (at_put.put_between.ensures ∙ replaced_found a.tag.now a.number (frames at_located) at_aim.aim-1.given.1 _, fits (start at_located.before.before))
 
 pub replace_spec : {M : Type 1} → statement M
 replace_spec =

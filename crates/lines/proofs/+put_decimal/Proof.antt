@@ -29,48 +29,48 @@ put_decimal_below t =
 abbrev calls : ℕ → put-decimal-lts.Claims
 calls t = (put-byte-reads.Asked, put-byte-reads.Learnt, put_decimal_below t, put-decimal.Post)
 
-put_decimal_cast_put_byte : (t : ℕ) → put-decimal-lts.Need-overflow-cast-put-byte (calls t) (put_decimal_at t) put-decimal.Post
+put_decimal_cast_put_byte : (t : ℕ) → put-decimal-lts.Need-overflow_cast-n (calls t) (put_decimal_at t) put-decimal.Post
 put_decimal_cast_put_byte t c = search rules
 
-put_decimal_add_put_byte : (t : ℕ) → put-decimal-lts.Need-overflow-add-put-byte (calls t) (put_decimal_at t) put-decimal.Post
+put_decimal_add_put_byte : (t : ℕ) → put-decimal-lts.Need-overflow_add-n (calls t) (put_decimal_at t) put-decimal.Post
 put_decimal_add_put_byte t c = search rules
 
-put_decimal_put_byte_requires : (t : ℕ) → put-decimal-lts.Need-put-byte-requires (calls t) (put_decimal_at t) put-decimal.Post
-put_decimal_put_byte_requires t c κs = rw (← one_digit _ c.before.if1.true) at c.before.before.before.requires.1
+put_decimal_put_byte_requires : (t : ℕ) → put-decimal-lts.Need-put_byte-requires (calls t) (put_decimal_at t) put-decimal.Post
+put_decimal_put_byte_requires t c κs = rw (← one_digit _ c.before.if-n-lt10.true) at c.before.before.before.requires.1
 
-put_decimal_same_length : (t : ℕ) → put-decimal-lts.Need-same-length (calls t) (put_decimal_at t) put-decimal.Post
+put_decimal_same_length : (t : ℕ) → put-decimal-lts.Need-shape_of-out-then-n-lt10 (calls t) (put_decimal_at t) put-decimal.Post
 put_decimal_same_length t c = search rules
 
-put_decimal_returns : (t : ℕ) → put-decimal-lts.Need-returns (calls t) (put_decimal_at t) put-decimal.Post
-put_decimal_returns t c = in_words c.before.before.put_byte.ensures (one_digit _ c.before.before.before.before.if1.true)
+put_decimal_returns : (t : ℕ) → put-decimal-lts.Need-returns-then-n-lt10 (calls t) (put_decimal_at t) put-decimal.Post
+put_decimal_returns t c = in_words c.before.before.put_byte.ensures (one_digit _ c.before.before.before.before.if-n-lt10.true)
 
-put_decimal_put_decimal_requires : (t : ℕ) → put-decimal-lts.Need-put-decimal-requires (calls t) (put_decimal_at t) put-decimal.Post
+put_decimal_put_decimal_requires : (t : ℕ) → put-decimal-lts.Need-put_decimal-next-requires (calls t) (put_decimal_at t) put-decimal.Post
 put_decimal_put_decimal_requires t c κs =
     let s = c.before.before.before in
     let e : s.args.n ≡ t = s.requires.0 in
-    (omega arith, front _ _ (rw (← more_digits _ c.before.if1.false s.ranges.n.fits) at s.requires.1))
+    (omega arith, front _ _ (rw (← more_digits _ c.before.if-n-lt10.false s.ranges.n.fits) at s.requires.1))
 
-put_decimal_cast_put_byte_2 : (t : ℕ) → put-decimal-lts.Need-overflow-cast-put-byte-2 (calls t) (put_decimal_at t) put-decimal.Post
+put_decimal_cast_put_byte_2 : (t : ℕ) → put-decimal-lts.Need-overflow_cast-n-2 (calls t) (put_decimal_at t) put-decimal.Post
 put_decimal_cast_put_byte_2 t c = search rules
 
-put_decimal_add_put_byte_2 : (t : ℕ) → put-decimal-lts.Need-overflow-add-put-byte-2 (calls t) (put_decimal_at t) put-decimal.Post
+put_decimal_add_put_byte_2 : (t : ℕ) → put-decimal-lts.Need-overflow_add-n-2 (calls t) (put_decimal_at t) put-decimal.Post
 put_decimal_add_put_byte_2 t c = search rules
 
-put_decimal_put_byte_requires_2 : (t : ℕ) → put-decimal-lts.Need-put-byte-requires-2 (calls t) (put_decimal_at t) put-decimal.Post
+put_decimal_put_byte_requires_2 : (t : ℕ) → put-decimal-lts.Need-put_byte-requires-2 (calls t) (put_decimal_at t) put-decimal.Post
 put_decimal_put_byte_requires_2 t c κs =
     let at_quotient = c.before.before.before in
     let start = at_quotient.before.before.before.before in
-    room_left at_quotient.put-decimal.ensures (rw (← more_digits _ at_quotient.before.before.if1.false start.ranges.n.fits) at start.requires.1)
+    room_left at_quotient.put_decimal-next.ensures (rw (← more_digits _ at_quotient.before.before.if-n-lt10.false start.ranges.n.fits) at start.requires.1)
 
-put_decimal_same_length_2 : (t : ℕ) → put-decimal-lts.Need-same-length-2 (calls t) (put_decimal_at t) put-decimal.Post
+put_decimal_same_length_2 : (t : ℕ) → put-decimal-lts.Need-shape_of-out (calls t) (put_decimal_at t) put-decimal.Post
 put_decimal_same_length_2 t c = search rules
 
-put_decimal_returns_2 : (t : ℕ) → put-decimal-lts.Need-returns-2 (calls t) (put_decimal_at t) put-decimal.Post
+put_decimal_returns_2 : (t : ℕ) → put-decimal-lts.Need-returns (calls t) (put_decimal_at t) put-decimal.Post
 put_decimal_returns_2 t c =
     let at_digit = c.before.before in
     let at_quotient = at_digit.before.before.before.before in
     let start = at_quotient.before.before.before.before in
-    in_words (andthen at_quotient.put-decimal.ensures at_digit.put-byte2.ensures) (more_digits _ at_quotient.before.before.if1.false start.ranges.n.fits)
+    in_words (andthen at_quotient.put_decimal-next.ensures at_digit.put_byte-2.ensures) (more_digits _ at_quotient.before.before.if-n-lt10.false start.ranges.n.fits)
 
 pub +put-decimal-spec : {M : Type 1} → statement M
 +put-decimal-spec = close μ-put-decimal λ t. put-decimal-lts.spec (calls t)

@@ -6,7 +6,7 @@ use Rattle.lines.proofs.end_line.Tie as tie
 
 returns : tie.Need-returns
 unfolding end_line
-returns c = c.before.before.counted-line.ensures
+returns c = c.before.before.counted_line.ensures
 
 pub end_line_spec : {M : Type 1} → statement M
 end_line_spec =

@@ -16,11 +16,11 @@ beyond at len end h = by_test (leb len (end - at)) refl
     by_test true e = sym (le-leb (at + len) end (omega (arith, leb-true len (end - at) e)))
     by_test false e = sym (lt-leb (at + len) end (omega (arith, leb-false len (end - at) e)))
 
-returns : tie.Need-returns
+returns : tie.Need-returns-then-end-at
 returns c = let a = c.before.args in sym (lt-leb (a.at + a.len) a.end (omega arith))
 
-returns_2 : tie.Need-returns-2
-returns_2 c = let a = c.before.args in beyond a.at a.len a.end c.if1.false
+returns_2 : tie.Need-returns-else-end-at
+returns_2 c = let a = c.before.args in beyond a.at a.len a.end c.if-end-at.false
 
 pub fits_spec : {M : Type 1} → statement M
 fits_spec = tie.close (tie.spec returns returns_2)

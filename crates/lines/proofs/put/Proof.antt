@@ -8,34 +8,34 @@ use Rattle.lines.proofs.Puts.{same, begin, room, turn, done}
 use Rattle.lines.proofs.put.Statement.{statement}
 use Rattle.lines.proofs.put.Tie as tie
 
-abbrev invariant_loop : tie.invariant-loop
+abbrev invariant_loop : tie.invariant-loop-i
 invariant_loop out₀ at bytes next₀ i₀ out next i = (i ≤ length bytes) × Wrote out₀ at (take i bytes) out next
 
-abbrev decreases_loop : tie.decreases-loop
+abbrev decreases_loop : tie.decreases-loop-i
 decreases_loop out₀ at bytes next₀ i₀ out next i = length bytes - i
 
-loop_holds : tie.Need-loop-init invariant_loop decreases_loop
+loop_holds : tie.Need-loop-i-init invariant_loop decreases_loop
 loop_holds c = let a = c.before.before.args in (omega arith, begin (λ l. l) refl (λ a b. refl) a.bytes.now a.out.now a.at)
 
-put_byte_requires : tie.Need-put-byte-requires invariant_loop decreases_loop
+put_byte_requires : tie.Need-put_byte-next-requires invariant_loop decreases_loop
 put_byte_requires c κs =
     let at_loop = c.before.before.before in
     let at_start = at_loop.before.before.before in
-    room (λ l. l) refl (λ a b. refl) at_start.args.bytes.now at_loop.loop.invariant.1 c.before.before.loop-test.true at_start.requires
+    room (λ l. l) refl (λ a b. refl) at_start.args.bytes.now at_loop.loop-i.invariant.1 c.before.before.loop-i-test.true at_start.requires
 
-loop_again : tie.Need-loop-preserved invariant_loop decreases_loop
+loop_again : tie.Need-loop-i-preserved invariant_loop decreases_loop
 loop_again c =
     let at_put_byte = c.before.before in
     let at_loop_test = at_put_byte.before.before.before in (
       omega arith,
-      turn (λ l. l) refl (λ a b. refl) at_loop_test.before.before.before.before.args.bytes.now at_loop_test.before.loop.invariant.1 at_loop_test.loop-test.true at_put_byte.put_byte.ensures,
+      turn (λ l. l) refl (λ a b. refl) at_loop_test.before.before.before.before.args.bytes.now at_loop_test.before.loop-i.invariant.1 at_loop_test.loop-i-test.true at_put_byte.put_byte-next.ensures,
     )
 
-same_length : tie.Need-same-length invariant_loop decreases_loop
-same_length c = same c.before.loop.invariant.1
+same_length : tie.Need-shape_of-out invariant_loop decreases_loop
+same_length c = same c.before.loop-i.invariant.1
 
 returns : tie.Need-returns invariant_loop decreases_loop
-returns c = done (λ l. l) refl (λ a b. refl) c.before.before.before.before.args.bytes.now c.loop-test.false c.before.loop.invariant.1
+returns c = done (λ l. l) refl (λ a b. refl) c.before.before.before.before.args.bytes.now c.loop-i-test.false c.before.loop-i.invariant.1
 
 pub put_spec : {M : Type 1} → statement M
 put_spec =

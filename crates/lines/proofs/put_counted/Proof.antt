@@ -4,19 +4,19 @@ use Rattle.lines.proofs.Puts.{andthen, room_left, front}
 use Rattle.lines.proofs.put_counted.Statement.{statement}
 use Rattle.lines.proofs.put_counted.Tie as tie
 
-put_numbered_requires : tie.Need-put-numbered-requires
+put_numbered_requires : tie.Need-put_numbered-next-requires
 put_numbered_requires c κs = front _ _ c.before.before.before.requires
 
 put_requires : tie.Need-put-requires
 put_requires c κs =
     let at_put_numbered = c.before.before.before.before in
-    room_left at_put_numbered.put-numbered.ensures at_put_numbered.before.before.before.before.requires
+    room_left at_put_numbered.put_numbered-next.ensures at_put_numbered.before.before.before.before.requires
 
 returns : tie.Need-returns
 returns c =
     let at_put = c.before.before in
     let behind_put_numbered = at_put.before.before.before.before in
-    andthen behind_put_numbered.before.put-numbered.ensures at_put.put.ensures
+    andthen behind_put_numbered.before.put_numbered-next.ensures at_put.put.ensures
 
 pub put_counted_spec : {M : Type 1} → statement M
 put_counted_spec =

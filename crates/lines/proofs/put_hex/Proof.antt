@@ -5,17 +5,17 @@ use Rattle.lines.proofs.Puts.{in_words}
 use Rattle.lines.proofs.put_hex.Statement.{statement}
 use Rattle.lines.proofs.put_hex.Tie as tie
 
-put_byte_requires : tie.Need-put-byte-requires
-put_byte_requires c κs = rw (← hex_none _ c.before.if1.true) at c.before.before.before.before.requires
+put_byte_requires : tie.Need-put_byte-requires
+put_byte_requires c κs = rw (← hex_none _ c.before.if-bytes-eq0.true) at c.before.before.before.before.requires
 
-put_pairs_requires : tie.Need-put-pairs-requires
-put_pairs_requires c κs = rw (← hex_some _ c.before.if1.false) at c.before.before.before.before.requires
+put_pairs_requires : tie.Need-put_pairs-requires
+put_pairs_requires c κs = rw (← hex_some _ c.before.if-bytes-eq0.false) at c.before.before.before.before.requires
 
-returns : tie.Need-returns
-returns c = in_words c.before.before.put_byte.ensures (hex_none _ c.before.before.before.before.if1.true)
+returns : tie.Need-returns-then-bytes-eq0
+returns c = in_words c.before.before.put_byte.ensures (hex_none _ c.before.before.before.before.if-bytes-eq0.true)
 
-returns_2 : tie.Need-returns-2
-returns_2 c = in_words c.before.before.put-pairs.ensures (hex_some _ c.before.before.before.before.if1.false)
+returns_2 : tie.Need-returns-else-bytes-eq0
+returns_2 c = in_words c.before.before.put_pairs.ensures (hex_some _ c.before.before.before.before.if-bytes-eq0.false)
 
 pub put_hex_spec : {M : Type 1} → statement M
 put_hex_spec =

@@ -6,7 +6,7 @@ use Rattle.lines.proofs.refused_line.Tie as tie
 
 returns : tie.Need-returns
 unfolding refused_line
-returns c = c.before.before.counted-line.ensures
+returns c = c.before.before.counted_line.ensures
 
 pub refused_line_spec : {M : Type 1} → statement M
 refused_line_spec =

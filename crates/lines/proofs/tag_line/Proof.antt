@@ -13,32 +13,32 @@ use Rattle.lines.proofs.tag_line.Tie as tie
 abbrev line : tie.Start → List ℕ
 line s = tag_line s.args.edition s.args.size s.args.flags s.args.ext
 
-put_tag_requires : tie.Need-put-tag-requires
+put_tag_requires : tie.Need-put_tag-len-requires
 put_tag_requires c κs =
     let a = c.before.before.args in
     omega (arith, tag_length a.edition a.size a.flags a.ext)
 
-put_tag_requires_2 : tie.Need-put-tag-requires-2
+put_tag_requires_2 : tie.Need-put_tag-requires
 put_tag_requires_2 c κs =
     let f = c.before.before in
     let k1 = f.before.before.before in
     let s = k1.before.before.before in
-    has (line s) s.args.at s.args.out.now k1.put-tag.ensures f.fits2.ensures c.before.if1.true s.well-formed.0.0
+    has (line s) s.args.at s.args.out.now k1.put_tag-len.ensures f.fits2.ensures c.before.if-fits.true s.well-formed.0.0
 
-returns : tie.Need-returns
+returns : tie.Need-returns-then-fits
 returns c =
     let k2 = c.before.before in
     let f = k2.before.before.before in
     let k1 = f.before.before.before in
     let s = k1.before.before.before in
-    whole (line s) s.args.at s.args.out.now k1.put-tag.ensures f.fits2.ensures c.before.before.before.before.if1.true k2.put-tag2.ensures
+    whole (line s) s.args.at s.args.out.now k1.put_tag-len.ensures f.fits2.ensures c.before.before.before.before.if-fits.true k2.put_tag.ensures
 
-returns_2 : tie.Need-returns-2
+returns_2 : tie.Need-returns-else-fits
 returns_2 c =
     let f = c.before in
     let k1 = f.before.before.before in
     let s = k1.before.before.before in
-    full (line s) s.args.at s.args.out.now k1.put-tag.ensures f.fits2.ensures c.if1.false
+    full (line s) s.args.at s.args.out.now k1.put_tag-len.ensures f.fits2.ensures c.if-fits.false
 
 pub tag_line_spec : {M : Type 1} → statement M
 tag_line_spec =

@@ -7,19 +7,19 @@ use Rattle.laws.proofs.Bools.{false_not_true}
 use Rattle.loads.proofs.is_near.Statement.{statement}
 use Rattle.loads.proofs.is_near.Tie as tie
 
-returns : tie.Need-returns
+returns : tie.Need-returns-then-from-to
 returns c e =
     let a = c.before.before.before.args in
     let few = leb-true (a.to - a.from) 8 e in
     record { within = omega arith; eight = omega arith; some = omega arith; few = omega arith }
 
-returns_2 : tie.Need-returns-2
+returns_2 : tie.Need-returns-else-from-to
 returns_2 c e = absurd (false_not_true e)
 
-returns_3 : tie.Need-returns-3
+returns_3 : tie.Need-returns-else-to-ge8
 returns_3 c e = absurd (false_not_true e)
 
-returns_4 : tie.Need-returns-4
+returns_4 : tie.Need-returns-else-to-len
 returns_4 c e = absurd (false_not_true e)
 
 pub is_near_spec : {M : Type 1} → statement M

@@ -6,19 +6,19 @@ use Rattle.loads.proofs.Onto.{all_read}
 use Rattle.loads.proofs.read64.Statement.{statement}
 use Rattle.loads.proofs.read64.Tie as tie
 
-sub_read_last : tie.Need-overflow-sub-read-last
-sub_read_last c = let near = c.before.is-near.ensures c.if1.true in omega arith
+sub_read_last : tie.Need-overflow_sub-to
+sub_read_last c = let near = c.before.is_near.ensures c.if-is_near.true in omega arith
 
-read_last_requires : tie.Need-read-last-requires
+read_last_requires : tie.Need-read_last-requires
 read_last_requires c κs =
-    let near = c.before.is-near.ensures c.if1.true in
+    let near = c.before.is_near.ensures c.if-is_near.true in
     (omega arith, omega arith, omega arith, omega arith)
 
-returns : tie.Need-returns
+returns : tie.Need-returns-then-is_near
 returns c =
     let a = c.before.before.before.before.args in
-    let near = c.before.before.is-near.ensures c.before.if1.true in
-    c.read-last.ensures ∙ all_read 8 a.from a.to a.s.now (omega arith) near.within near.few
+    let near = c.before.before.is_near.ensures c.before.if-is_near.true in
+    c.read_last.ensures ∙ all_read 8 a.from a.to a.s.now (omega arith) near.within near.few
 
 pub read64_spec : {M : Type 1} → statement M
 read64_spec =

@@ -7,32 +7,32 @@ use borrow.Author.Rules.{rules}
 use Rattle.moves.proofs.move_down.Statement.{statement}
 use Rattle.moves.proofs.move_down.Tie as tie
 
-abbrev invariant_loop : tie.invariant-loop
+abbrev invariant_loop : tie.invariant-loop-k
 invariant_loop s₀ from at n k₀ s k = (k ≤ n) × Down s₀ from at n s k
 
-abbrev decreases_loop : tie.decreases-loop
+abbrev decreases_loop : tie.decreases-loop-k
 decreases_loop s₀ from at n k₀ s k = n - k
 
-loop_holds : tie.Need-loop-init invariant_loop decreases_loop
+loop_holds : tie.Need-loop-k-init invariant_loop decreases_loop
 loop_holds c = let a = c.before.args in (omega arith, down_begin a.from a.at a.n c.before.requires.0 c.before.requires.1)
 
-move_block_requires : tie.Need-move-block-requires invariant_loop decreases_loop
-move_block_requires c κs = omega (arith, c.before.before.loop.invariant.1.storing.long)
+move_block_requires : tie.Need-move_block-requires invariant_loop decreases_loop
+move_block_requires c κs = omega (arith, c.before.before.loop-k.invariant.1.storing.long)
 
-loop_again : tie.Need-loop-preserved invariant_loop decreases_loop
+loop_again : tie.Need-loop-k-preserved invariant_loop decreases_loop
 loop_again c =
     let at_block = c.before.before in
     let at_loop = at_block.before.before.before in
     let start = at_loop.before.before in
     let a = start.args in
-    let L = at_loop.loop in
-    (omega arith, down_turn a.from a.at a.n start.requires.0 start.requires.1 L.k L.invariant.1 64 (omega arith) at_block.move-block.ensures)
+    let L = at_loop.loop-k in
+    (omega arith, down_turn a.from a.at a.n start.requires.0 start.requires.1 L.k L.invariant.1 64 (omega arith) at_block.move_block.ensures)
 
-move_block_requires_2 : tie.Need-move-block-requires-2 invariant_loop decreases_loop
-move_block_requires_2 c κs = omega (arith, c.before.before.loop.invariant.1.storing.long)
+move_block_requires_2 : tie.Need-move_block-requires-2 invariant_loop decreases_loop
+move_block_requires_2 c κs = omega (arith, c.before.before.loop-k.invariant.1.storing.long)
 
-same_length : tie.Need-same-length invariant_loop decreases_loop
-same_length c = let at_block = c.before.before in at_block.move-block2.auto.0 ∙ at_block.before.before.before.loop.invariant.1.storing.long
+same_length : tie.Need-shape_of-s invariant_loop decreases_loop
+same_length c = let at_block = c.before.before in at_block.move_block-2.auto.0 ∙ at_block.before.before.before.loop-k.invariant.1.storing.long
 
 returns : tie.Need-returns invariant_loop decreases_loop
 returns c =
@@ -40,8 +40,8 @@ returns c =
     let at_loop = at_block.before.before.before in
     let start = at_loop.before.before in
     let a = start.args in
-    let L = at_loop.loop in
-    down_done a.from a.at a.n start.requires.0 start.requires.1 L.k L.invariant.1 (omega arith) at_block.move-block2.ensures
+    let L = at_loop.loop-k in
+    down_done a.from a.at a.n start.requires.0 start.requires.1 L.k L.invariant.1 (omega arith) at_block.move_block-2.ensures
 
 pub move_down_spec : {M : Type 1} → statement M
 move_down_spec =

@@ -7,32 +7,32 @@ use borrow.Author.Rules.{rules}
 use Rattle.moves.proofs.move_up.Statement.{statement}
 use Rattle.moves.proofs.move_up.Tie as tie
 
-abbrev invariant_loop : tie.invariant-loop
+abbrev invariant_loop : tie.invariant-loop-left
 invariant_loop s₀ from at n left₀ s left = (left ≤ n) × Up s₀ from at n s left
 
-abbrev decreases_loop : tie.decreases-loop
+abbrev decreases_loop : tie.decreases-loop-left
 decreases_loop s₀ from at n left₀ s left = left
 
-loop_holds : tie.Need-loop-init invariant_loop decreases_loop
+loop_holds : tie.Need-loop-left-init invariant_loop decreases_loop
 loop_holds c = let a = c.before.args in (omega arith, up_begin a.s.now a.from a.at a.n)
 
-move_block_requires : tie.Need-move-block-requires invariant_loop decreases_loop
-move_block_requires c κs = omega (arith, c.before.before.loop.invariant.1.long)
+move_block_requires : tie.Need-move_block-requires invariant_loop decreases_loop
+move_block_requires c κs = omega (arith, c.before.before.loop-left.invariant.1.long)
 
-loop_again : tie.Need-loop-preserved invariant_loop decreases_loop
+loop_again : tie.Need-loop-left-preserved invariant_loop decreases_loop
 loop_again c =
     let at_block = c.before.before in
     let at_loop = at_block.before.before.before in
     let start = at_loop.before.before in
     let a = start.args in
-    let L = at_loop.loop in
-    (omega arith, up_turn a.from a.at a.n start.requires.0 start.requires.1 L.left L.invariant.1 64 L.invariant.0 (omega arith) at_block.move-block.ensures)
+    let L = at_loop.loop-left in
+    (omega arith, up_turn a.from a.at a.n start.requires.0 start.requires.1 L.left L.invariant.1 64 L.invariant.0 (omega arith) at_block.move_block.ensures)
 
-move_block_requires_2 : tie.Need-move-block-requires-2 invariant_loop decreases_loop
-move_block_requires_2 c κs = omega (arith, c.before.before.loop.invariant.1.long)
+move_block_requires_2 : tie.Need-move_block-requires-2 invariant_loop decreases_loop
+move_block_requires_2 c κs = omega (arith, c.before.before.loop-left.invariant.1.long)
 
-same_length : tie.Need-same-length invariant_loop decreases_loop
-same_length c = let at_block = c.before.before in at_block.move-block2.auto.0 ∙ at_block.before.before.before.loop.invariant.1.long
+same_length : tie.Need-shape_of-s invariant_loop decreases_loop
+same_length c = let at_block = c.before.before in at_block.move_block-2.auto.0 ∙ at_block.before.before.before.loop-left.invariant.1.long
 
 returns : tie.Need-returns invariant_loop decreases_loop
 returns c =
@@ -40,8 +40,8 @@ returns c =
     let at_loop = at_block.before.before.before in
     let start = at_loop.before.before in
     let a = start.args in
-    let L = at_loop.loop in
-    up_done a.from a.at a.n start.requires.0 start.requires.1 L.left L.invariant.1 L.invariant.0 at_block.move-block2.ensures
+    let L = at_loop.loop-left in
+    up_done a.from a.at a.n start.requires.0 start.requires.1 L.left L.invariant.1 L.invariant.0 at_block.move_block-2.ensures
 
 pub move_up_spec : {M : Type 1} → statement M
 move_up_spec =

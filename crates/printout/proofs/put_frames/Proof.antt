@@ -8,52 +8,52 @@ use Rattle.printout.proofs.Puts.{Listing, begins, last, again, ends}
 use Rattle.printout.proofs.put_frames.Statement.{statement}
 use Rattle.printout.proofs.put_frames.Tie as tie
 
-abbrev invariant_loop : tie.invariant-loop
+abbrev invariant_loop : tie.invariant-loop-number
 invariant_loop work₀ out₀ tag at behind₀ moved₀ number₀ work out behind moved number = Listing tag work₀ out₀ behind₀ moved₀ work out behind moved number
 
-abbrev decreases_loop : tie.decreases-loop
+abbrev decreases_loop : tie.decreases-loop-number
 decreases_loop work₀ out₀ tag at behind₀ moved₀ number₀ work out behind moved number = length tag - number
 
-loop_holds : tie.Need-loop-init invariant_loop decreases_loop
+loop_holds : tie.Need-loop-number-init invariant_loop decreases_loop
 loop_holds c =
     let a = c.before.before.before.args in
     begins a.tag.now a.work.now a.out.now a.at a.reader
 
-same_length : tie.Need-same-length invariant_loop decreases_loop
+same_length : tie.Need-shape_of-work-in-Done invariant_loop decreases_loop
 same_length c =
     let at_out = c.before.before.before.before in
     let at_put_step = at_out.before.before.before in
-    at_put_step.put_step.auto.0 ∙ at_put_step.before.before.before.before.loop.invariant.works
+    at_put_step.put_step.auto.0 ∙ at_put_step.before.before.before.before.loop-number.invariant.works
 
-same_length_2 : tie.Need-same-length-2 invariant_loop decreases_loop
+same_length_2 : tie.Need-shape_of-out-in-Done invariant_loop decreases_loop
 same_length_2 c =
     let at_out = c.before.before.before.before in
     let at_put_step = at_out.before.before.before in
-    at_put_step.put_step.auto.1.0 ∙ at_put_step.before.before.before.before.loop.invariant.outs
+    at_put_step.put_step.auto.1.0 ∙ at_put_step.before.before.before.before.loop-number.invariant.outs
 
-returns : tie.Need-returns invariant_loop decreases_loop
+returns : tie.Need-returns-in-Done invariant_loop decreases_loop
 returns c =
     let at_out = c.before.before.before.before in
     let at_put_step = at_out.before.before.before in
     let at_loop_test = at_put_step.before.before.before in
-    last at_loop_test.before.loop.invariant at_loop_test.loop-test.true at_put_step.put_step.ensures c.before.placed.given.1
+    last at_loop_test.before.loop-number.invariant at_loop_test.loop-number-test.true at_put_step.put_step.ensures c.before.placed-1.given.1
 
-loop_again : tie.Need-loop-preserved invariant_loop decreases_loop
+loop_again : tie.Need-loop-number-preserved invariant_loop decreases_loop
 loop_again c =
     let at_out = c.before.before.before.before in
     let at_put_step = at_out.before.before.before in
     let at_loop_test = at_put_step.before.before.before in
     let p = at_put_step.put_step in
-    again at_loop_test.before.loop.invariant at_loop_test.loop-test.true p.ensures p.auto.0 p.auto.1.0 c.before.next.given.1
+    again at_loop_test.before.loop-number.invariant at_loop_test.loop-number-test.true p.ensures p.auto.0 p.auto.1.0 c.before.next-1.given.1
 
-same_length_3 : tie.Need-same-length-3 invariant_loop decreases_loop
-same_length_3 c = c.before.loop.invariant.works
+same_length_3 : tie.Need-shape_of-work invariant_loop decreases_loop
+same_length_3 c = c.before.loop-number.invariant.works
 
-same_length_4 : tie.Need-same-length-4 invariant_loop decreases_loop
-same_length_4 c = c.before.loop.invariant.outs
+same_length_4 : tie.Need-shape_of-out invariant_loop decreases_loop
+same_length_4 c = c.before.loop-number.invariant.outs
 
-returns_2 : tie.Need-returns-2 invariant_loop decreases_loop
-returns_2 c = ends c.before.loop.invariant c.loop-test.false
+returns_2 : tie.Need-returns invariant_loop decreases_loop
+returns_2 c = ends c.before.loop-number.invariant c.loop-number-test.false
 
 pub put_frames_spec : {M : Type 1} → statement M
 put_frames_spec =

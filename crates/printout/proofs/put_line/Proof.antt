@@ -11,7 +11,7 @@ returns c =
     let at_from = at_to.before in
     let at_known = at_from.before.before.before in
     let a = at_known.before.before.before.args in
-    user_within a.version a.number a.r a.at a.out.now {o = at_line.frame-line.new.0} a.s.now at_from.least.ensures at_to.least2.ensures at_line.frame-line.ensures
+    user_within a.version a.number a.r a.at a.out.now {o = at_line.frame_line.new.0} a.s.now at_from.least-from.ensures at_to.least.ensures at_line.frame_line.ensures
 
 pub put_line_spec : {M : Type 1} → statement M
 put_line_spec =

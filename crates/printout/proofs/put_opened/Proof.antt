@@ -4,7 +4,7 @@ use borrow.Author.Rules.{rules}
 use Rattle.printout.proofs.put_opened.Statement.{statement}
 use Rattle.printout.proofs.put_opened.Tie as tie
 
-returns : tie.Need-returns
+returns : tie.Need-returns-in-Ready
 returns c =
     let at_put_frames = c.before.before.before.before in
     let at_r = at_put_frames.before.before.before.before in
@@ -12,16 +12,16 @@ returns c =
     let at_known = at_open.before.before.before.before in
     let at_start = at_known.before in
     let a = at_start.args in
-    ready a.tag.now a.work.now a.at a.out.now at_open.«open».ensures at_start.requires at_r.r.given.1 at_put_frames.put-frames.ensures
+    ready a.tag.now a.work.now a.at a.out.now at_open.«open».ensures at_start.requires at_r.r-1.given.1 at_put_frames.put_frames.ensures
 
-returns_2 : tie.Need-returns-2
+returns_2 : tie.Need-returns-in-Refused
 returns_2 c =
     let at_refused_line = c.before.before in
     let at_k = at_refused_line.before.before.before in
     let at_open = at_k.before.before.before.before in
     let at_known = at_open.before.before.before.before in
     let a = at_known.before.args in
-    not_opened a.tag.now a.work.now a.at a.out.now at_open.«open».ensures at_k.k.given.1 at_refused_line.refused-line.ensures
+    not_opened a.tag.now a.work.now a.at a.out.now at_open.«open».ensures at_k.k-1.given.1 at_refused_line.refused_line.ensures
 
 pub put_opened_spec : {M : Type 1} → statement M
 put_opened_spec =

@@ -5,7 +5,7 @@ use borrow.Author.Rules.{rules}
 use Rattle.printout.proofs.put_tag.Statement.{statement}
 use Rattle.printout.proofs.put_tag.Tie as tie
 
-put_opened_requires : tie.Need-put-opened-requires
+put_opened_requires : tie.Need-put_opened-requires
 put_opened_requires c κs =
     let at_at = c.before.before.before in
     let at_tag_line = at_at.before.before.before.before in
@@ -14,7 +14,7 @@ put_opened_requires c κs =
     let a = at_start.args in
     there a.tag.now a.h at_start.requires
 
-returns : tie.Need-returns
+returns : tie.Need-returns-in-Upto
 returns c =
     let at_put_opened = c.before.before.before.before in
     let at_at = at_put_opened.before.before.before.before in
@@ -22,15 +22,15 @@ returns c =
     let at_known = at_tag_line.before.before.before.before in
     let at_start = at_known.before.before in
     let a = at_start.args in
-    tag_put a.tag.now a.work.now a.out.now (sym at_start.requires) refl at_tag_line.before.version-number.ensures at_tag_line.tag-line.ensures at_at.at.given.1 at_put_opened.put-opened.ensures
+    tag_put a.tag.now a.work.now a.out.now (sym at_start.requires) refl at_tag_line.before.version_number.ensures at_tag_line.tag_line.ensures at_at.at-1.given.1 at_put_opened.put_opened.ensures
 
-returns_2 : tie.Need-returns-2
+returns_2 : tie.Need-returns-in-Full
 returns_2 c =
     let at_tag_line = c.before.before.before.before in
     let at_known = at_tag_line.before.before.before.before in
     let at_start = at_known.before.before in
     let a = at_start.args in
-    tag_full a.tag.now a.work.now a.out.now (sym at_start.requires) refl at_tag_line.before.version-number.ensures at_tag_line.tag-line.ensures c.enum_told.given.1
+    tag_full a.tag.now a.work.now a.out.now (sym at_start.requires) refl at_tag_line.before.version_number.ensures at_tag_line.tag_line.ensures c.enum_told-1.given.1
 
 pub put_tag_spec : {M : Type 1} → statement M
 put_tag_spec =

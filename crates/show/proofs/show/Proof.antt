@@ -8,27 +8,27 @@ use borrow.Author.Rules.{rules}
 use Rattle.show.proofs.show.Statement.{statement}
 use Rattle.show.proofs.show.Tie as tie
 
-abbrev at_listed : tie.After-n → tie.After-list
+abbrev at_listed : tie.In-Upto-2 → tie.After-list
 at_listed c = let at_lent = c.before.before.before in at_lent.before.before.before
 
-slice_reshare_prefix_write_all : tie.Need-slice-reshare-prefix-write-all
+slice_reshare_prefix_write_all : tie.Need-slice_bounds-write_all-end
 slice_reshare_prefix_write_all c =
     let at_upto = c.before in
-    lines_within _ _ _ (at_listed at_upto).list.ensures at_upto.n.given.1
+    lines_within _ _ _ (at_listed at_upto).list.ensures at_upto.n-1.given.1
 
-slice_aggregate_write_all : tie.Need-slice-aggregate-write-all
+slice_aggregate_write_all : tie.Need-slice_bounds-write_all-end-in-Upto
 slice_aggregate_write_all c =
     let at_upto = c.before.before in
     let at_list = at_listed at_upto in
-    let h = lines_within _ _ _ at_list.list.ensures at_upto.n.given.1 in
-    omega (arith, length-take at_upto.n.given.0.0 at_list.list.last.1.0)
+    let h = lines_within _ _ _ at_list.list.ensures at_upto.n-1.given.1 in
+    omega (arith, length-take at_upto.n-1.given.0.0 at_list.list.last.1.0)
 
-returns : tie.Need-returns
+returns : tie.Need-returns-in-Upto
 returns c =
     let at_upto = c.before.before.before in
     ap (λ (o : Outcome). o.1) (at_listed at_upto).list.ensures
 
-returns_2 : tie.Need-returns-2
+returns_2 : tie.Need-returns-in-Full
 returns_2 c =
     let at_lent = c.before.before.before in
     let at_list = at_lent.before.before.before.before in

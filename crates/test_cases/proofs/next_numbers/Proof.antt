@@ -9,25 +9,25 @@ use borrow.Author.Tests.{ltb-true}
 use Rattle.test_cases.proofs.next_numbers.Statement.{statement}
 use Rattle.test_cases.proofs.next_numbers.Tie as tie
 
-abbrev invariant_loop : tie.invariant-loop
+abbrev invariant_loop : tie.invariant-loop-i
 invariant_loop space₀ n i₀ space i = (i ≤ length space) × (length space ≡ length space₀)
 
-abbrev decreases_loop : tie.decreases-loop
+abbrev decreases_loop : tie.decreases-loop-i
 decreases_loop space₀ n i₀ space i = length space₀ - i
 
-loop_less : tie.Need-loop-smaller invariant_loop decreases_loop
+loop_less : tie.Need-loop-i-smaller invariant_loop decreases_loop
 loop_less c = omega (arith, ltb-true)
 
-loop_again : tie.Need-loop-preserved invariant_loop decreases_loop
+loop_again : tie.Need-loop-i-preserved invariant_loop decreases_loop
 loop_again c =
     let at_loop = c.before.before.before in
-    let L = at_loop.loop in
-    omega (arith, ltb-true, length-set L.space L.i c.next-u32.result)
+    let L = at_loop.loop-i in
+    omega (arith, ltb-true, length-set L.space L.i c.next_u32.result)
 
-returns : tie.Need-returns invariant_loop decreases_loop
+returns : tie.Need-returns-else-i-space invariant_loop decreases_loop
 returns c = (search rules, sym (length-take-le _ _ (search rules)))
 
-returns_2 : tie.Need-returns-2 invariant_loop decreases_loop
+returns_2 : tie.Need-returns-after-loop-i invariant_loop decreases_loop
 returns_2 c = (search rules, sym (length-take-le _ _ (search rules)))
 
 pub next_numbers_spec : {M : Type 1} → statement M

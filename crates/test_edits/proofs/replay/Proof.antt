@@ -6,10 +6,10 @@ use borrow.Author.Rules.{rules}
 use Rattle.test_edits.proofs.replay.Statement.{statement}
 use Rattle.test_edits.proofs.replay.Tie as tie
 
-abbrev invariant_loop : tie.invariant-loop
+abbrev invariant_loop : tie.invariant-loop-i
 invariant_loop tag₀ edits i₀ t4 t5 t6 tag i = (i ≤ edits) × (length tag ≡ length tag₀)
 
-abbrev decreases_loop : tie.decreases-loop
+abbrev decreases_loop : tie.decreases-loop-i
 decreases_loop tag₀ edits i₀ t4 t5 t6 tag i = edits - i
 
 pub replay_spec : {M : Type 1} → statement M

@@ -3,10 +3,10 @@ use Rattle.std.proofs.Common.{◌-◌, ◌≤◌, length, arith}
 use Rattle.test_prints.proofs.pairs.Statement.{statement}
 use Rattle.test_prints.proofs.pairs.Tie as tie
 
-abbrev invariant_loop : tie.invariant-loop
+abbrev invariant_loop : tie.invariant-loop-i
 invariant_loop s i₀ i = i ≤ length s
 
-abbrev decreases_loop : tie.decreases-loop
+abbrev decreases_loop : tie.decreases-loop-i
 decreases_loop s i₀ i = length s - i
 
 pub pairs_spec : {M : Type 1} → statement M

@@ -3,10 +3,10 @@ use Rattle.std.proofs.Common.{◌-◌, ◌≤◌, length, arith}
 use Rattle.test_prints.proofs.sums.Statement.{statement}
 use Rattle.test_prints.proofs.sums.Tie as tie
 
-abbrev invariant_loop : tie.invariant-loop
+abbrev invariant_loop : tie.invariant-loop-i
 invariant_loop s a₀ b₀ i₀ a b i = i ≤ length s
 
-abbrev decreases_loop : tie.decreases-loop
+abbrev decreases_loop : tie.decreases-loop-i
 decreases_loop s a₀ b₀ i₀ a b i = length s - i
 
 pub sums_spec : {M : Type 1} → statement M

@@ -12,7 +12,7 @@ returns : tie.Need-returns
 returns c =
     let a = c.before.before.args in
     c.hit.ensures
-    ∙ ap (λ (how : How). a.prev && concerns how a.b) c.before.unsync-by.ensures
+    ∙ ap (λ (how : How). a.prev && concerns how a.b) c.before.unsync_by.ensures
     ∙ ap (λ (g : Bool). a.prev && g) (guarded a.mode a.b)
 
 pub is_guarded_spec : {M : Type 1} → statement M

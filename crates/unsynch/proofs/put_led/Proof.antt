@@ -15,37 +15,37 @@ use Rattle.unsynch.proofs.put_led.Tie as tie
 abbrev whole : tie.Start → List ℕ
 whole s = let a = s.args in edited a.how false (slice a.from a.to a.s.now)
 
-returns : tie.Need-returns
+returns : tie.Need-returns-then-out-at
 returns c =
     let at_start = c.before.before.before in
     let a = at_start.args in
-    led_place 20 (whole at_start) a.at a.out.now c.if1.true
+    led_place 20 (whole at_start) a.at a.out.now c.if-out-at.true
 
 -- it was put after the 00's place
-abbrev start : tie.After-put-part → tie.Start
+abbrev start : tie.After-put_part → tie.Start
 start c = let at_if = c.before.before in at_if.before.before.before
 
-returns_2 : tie.Need-returns-2
+returns_2 : tie.Need-returns-in-Refused
 returns_2 c =
     let at_match = c.before.before in
     let at_put = at_match.before.before.before in
     let a = (start at_put).args in
-    led_refused 20 (whole (start at_put)) a.at a.out.now _ at_put.put-part.new.0 (rw c.before.k.given.1 at at_put.put-part.ensures)
+    led_refused 20 (whole (start at_put)) a.at a.out.now _ at_put.put_part.new.0 (rw c.before.k-1.given.1 at at_put.put_part.ensures)
 
-add_t16 : tie.Need-overflow-add-t16
+add_t16 : tie.Need-overflow_add-result
 add_t16 c =
     let at_match = c.before.before in
     let at_put = at_match.before.before.before in
     let a = (start at_put).args in
-    let led = led_put 20 (whole (start at_put)) a.at a.out.now _ at_put.put-part.new.0 (rw c.before.n.given.1 at at_put.put-part.ensures) in
+    let led = led_put 20 (whole (start at_put)) a.at a.out.now _ at_put.put_part.new.0 (rw c.before.n-1.given.1 at at_put.put_part.ensures) in
     omega (arith, led.0, led.1)
 
-returns_3 : tie.Need-returns-3
+returns_3 : tie.Need-returns-in-Bytes
 returns_3 c =
     let at_match = c.before.before in
     let at_put = at_match.before.before.before in
     let a = (start at_put).args in
-    (led_put 20 (whole (start at_put)) a.at a.out.now _ at_put.put-part.new.0 (rw c.before.n.given.1 at at_put.put-part.ensures)).2
+    (led_put 20 (whole (start at_put)) a.at a.out.now _ at_put.put_part.new.0 (rw c.before.n-1.given.1 at at_put.put_part.ensures)).2
 
 pub put_led_spec : {M : Type 1} → statement M
 put_led_spec =

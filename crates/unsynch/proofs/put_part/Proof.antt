@@ -19,27 +19,27 @@ use Rattle.unsynch.proofs.put_part.Tie as tie
 abbrev whole : tie.Start → List ℕ
 whole s = let a = s.args in edited a.how false (slice a.from a.to a.s.now)
 
-returns : tie.Need-returns
+returns : tie.Need-returns-then-buf-at
 returns c =
     let at_start = c.before.before.before in
     let a = at_start.args in
-    refused_place a.k (whole at_start) a.at a.buf.now c.if1.true
+    refused_place a.k (whole at_start) a.at a.buf.now c.if-buf-at.true
 
 -- where there are bytes: the arguments, and that what is there of them makes the whole
-abbrev start : tie.After-least → tie.Start
+abbrev start : tie.After-least-end → tie.Start
 start c = c.before.before.before.before
 
-returns_2 : tie.Need-returns-2
+returns_2 : tie.Need-returns-then-end-from
 unfolding edited
 returns_2 c =
     let at_end = c.before in
     let at_start = start at_end in
     let a = at_start.args in
     put_none a.k (whole at_start) a.at a.buf.now (omega arith)
-    (ap (edited a.how false) (slice_cut_none a.from a.to _ a.s.now at_end.least.ensures c.if2.true))
+    (ap (edited a.how false) (slice_cut_none a.from a.to _ a.s.now at_end.least-end.ensures c.if-end-from.true))
 
-cut : (c : tie.After-least) → let a = (start c).args in edited a.how false (slice a.from c.least.result a.s.now) ≡ whole (start c)
-cut c = let a = (start c).args in ap (edited a.how false) (slice_cut a.from a.to _ a.s.now c.least.ensures)
+cut : (c : tie.After-least-end) → let a = (start c).args in edited a.how false (slice a.from c.least-end.result a.s.now) ≡ whole (start c)
+cut c = let a = (start c).args in ap (edited a.how false) (slice_cut a.from a.to _ a.s.now c.least-end.ensures)
 
 edit_requires : tie.Need-edit-requires
 edit_requires c κs =
@@ -47,10 +47,10 @@ edit_requires c κs =
     let at_end = at_fits.before.before in
     let at_start = start at_end in
     let a = at_start.args in
-    (omega arith, (put_fits a.k (whole at_start) a.at a.buf.now (omega arith) _ (cut at_end) at_fits.fits2.result at_fits.fits2.ensures c.before.if3.true, at_start.pre))
+    (omega arith, (put_fits a.k (whole at_start) a.at a.buf.now (omega arith) _ (cut at_end) at_fits.fits2.result at_fits.fits2.ensures c.before.if-fits.true, at_start.pre))
 
 -- all is stored
-stored_all : (c : tie.After-slice-known2) →
+stored_all : (c : tie.After-slice_known-then-fits-1) →
     let at_edit = c.before.before in
     let at_fits = at_edit.before.before.before in
     let at_end = at_fits.before.before in
@@ -63,21 +63,21 @@ stored_all c =
     let at_end = at_fits.before.before in
     let a = (start at_end).args in
     put_all a.k (whole (start at_end)) a.at a.buf.now (omega arith) _ (cut at_end) at_fits.fits2.result at_fits.fits2.ensures
-    at_edit.before.before.if3.true at_edit.edit.result at_edit.edit.new.0 at_edit.edit.ensures
+    at_edit.before.before.if-fits.true at_edit.edit.result at_edit.edit.new.0 at_edit.edit.ensures
 
-sub_t16 : tie.Need-overflow-sub-t16
+sub_t16 : tie.Need-overflow_sub-result
 sub_t16 c = (stored_all c).0
 
-returns_3 : tie.Need-returns-3
+returns_3 : tie.Need-returns-then-fits
 returns_3 c = (stored_all c).1
 
-returns_4 : tie.Need-returns-4
+returns_4 : tie.Need-returns
 returns_4 c =
     let at_fits = c.before in
     let at_end = at_fits.before.before in
     let at_start = start at_end in
     let a = at_start.args in
-    put_refused a.k (whole at_start) a.at a.buf.now (omega arith) _ (cut at_end) at_fits.fits2.result at_fits.fits2.ensures c.if3.false
+    put_refused a.k (whole at_start) a.at a.buf.now (omega arith) _ (cut at_end) at_fits.fits2.result at_fits.fits2.ensures c.if-fits.false
 
 pub put_part_spec : {M : Type 1} → statement M
 put_part_spec =

@@ -22,82 +22,82 @@ use Rattle.unsynch.proofs.resync_in.Tie as tie
 abbrev whole : tie.Start → List ℕ
 whole s = let a = s.args in resynchronised (slice a.from a.to (take a.split a.area.now))
 
-returns : tie.Need-returns
+returns : tie.Need-returns-then-end-from
 unfolding resync
 returns c =
     let at_end = c.before in
-    let mid = at_end.before.least in
+    let mid = at_end.before.least-mid in
     let at_start = at_end.before.before.before in
     let a = at_start.args in
-    let none = slice_before_none a.from a.to a.split at_end.least2.result a.area.now (at_end.least2.ensures ∙ ap (min a.to) mid.ensures) c.if1.true in
+    let none = slice_before_none a.from a.to a.split at_end.least-end.result a.area.now (at_end.least-end.ensures ∙ ap (min a.to) mid.ensures) c.if-end-from.true in
     put_none 14 (whole at_start) mid.result a.area.now (omega arith) (ap resynchronised none)
     ∙ in_room (whole at_start) a.split mid.result a.area.now mid.ensures
 
 -- where there are bytes: the arguments, and the room that begins at split
-abbrev start : tie.Else1 → tie.Start
+abbrev start : tie.Else-end-from → tie.Start
 start c =
     c.before.before.before.before
 
-in_split : (c : tie.Else1) → let a = (start c).args in put_of 14 (whole (start c)) c.before.before.least.result a.area.now ≡ in_area_of a.from a.to a.split a.area.now
-in_split c = let a = (start c).args in in_room (whole (start c)) a.split c.before.before.least.result a.area.now c.before.before.least.ensures
+in_split : (c : tie.Else-end-from) → let a = (start c).args in put_of 14 (whole (start c)) c.before.before.least-mid.result a.area.now ≡ in_area_of a.from a.to a.split a.area.now
+in_split c = let a = (start c).args in in_room (whole (start c)) a.split c.before.before.least-mid.result a.area.now c.before.before.least-mid.ensures
 
 -- what is there of the bytes makes the whole
-cut : (c : tie.After-resync-by) →
+cut : (c : tie.After-resync_by-how) →
     let a = (start c.before).args in
-    edited c.resync-by.result false (slice a.from c.before.before.least2.result a.area.now) ≡ whole (start c.before)
+    edited c.resync_by-how.result false (slice a.from c.before.before.least-end.result a.area.now) ≡ whole (start c.before)
 cut c =
     let at_end = c.before.before in
     let a = (start c.before).args in
-    let part = slice a.from at_end.least2.result a.area.now in
-    ap (λ (how : How). edited how false part) c.resync-by.ensures
+    let part = slice a.from at_end.least-end.result a.area.now in
+    ap (λ (how : How). edited how false part) c.resync_by-how.ensures
     ∙ resyncs false part
-    ∙ ap resynchronised (slice_before a.from a.to a.split at_end.least2.result a.area.now (at_end.least2.ensures ∙ ap (min a.to) at_end.before.least.ensures))
+    ∙ ap resynchronised (slice_before a.from a.to a.split at_end.least-end.result a.area.now (at_end.least-end.ensures ∙ ap (min a.to) at_end.before.least-mid.ensures))
 
 fits_requires : tie.Need-fits-requires
-fits_requires c κs = (omega arith, known_resync _ c.before.resync-by.ensures)
+fits_requires c κs = (omega arith, known_resync _ c.before.resync_by-how.ensures)
 
-edit_in_requires : tie.Need-edit-in-requires
+edit_in_requires : tie.Need-edit_in-requires
 edit_in_requires c κs =
     let at_fits = c.before.before in
     let at_how = at_fits.before.before in
     let at_start = start at_how.before in
-    let mid = at_how.before.before.before.least in
-    let room = put_fits 14 (whole at_start) mid.result at_start.args.area.now (omega arith) _ (cut at_how) at_fits.fits2.result at_fits.fits2.ensures c.before.if2.true in
-    (omega arith, (room, known_resync _ at_how.resync-by.ensures))
+    let mid = at_how.before.before.before.least-mid in
+    let room = put_fits 14 (whole at_start) mid.result at_start.args.area.now (omega arith) _ (cut at_how) at_fits.fits2.result at_fits.fits2.ensures c.before.if-fits.true in
+    (omega arith, (room, known_resync _ at_how.resync_by-how.ensures))
 
 -- all is stored
-stored_all : (c : tie.After-slice-known2) →
+stored_all : (c : tie.After-slice_known-then-fits-1) →
     let at_edit = c.before.before in
     let at_how = (let at_fits = at_edit.before.before.before in at_fits.before.before) in
     let at_start = start at_how.before in
-    let mid = at_how.before.before.before.least.result in
-    (mid ≤ at_edit.edit-in.result)
-    × ◌≡◌ {A = Out} (Put.Bytes (at_edit.edit-in.result - mid), at_edit.edit-in.new.0) (put_of 14 (whole at_start) mid at_start.args.area.now)
+    let mid = at_how.before.before.before.least-mid.result in
+    (mid ≤ at_edit.edit_in.result)
+    × ◌≡◌ {A = Out} (Put.Bytes (at_edit.edit_in.result - mid), at_edit.edit_in.new.0) (put_of 14 (whole at_start) mid at_start.args.area.now)
 stored_all c =
     let at_edit = c.before.before in
     let at_fits = at_edit.before.before.before in
     let at_how = at_fits.before.before in
     let at_start = start at_how.before in
-    let mid = at_how.before.before.before.least in
+    let mid = at_how.before.before.before.least-mid in
     put_all 14 (whole at_start) mid.result at_start.args.area.now (omega arith) _ (cut at_how) at_fits.fits2.result at_fits.fits2.ensures
-    at_edit.before.before.if2.true at_edit.edit-in.result at_edit.edit-in.new.0 at_edit.edit-in.ensures
+    at_edit.before.before.if-fits.true at_edit.edit_in.result at_edit.edit_in.new.0 at_edit.edit_in.ensures
 
-sub_t17 : tie.Need-overflow-sub-t17
+sub_t17 : tie.Need-overflow_sub-result
 sub_t17 c = (stored_all c).0
 
-returns_2 : tie.Need-returns-2
+returns_2 : tie.Need-returns-then-fits
 returns_2 c =
     let at_edit = c.before.before in
     let at_fits = at_edit.before.before.before in
     (stored_all c).1 ∙ in_split at_fits.before.before.before
 
-returns_3 : tie.Need-returns-3
+returns_3 : tie.Need-returns
 returns_3 c =
     let at_fits = c.before in
     let at_how = at_fits.before.before in
     let at_start = start at_how.before in
-    let mid = at_how.before.before.before.least in
-    put_refused 14 (whole at_start) mid.result at_start.args.area.now (omega arith) _ (cut at_how) at_fits.fits2.result at_fits.fits2.ensures c.if2.false
+    let mid = at_how.before.before.before.least-mid in
+    put_refused 14 (whole at_start) mid.result at_start.args.area.now (omega arith) _ (cut at_how) at_fits.fits2.result at_fits.fits2.ensures c.if-fits.false
     ∙ in_split at_how.before
 
 pub resync_in_spec : {M : Type 1} → statement M

@@ -14,49 +14,49 @@ use borrow.Author.Rules.{rules}
 use Rattle.unsynch.proofs.unsync_into.Statement.{statement}
 use Rattle.unsynch.proofs.unsync_into.Tie as tie
 
-is_led_requires : tie.Need-is-led-requires
-is_led_requires c κs = ap (λ (how : How). how.insert) c.unsync-by.ensures
+is_led_requires : tie.Need-is_led-requires
+is_led_requires c κs = ap (λ (how : How). how.insert) c.unsync_by-how.ensures
 
-put_led_requires : tie.Need-put-led-requires
+put_led_requires : tie.Need-put_led-requires
 put_led_requires c κs =
     let at_how = c.before.before.before in
-    known_unsync _ at_how.before.before.before.args.mode at_how.unsync-by.ensures
+    known_unsync _ at_how.before.before.before.args.mode at_how.unsync_by-how.ensures
 
 -- it was asked whether a 00 leads: the arguments, and what is put without it
-abbrev start : tie.After-is-led → tie.Start
+abbrev start : tie.After-is_led → tie.Start
 start c = let at_how = c.before in at_how.before.before.before
 
-abbrev plain : tie.After-is-led → List ℕ
-plain c = let a = (start c).args in edited c.before.unsync-by.result false (slice a.from a.to a.s.now)
+abbrev plain : tie.After-is_led → List ℕ
+plain c = let a = (start c).args in edited c.before.unsync_by-how.result false (slice a.from a.to a.s.now)
 
 -- with the 00 or without it, that is what unsynchronising makes
-made : (c : tie.After-is-led) (t : Bool) → c.is-led.result ≡ t
+made : (c : tie.After-is_led) (t : Bool) → c.is_led.result ≡ t
     → let a = (start c).args in pick t (0 ∷ plain c) (plain c) ≡ unsync (guards a.mode) a.prev (slice a.from a.to a.s.now)
 made c t led =
     let a = (start c).args in
     let part = slice a.from a.to a.s.now in
-    sym (c.is-led.ensures ∙ ap (λ (t : Bool). pick t (0 ∷ plain c) (plain c)) led)
-    ∙ ap (λ (how : How). edited how a.prev part) c.before.unsync-by.ensures
+    sym (c.is_led.ensures ∙ ap (λ (t : Bool). pick t (0 ∷ plain c) (plain c)) led)
+    ∙ ap (λ (how : How). edited how a.prev part) c.before.unsync_by-how.ensures
     ∙ unsyncs a.mode a.prev part
 
-returns : tie.Need-returns
+returns : tie.Need-returns-then-is_led
 returns c =
     let at_put = c.before.before in
     let at_test = at_put.before.before in
     let a = (start at_test.before).args in
-    at_put.put-led.ensures ∙ ap (λ (w : List ℕ). placed_of w a.at a.out.now) (made at_test.before _ at_test.if1.true)
+    at_put.put_led.ensures ∙ ap (λ (w : List ℕ). placed_of w a.at a.out-1.now) (made at_test.before _ at_test.if-is_led.true)
 
-put_part_requires : tie.Need-put-part-requires
+put_part_requires : tie.Need-put_part-requires
 put_part_requires c κs =
     let at_how = c.before.before.before in
-    known_unsync _ at_how.before.before.before.args.mode at_how.unsync-by.ensures
+    known_unsync _ at_how.before.before.before.args.mode at_how.unsync_by-how.ensures
 
-returns_2 : tie.Need-returns-2
+returns_2 : tie.Need-returns
 returns_2 c =
     let at_put = c.before.before in
     let at_test = at_put.before.before in
     let a = (start at_test.before).args in
-    at_put.put-part.ensures ∙ ap (λ (w : List ℕ). placed_of w a.at a.out.now) (made at_test.before _ at_test.if1.false)
+    at_put.put_part.ensures ∙ ap (λ (w : List ℕ). placed_of w a.at a.out-1.now) (made at_test.before _ at_test.if-is_led.false)
 
 pub unsync_into_spec : {M : Type 1} → statement M
 unsync_into_spec =

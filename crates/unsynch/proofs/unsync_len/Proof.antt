@@ -16,54 +16,54 @@ use native.Mathlib.Omega.{arith}
 use Rattle.unsynch.proofs.unsync_len.Statement.{statement}
 use Rattle.unsynch.proofs.unsync_len.Tie as tie
 
-returns : tie.Need-returns
+returns : tie.Need-returns-then-end-from
 unfolding unsync
 returns c =
     let at_end = c.before in
     let a = at_end.before.before.before.args in
-    let none = slice_cut_none a.from a.to _ a.s.now at_end.least.ensures c.if1.true in
+    let none = slice_cut_none a.from a.to _ a.s.now at_end.least-end.ensures c.if-end-from.true in
     sym (ap (λ (l : List ℕ). length (unsync (guards a.mode) a.prev l)) none)
 
 -- where there are bytes: those that are there, and how many they become
-abbrev part : tie.Else1 → List ℕ
-part c = let a = c.before.before.before.before.args in slice a.from c.before.least.result a.s.now
+abbrev part : tie.Else-end-from → List ℕ
+part c = let a = c.before.before.before.before.args in slice a.from c.before.least-end.result a.s.now
 
-same_length : (c : tie.Else1) →
+same_length : (c : tie.Else-end-from) →
     let a = c.before.before.before.before.args in
-    length (edited c.before.before.unsync-by.result a.prev (part c)) ≡ length (unsync (guards a.mode) a.prev (slice a.from a.to a.s.now))
+    length (edited c.before.before.unsync_by-how.result a.prev (part c)) ≡ length (unsync (guards a.mode) a.prev (slice a.from a.to a.s.now))
 same_length c =
     let a = c.before.before.before.before.args in
-    ap (λ (how : How). length (edited how a.prev (part c))) c.before.before.unsync-by.ensures
+    ap (λ (how : How). length (edited how a.prev (part c))) c.before.before.unsync_by-how.ensures
     ∙ ap length (unsyncs a.mode a.prev (part c))
-    ∙ ap (λ (l : List ℕ). length (unsync (guards a.mode) a.prev l)) (slice_cut a.from a.to _ a.s.now c.before.least.ensures)
+    ∙ ap (λ (l : List ℕ). length (unsync (guards a.mode) a.prev l)) (slice_cut a.from a.to _ a.s.now c.before.least-end.ensures)
 
-returns_2 : tie.Need-returns-2
+returns_2 : tie.Need-returns-then-not-how
 returns_2 c =
     let at_some = c.before.before in
     let at_how = at_some.before.before in
     let a = at_how.before.before.args in
-    let off = not-true _ c.if2.true in
-    let how = at_how.unsync-by in
+    let off = not-true _ c.if-not-how.true in
+    let how = at_how.unsync_by-how in
     let alone = untouched how.result off ((known_unsync how.result a.mode how.ensures).inserts off) a.prev (part at_some) in
-    omega (arith, ap length alone, same_length at_some, length-slice a.from at_some.before.least.result a.s.now (omega arith))
+    omega (arith, ap length alone, same_length at_some, length-slice a.from at_some.before.least-end.result a.s.now (omega arith))
 
-add_result : tie.Need-overflow-add-result
+add_result : tie.Need-overflow_add-result
 add_result c =
     let at_hit = c.before.before in
     let at_some = at_hit.before.before.before.before in
     let at_how = at_some.before.before in
     let a = at_how.before.before.args in
-    let inserts = ap (λ (how : How). how.insert) at_how.unsync-by.ensures in
-    omega (arith, longer at_how.unsync-by.result inserts false (part at_some), hits_at_most at_how.unsync-by.result false (part at_some), length-slice a.from at_some.before.least.result a.s.now (omega arith), at_how.before.before.well-formed)
+    let inserts = ap (λ (how : How). how.insert) at_how.unsync_by-how.ensures in
+    omega (arith, longer at_how.unsync_by-how.result inserts false (part at_some), hits_at_most at_how.unsync_by-how.result false (part at_some), length-slice a.from at_some.before.least-end.result a.s.now (omega arith), at_how.before.before.well-formed)
 
-returns_3 : tie.Need-returns-3
+returns_3 : tie.Need-returns
 returns_3 c =
     let at_hit = c.before.before in
     let at_some = at_hit.before.before.before.before in
     let at_how = at_some.before.before in
     let a = at_how.before.before.args in
-    let inserts = ap (λ (how : How). how.insert) at_how.unsync-by.ensures in
-    omega (arith, same_length at_some, first_length at_how.unsync-by.result a.s.now a.from at_some.before.least.result (omega arith) (omega arith) a.prev at_hit.hit.result at_hit.hit.ensures (λ _. inserts))
+    let inserts = ap (λ (how : How). how.insert) at_how.unsync_by-how.ensures in
+    omega (arith, same_length at_some, first_length at_how.unsync_by-how.result a.s.now a.from at_some.before.least-end.result (omega arith) (omega arith) a.prev at_hit.hit.result at_hit.hit.ensures (λ _. inserts))
 
 pub unsync_len_spec : {M : Type 1} → statement M
 unsync_len_spec =

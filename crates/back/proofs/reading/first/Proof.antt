@@ -6,22 +6,22 @@ use borrow.Author.Rules.{rules}
 use Rattle.back.proofs.reading.first.Statement.{statement}
 use Rattle.back.proofs.reading.first.Tie as tie
 
-returns : tie.Need-returns
+returns : tie.Need-returns-in-Frame
 returns c =
     let at_second = c.before.before in
     let at_step2 = at_second.before.before.before in
     let at_step = at_step2.before.before.before.before in
-    at_second.second.ensures ∙ answered (on_first at_step.before.before.before.before.args.tag.now) at_step2.step2.given.1 at_step.step.ensures
+    at_second.second.ensures ∙ answered (on_first at_step.before.before.before.before.args.tag.now) at_step2.step-1.given.1 at_step.step-step.ensures
 
-returns_2 : tie.Need-returns-2
+returns_2 : tie.Need-returns-in-End
 returns_2 c =
     let at_step = c.before.before.before.before in
-    answered (on_first at_step.before.before.before.before.args.tag.now) c.enum_told.given.1 at_step.step.ensures
+    answered (on_first at_step.before.before.before.before.args.tag.now) c.enum_told-1.given.1 at_step.step-step.ensures
 
-returns_3 : tie.Need-returns-3
+returns_3 : tie.Need-returns-in-Refused
 returns_3 c =
     let at_step = c.before.before.before.before in
-    answered (on_first at_step.before.before.before.before.args.tag.now) c.enum-told2.given.1 at_step.step.ensures
+    answered (on_first at_step.before.before.before.before.args.tag.now) c.enum_told-in-Refused-1.given.1 at_step.step-step.ensures
 
 pub first_spec : {M : Type 1} → statement M
 first_spec =

@@ -6,19 +6,19 @@ use borrow.Author.Rules.{rules}
 use Rattle.back.proofs.reading.read_one.Statement.{statement}
 use Rattle.back.proofs.reading.read_one.Tie as tie
 
-returns : tie.Need-returns
+returns : tie.Need-returns-in-Ready
 unfolding read_of
 returns c =
     let at_first = c.before.before in
     let at_opened = at_first.before.before.before in
     let at_open = at_opened.before.before.before.before in
-    at_first.first.ensures ∙ answered (on_opened at_open.before.before.before.before.args.tag.now) at_opened.opened.given.1 at_open.«open».ensures
+    at_first.first.ensures ∙ answered (on_opened at_open.before.before.before.before.args.tag.now) at_opened.opened-1.given.1 at_open.«open».ensures
 
-returns_2 : tie.Need-returns-2
+returns_2 : tie.Need-returns-in-Refused
 unfolding read_of
 returns_2 c =
     let at_open = c.before.before.before.before in
-    answered (on_opened at_open.before.before.before.before.args.tag.now) c.enum_told.given.1 at_open.«open».ensures
+    answered (on_opened at_open.before.before.before.before.args.tag.now) c.enum_told-1.given.1 at_open.«open».ensures
 
 pub read_one_spec : {M : Type 1} → statement M
 read_one_spec =

@@ -12,45 +12,45 @@ use borrow.Author.Rules.{rules}
 use Rattle.back.proofs.writing.add_one.Statement.{statement}
 use Rattle.back.proofs.writing.add_one.Tie as tie
 
-abbrev at_start : tie.After-add → tie.Start
+abbrev at_start : tie.After-add-added → tie.Start
 at_start c =
     let at_Names = c.before.before.before.before in
     at_Names.before.before.before.before
 
 -- what comes of what adding the record answered
-adds : (c : tie.After-add) {x : Added} → c.add.result ≡ x →
+adds : (c : tie.After-add-added) {x : Added} → c.add-added.result ≡ x →
     let a = (at_start c).args in
-    let o = add_of a.writer (rec_of a.heading a.name.now a.names.now a.rest.now a.deviations.now) a.buffer.now in
-    on_added a.padding a.output.now x c.add.new.1.0 ≡ on_added a.padding a.output.now o.0 o.1
+    let o = add_of a.writer (rec_of a.heading a.name.now a.names.now a.rest.now a.deviations.now) a.buffer-1.now in
+    on_added a.padding a.output-1.now x c.add-added.new.1.0 ≡ on_added a.padding a.output-1.now o.0 o.1
 adds c known =
     let a = (at_start c).args in
     let r = rec_of a.heading a.name.now a.names.now a.rest.now a.deviations.now in
-    answered (on_added a.padding a.output.now) {o = add_of a.writer r a.buffer.now} known c.add.ensures.0
+    answered (on_added a.padding a.output-1.now) {o = add_of a.writer r a.buffer-1.now} known c.add-added.ensures.0
 
-returns : tie.Need-returns
+returns : tie.Need-returns-in-Done
 returns c =
     let at_finished = c.before in
     let at_finish = at_finished.before.before.before.before in
     let at_Added = at_finish.before.before.before.before in
     let at_add = at_Added.before.before.before.before in
-    let b = at_add.add.new.1.0 in
-    let finishes = answered {C = Writing} (λ (f : Finished) (o : List ℕ). (wrote_as f, (b, o))) at_finished.finished.given.1 at_finish.finish.ensures in
-    (finishes ∙ adds at_add at_Added.added.given.1, at_add.add.ensures.1)
+    let b = at_add.add-added.new.1.0 in
+    let finishes = answered {C = Writing} (λ (f : Finished) (o : List ℕ). (wrote_as f, (b, o))) at_finished.finished-1.given.1 at_finish.finish-finished.ensures in
+    (finishes ∙ adds at_add at_Added.added-1.given.1, at_add.add-added.ensures.1)
 
-returns_2 : tie.Need-returns-2
+returns_2 : tie.Need-returns-in-Refused-finished
 returns_2 c =
     let at_finished = c.before in
     let at_finish = at_finished.before.before.before.before in
     let at_Added = at_finish.before.before.before.before in
     let at_add = at_Added.before.before.before.before in
-    let b = at_add.add.new.1.0 in
-    let finishes = answered {C = Writing} (λ (f : Finished) (o : List ℕ). (wrote_as f, (b, o))) at_finished.finished2.given.1 at_finish.finish.ensures in
-    (finishes ∙ adds at_add at_Added.added.given.1, tt)
+    let b = at_add.add-added.new.1.0 in
+    let finishes = answered {C = Writing} (λ (f : Finished) (o : List ℕ). (wrote_as f, (b, o))) at_finished.finished-in-Refused-1.given.1 at_finish.finish-finished.ensures in
+    (finishes ∙ adds at_add at_Added.added-1.given.1, tt)
 
-returns_3 : tie.Need-returns-3
+returns_3 : tie.Need-returns-in-Refused
 returns_3 c =
     let at_Added = c.before in
-    (adds at_Added.before.before.before.before at_Added.added2.given.1, tt)
+    (adds at_Added.before.before.before.before at_Added.added-in-Refused-added-1.given.1, tt)
 
 pub add_one_spec : {M : Type 1} → statement M
 add_one_spec =

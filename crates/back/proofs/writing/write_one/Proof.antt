@@ -7,7 +7,7 @@ use borrow.Author.Rules.{rules}
 use Rattle.back.proofs.writing.write_one.Statement.{statement}
 use Rattle.back.proofs.writing.write_one.Tie as tie
 
-returns : tie.Need-returns
+returns : tie.Need-returns-in-Ready
 unfolding write_of
 returns c =
     let at_add_one = c.before.before.before.before in
@@ -16,18 +16,18 @@ returns c =
     let at_bytes = at_begin.before.before.before.before in
     let a = at_bytes.before.before.before.args in
     let r = rec_of a.heading a.name.now a.names.now a.rest.now a.deviations.now in
-    let adds = at_add_one.add-one.ensures in
+    let adds = at_add_one.add_one.ensures in
     let whole : Begun → Writing = on_begun a.padding r a.buffer.now a.output.now in
-    (◌∙◌ {b = whole (Begun.Ready at_begun.begun.given.0.0)} adds.0 (ap whole (sym at_begun.begun.given.1 ∙ at_begin.begin.ensures)), adds.1)
+    (◌∙◌ {b = whole (Begun.Ready at_begun.begun-1.given.0.0)} adds.0 (ap whole (sym at_begun.begun-1.given.1 ∙ at_begin.begin-begun.ensures)), adds.1)
 
-returns_2 : tie.Need-returns-2
+returns_2 : tie.Need-returns-in-Refused
 unfolding write_of
 returns_2 c =
     let at_begin = c.before.before.before in
     let at_bytes = at_begin.before.before.before.before in
     let a = at_bytes.before.before.before.args in
     let r = rec_of a.heading a.name.now a.names.now a.rest.now a.deviations.now in
-    (ap (on_begun a.padding r a.buffer.now a.output.now) (sym c.before.begun2.given.1 ∙ at_begin.begin.ensures), tt)
+    (ap (on_begun a.padding r a.buffer.now a.output.now) (sym c.before.begun-in-Refused-1.given.1 ∙ at_begin.begin-begun.ensures), tt)
 
 pub write_one_spec : {M : Type 1} → statement M
 write_one_spec =

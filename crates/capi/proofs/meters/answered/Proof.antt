@@ -5,24 +5,24 @@ use borrow.Author.Rules.{rules}
 use Rattle.capi.proofs.meters.answered.Statement.{statement}
 use Rattle.capi.proofs.meters.answered.Tie as tie
 
-returns : tie.Need-returns
+returns : tie.Need-returns-in-Found
 returns c =
     let at_metered = c.before.before in
     let at_moved = at_metered.before.before.before.before in
     let at_found = at_moved.before.before.before in
-    rw (at_found.next.given.1, at_moved.store-moved.ensures, at_metered.store-metered.ensures)
+    rw (at_found.next-1.given.1, at_moved.store_moved.ensures, at_metered.store_metered.ensures)
 
-returns_2 : tie.Need-returns-2
+returns_2 : tie.Need-returns-in-End
 returns_2 c =
     let at_moved = c.before.before in
     let at_end = at_moved.before.before.before in
-    rw (at_end.next2.given.1, at_moved.store-moved2.ensures)
+    rw (at_end.next-in-End-1.given.1, at_moved.store_moved-in-End.ensures)
 
-returns_3 : tie.Need-returns-3
+returns_3 : tie.Need-returns-in-Refused
 returns_3 c =
     let at_moved = c.before.before in
     let at_refused = at_moved.before.before.before in
-    rw (at_refused.next3.given.1, at_moved.store-moved3.ensures)
+    rw (at_refused.next-in-Refused-1.given.1, at_moved.store_moved-in-Refused.ensures)
 
 pub answered_spec : {M : Type 1} → statement M
 answered_spec =

@@ -8,7 +8,7 @@ use Rattle.capi.proofs.meters.store_moved.Tie as tie
 
 returns : tie.Need-returns
 unfolding moved_words
-returns c = rw (c.before.flag.ensures, c.flag2.ensures)
+returns c = rw (c.before.flag.ensures, c.flag-2.ensures)
 
 pub store_moved_spec : {M : Type 1} → statement M
 store_moved_spec =

@@ -6,12 +6,12 @@ use borrow.Author.Rules.{rules}
 use Rattle.capi.proofs.meters.store_opened.Statement.{statement}
 use Rattle.capi.proofs.meters.store_opened.Tie as tie
 
-same_length : tie.Need-same-length
+same_length : tie.Need-shape_of-words
 same_length c = simp length-set
 
 returns : tie.Need-returns
 unfolding opened_words
-returns c = rw (c.before.before.version-number.ensures, c.before.flag.ensures, c.flag2.ensures)
+returns c = rw (c.before.before.version_number.ensures, c.before.flag.ensures, c.flag-2.ensures)
 
 pub store_opened_spec : {M : Type 1} → statement M
 store_opened_spec =

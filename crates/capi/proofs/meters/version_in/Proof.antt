@@ -18,17 +18,17 @@ no_version n h2 h3 h4 = by_bounds (leb 2 n) (leb n 4) refl refl
     by_bounds true false ea eb = refl
     by_bounds true true ea eb = let l = leb-true 2 n ea in let h = leb-true n 4 eb in absurd (omega (arith, h2, h3, h4))
 
-returns : tie.Need-returns
-returns c = rw c.match.keys1
+returns : tie.Need-returns-in-2
+returns c = rw c.in_default.keys1
 
-returns_2 : tie.Need-returns-2
-returns_2 c = rw c.match.keys2
+returns_2 : tie.Need-returns-in-3
+returns_2 c = rw c.in_default.keys2
 
-returns_3 : tie.Need-returns-3
-returns_3 c = rw c.match.keys3
+returns_3 : tie.Need-returns-in-4
+returns_3 c = rw c.in_default.keys3
 
-returns_4 : tie.Need-returns-4
-returns_4 c = rw (no_version c.before.args.n c.match.rest.0.0.1 c.match.rest.0.1 c.match.rest.1)
+returns_4 : tie.Need-returns-in_default
+returns_4 c = rw (no_version c.before.args.n c.in_default.rest.0.0.1 c.in_default.rest.0.1 c.in_default.rest.1)
 
 pub version_in_spec : {M : Type 1} → statement M
 version_in_spec = tie.close (tie.spec returns returns_2 returns_3 returns_4)

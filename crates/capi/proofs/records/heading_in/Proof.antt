@@ -7,14 +7,14 @@ use Rattle.capi.proofs.records.heading_in.Statement.{statement}
 use Rattle.capi.proofs.records.heading_in.Tie as tie
 
 -- what the words say
-says : (c : tie.After-load-heading) {x : GivenHeading} → c.load-heading.result ≡ x → heading_else x ≡ heading_in c.before.before.args.words.now
-says c e = ap heading_else (sym e ∙ c.load-heading.ensures)
+says : (c : tie.After-load_heading-given) {x : GivenHeading} → c.load_heading-given.result ≡ x → heading_else x ≡ heading_in c.before.before.args.words.now
+says c e = ap heading_else (sym e ∙ c.load_heading-given.ensures)
 
-returns : tie.Need-returns
-returns c = says c.before.before.before c.before.given.given.1
+returns : tie.Need-returns-in-Good
+returns c = says c.before.before.before c.before.given-1.given.1
 
-returns_2 : tie.Need-returns-2
-returns_2 c = says c.before.before c.enum_told.given.1
+returns_2 : tie.Need-returns-in-Bad
+returns_2 c = says c.before.before c.enum_told-1.given.1
 
 pub heading_in_spec : {M : Type 1} → statement M
 heading_in_spec = tie.close (tie.spec (λ c κs. search rules) (λ c. search rules) (λ c. search rules) returns returns_2)

@@ -6,43 +6,43 @@ use borrow.Author.Rules.{rules}
 use Rattle.capi.proofs.records.load_fields.Statement.{statement}
 use Rattle.capi.proofs.records.load_fields.Tie as tie
 
-returns : tie.Need-returns
+returns : tie.Need-returns-in-0
 unfolding fields_of
-returns c = rw c.before.before.match.keys1 c.text-fields.ensures
+returns c = rw c.before.before.in_default.keys1 c.text_fields.ensures
 
-returns_2 : tie.Need-returns-2
+returns_2 : tie.Need-returns-in-1
 unfolding fields_of
 returns_2 c =
     let at_match = c.before.before.before in
-    rw at_match.match.keys2 c.popularimeter-fields.ensures
+    rw at_match.in_default.keys2 c.popularimeter_fields.ensures
 
-returns_3 : tie.Need-returns-3
+returns_3 : tie.Need-returns-in-2
 unfolding fields_of
 returns_3 c =
     let at_three = c.before.before.before in
     let at_match = at_three.before.before.before in
-    rw at_match.match.keys3 c.table-fields.ensures
+    rw at_match.in_default.keys3 c.table_fields.ensures
 
-returns_4 : tie.Need-returns-4
+returns_4 : tie.Need-returns-in-3
 unfolding fields_of
 returns_4 c =
     let at_two = c.before.before in
     let at_match = at_two.before.before.before in
-    rw at_match.match.keys4 c.chapter-fields.ensures
+    rw at_match.in_default.keys4 c.chapter_fields.ensures
 
-returns_5 : tie.Need-returns-5
+returns_5 : tie.Need-returns-in-4
 unfolding fields_of
 returns_5 c =
     let at_match = c.before.before.before in
-    rw at_match.match.keys5 c.contents-fields.ensures
+    rw at_match.in_default.keys5 c.contents_fields.ensures
 
-returns_6 : tie.Need-returns-6
+returns_6 : tie.Need-returns-in-5
 unfolding fields_of
-returns_6 c = rw c.match.keys6
+returns_6 c = rw c.in_default.keys6
 
-returns_7 : tie.Need-returns-7
+returns_7 : tie.Need-returns-in_default
 returns_7 c =
-    let no = c.match.rest in
+    let no = c.in_default.rest in
     sym (no_kind _ _ _ _ _ _ no.0.0.0.0.0.1 no.0.0.0.0.1 no.0.0.0.1 no.0.0.1 no.0.1 no.1)
 
 pub load_fields_spec : {M : Type 1} → statement M

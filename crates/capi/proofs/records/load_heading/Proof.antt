@@ -6,22 +6,22 @@ use borrow.Author.Rules.{rules}
 use Rattle.capi.proofs.records.load_heading.Statement.{statement}
 use Rattle.capi.proofs.records.load_heading.Tie as tie
 
-returns : tie.Need-returns
+returns : tie.Need-returns-then-id-ge-LIMIT_32
 unfolding heading_of
-returns c = rw (le-ltb _ _ c.if1.true)
+returns c = rw (le-ltb _ _ c.if-id-ge-LIMIT_32.true)
 
-returns_2 : tie.Need-returns-2
+returns_2 : tie.Need-returns-in-Good
 unfolding heading_of
 returns_2 c =
     let at_load_fields = c.before.before.before in
     let at_if1 = at_load_fields.before in
-    rw (lt-ltb _ _ at_if1.if1.false, sym at_load_fields.load_fields.ensures ∙ c.before.given.given.1)
+    rw (lt-ltb _ _ at_if1.if-id-ge-LIMIT_32.false, sym at_load_fields.load_fields-given.ensures ∙ c.before.given-1.given.1)
 
-returns_3 : tie.Need-returns-3
+returns_3 : tie.Need-returns-in-Bad
 unfolding heading_of
 returns_3 c =
     let at_if1 = c.before.before.before in
-    rw (lt-ltb _ _ at_if1.if1.false, sym c.before.before.load_fields.ensures ∙ c.enum_told.given.1)
+    rw (lt-ltb _ _ at_if1.if-id-ge-LIMIT_32.false, sym c.before.before.load_fields-given.ensures ∙ c.enum_told-1.given.1)
 
 pub load_heading_spec : {M : Type 1} → statement M
 load_heading_spec =

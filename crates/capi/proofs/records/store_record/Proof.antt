@@ -9,7 +9,7 @@ unfolding record_words
 returns c =
     let at_places = c.before.before in
     let at_heading = at_places.before.before.before.before in
-    rw (at_places.store-places.ensures, at_heading.store-heading.ensures)
+    rw (at_places.store_places.ensures, at_heading.store_heading.ensures)
 
 pub store_record_spec : {M : Type 1} → statement M
 store_record_spec =

@@ -4,13 +4,13 @@ use borrow.Author.Rules.{rules}
 use Rattle.capi.proofs.records.table_fields.Statement.{statement}
 use Rattle.capi.proofs.records.table_fields.Tie as tie
 
-returns : tie.Need-returns
-returns c = rw (le-ltb _ _ c.if1.true)
+returns : tie.Need-returns-then-frames-ge-LIMIT_16
+returns c = rw (le-ltb _ _ c.if-frames-ge-LIMIT_16.true)
 
-returns_2 : tie.Need-returns-2
+returns_2 : tie.Need-returns
 returns_2 c =
     let at_if1 = c.before.before.before.before in
-    rw (lt-ltb _ _ at_if1.if1.false) (cc)
+    rw (lt-ltb _ _ at_if1.if-frames-ge-LIMIT_16.false) (cc)
 
 pub table_fields_spec : {M : Type 1} → statement M
 table_fields_spec =

@@ -4,7 +4,7 @@ use Rattle.capi.proofs.words.is_writer.Statement.{statement}
 use Rattle.capi.proofs.words.is_writer.Tie as tie
 
 returns : tie.Need-returns
-returns c = rw (c.before.is-version.ensures, c.is-mode.ensures)
+returns c = rw (c.before.is_version.ensures, c.is_mode.ensures)
 
 pub is_writer_spec : {M : Type 1} → statement M
 is_writer_spec = tie.close (tie.spec (λ c κs. search rules) (λ c κs. search rules) returns)

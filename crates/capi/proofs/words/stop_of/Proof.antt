@@ -4,14 +4,14 @@ use borrow.Author.Rules.{rules}
 use Rattle.capi.proofs.words.stop_of.Statement.{statement}
 use Rattle.capi.proofs.words.stop_of.Tie as tie
 
-returns : tie.Need-returns
-returns c = rw c.match.keys1
+returns : tie.Need-returns-in-0
+returns c = rw c.in_default.keys1
 
-returns_2 : tie.Need-returns-2
-returns_2 c = rw c.match.keys2
+returns_2 : tie.Need-returns-in-1
+returns_2 c = rw c.in_default.keys2
 
-returns_3 : tie.Need-returns-3
-returns_3 c = rw (ne_eqb c.before.args.stop 0 c.match.rest.0.1, ne_eqb c.before.args.stop 1 c.match.rest.1)
+returns_3 : tie.Need-returns-in_default
+returns_3 c = rw (ne_eqb c.before.args.stop 0 c.in_default.rest.0.1, ne_eqb c.before.args.stop 1 c.in_default.rest.1)
 
 pub stop_of_spec : {M : Type 1} → statement M
 stop_of_spec = tie.close (tie.spec (λ c. search rules) returns returns_2 returns_3)

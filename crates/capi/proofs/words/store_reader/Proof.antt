@@ -10,7 +10,7 @@ returns : tie.Need-returns
 unfolding reader_words
 returns c =
     let at_version_number = c.before.before.before in
-    rw (at_version_number.version-number.ensures, c.before.before.flag.ensures, c.before.stop-number.ensures, c.failure-number.ensures)
+    rw (at_version_number.version_number.ensures, c.before.before.flag.ensures, c.before.stop_number.ensures, c.failure_number.ensures)
 
 pub store_reader_spec : {M : Type 1} → statement M
 store_reader_spec =

@@ -8,7 +8,7 @@ use Rattle.capi.proofs.words.store_writer.Tie as tie
 
 returns : tie.Need-returns
 unfolding writer_words
-returns c = rw (c.before.before.version-number.ensures, c.before.mode-number.ensures, c.flag.ensures)
+returns c = rw (c.before.before.version_number.ensures, c.before.mode_number.ensures, c.flag.ensures)
 
 pub store_writer_spec : {M : Type 1} → statement M
 store_writer_spec =

@@ -6,25 +6,25 @@ use borrow.Author.Rules.{rules}
 use Rattle.checks.proofs.ids.are_id_bytes.Statement.{statement}
 use Rattle.checks.proofs.ids.are_id_bytes.Tie as tie
 
-returns : tie.Need-returns
+returns : tie.Need-returns-then-not-is_id_byte
 returns c =
-    let high = sym c.before.is-id-byte.ensures ∙ not-true _ c.if1.true in
+    let high = sym c.before.is_id_byte.ensures ∙ not-true _ c.if-not-is_id_byte.true in
     rw (three_bytes, high)
 
-returns_2 : tie.Need-returns-2
+returns_2 : tie.Need-returns-then-not-is_id_byte-2
 returns_2 c =
     let at_is_id_byte = c.before.before.before in
-    let high = sym at_is_id_byte.is-id-byte.ensures ∙ not-false _ c.before.before.if1.false in
-    let middle = sym c.before.is-id-byte2.ensures ∙ not-true _ c.if2.true in
+    let high = sym at_is_id_byte.is_id_byte.ensures ∙ not-false _ c.before.before.if-not-is_id_byte.false in
+    let middle = sym c.before.is_id_byte-2.ensures ∙ not-true _ c.if-not-is_id_byte-2.true in
     rw (three_bytes, high, middle)
 
-returns_3 : tie.Need-returns-3
+returns_3 : tie.Need-returns
 returns_3 c =
     let at_if1 = c.before.before.before in
     let at_is_id_byte = at_if1.before in
-    let high = sym at_is_id_byte.is-id-byte.ensures ∙ not-false _ at_if1.if1.false in
-    let middle = sym c.before.before.is-id-byte2.ensures ∙ not-false _ c.before.if2.false in
-    rw (three_bytes, high, middle) c.is-id-byte3.ensures
+    let high = sym at_is_id_byte.is_id_byte.ensures ∙ not-false _ at_if1.if-not-is_id_byte.false in
+    let middle = sym c.before.before.is_id_byte-2.ensures ∙ not-false _ c.before.if-not-is_id_byte-2.false in
+    rw (three_bytes, high, middle) c.is_id_byte-3.ensures
 
 pub are_id_bytes_spec : {M : Type 1} → statement M
 are_id_bytes_spec =

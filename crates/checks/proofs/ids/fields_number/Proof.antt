@@ -3,23 +3,23 @@ use borrow.Author.Rules.{rules}
 use Rattle.checks.proofs.ids.fields_number.Statement.{statement}
 use Rattle.checks.proofs.ids.fields_number.Tie as tie
 
-returns : tie.Need-returns
-returns c name names rest deviations = rw c.enum_told.given.1
+returns : tie.Need-returns-in-Text
+returns c name names rest deviations = rw c.enum_told-1.given.1
 
-returns_2 : tie.Need-returns-2
-returns_2 c name names rest deviations = rw c.enum-told2.given.1
+returns_2 : tie.Need-returns-in-Popularimeter
+returns_2 c name names rest deviations = rw c.enum_told-in-Popularimeter-1.given.1
 
-returns_3 : tie.Need-returns-3
-returns_3 c name names rest deviations = rw c.enum-told3.given.1
+returns_3 : tie.Need-returns-in-Table
+returns_3 c name names rest deviations = rw c.enum_told-in-Table-1.given.1
 
-returns_4 : tie.Need-returns-4
-returns_4 c name names rest deviations = rw c.enum-told4.given.1
+returns_4 : tie.Need-returns-in-Chapter
+returns_4 c name names rest deviations = rw c.enum_told-in-Chapter-1.given.1
 
-returns_5 : tie.Need-returns-5
-returns_5 c name names rest deviations = rw c.enum-told5.given.1
+returns_5 : tie.Need-returns-in-Contents
+returns_5 c name names rest deviations = rw c.enum_told-in-Contents-1.given.1
 
-returns_6 : tie.Need-returns-6
-returns_6 c name names rest deviations = rw c.enum-told6.given.1
+returns_6 : tie.Need-returns-in-Raw
+returns_6 c name names rest deviations = rw c.enum_told-in-Raw-1.given.1
 
 pub fields_number_spec : {M : Type 1} → statement M
 fields_number_spec =

@@ -6,18 +6,18 @@ use borrow.Author.Rules.{rules}
 use Rattle.checks.proofs.names.children_check.Statement.{statement}
 use Rattle.checks.proofs.names.children_check.Tie as tie
 
-returns : tie.Need-returns
+returns : tie.Need-returns-then-last_byte-gt0
 returns c =
     let at_start = c.before.before.before in
     sym (not_closed at_start.args.children.now (omega arith))
 
-returns_2 : tie.Need-returns-2
+returns_2 : tie.Need-returns-then-zeros_in-gt255
 returns_2 c =
     let at_if1 = c.before.before in
     let at_start = at_if1.before.before.before in
     sym (too_many at_start.args.children.now (omega arith))
 
-returns_3 : tie.Need-returns-3
+returns_3 : tie.Need-returns-else-zeros_in-gt255
 returns_3 c =
     let at_if1 = c.before.before in
     let at_start = at_if1.before.before.before in

@@ -4,11 +4,11 @@ use borrow.Author.Rules.{rules}
 use Rattle.checks.proofs.names.name_check.Statement.{statement}
 use Rattle.checks.proofs.names.name_check.Tie as tie
 
-returns : tie.Need-returns
-returns c = rw (← c.before.zero-at.ensures, eq-eqb _ _ c.if1.true)
+returns : tie.Need-returns-then-zero_at-name
+returns c = rw (← c.before.zero_at.ensures, eq-eqb _ _ c.if-zero_at-name.true)
 
-returns_2 : tie.Need-returns-2
-returns_2 c = rw (← c.before.zero-at.ensures, ne_eqb _ _ c.if1.false)
+returns_2 : tie.Need-returns-else-zero_at-name
+returns_2 c = rw (← c.before.zero_at.ensures, ne_eqb _ _ c.if-zero_at-name.false)
 
 pub name_check_spec : {M : Type 1} → statement M
 name_check_spec = tie.close (tie.spec (λ c κs. search rules) returns returns_2)

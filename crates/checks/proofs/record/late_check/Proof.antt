@@ -6,29 +6,29 @@ use borrow.Author.Rules.{rules}
 use Rattle.checks.proofs.record.late_check.Statement.{statement}
 use Rattle.checks.proofs.record.late_check.Tie as tie
 
-returns : tie.Need-returns
+returns : tie.Need-returns-in-Text
 unfolding first
-returns c name names = rw c.before.before.fields.given.1 (c.text-check.ensures ∙ sym (only _))
+returns c name names = rw c.before.before.fields-1.given.1 (c.text_check.ensures ∙ sym (only _))
 
-returns_2 : tie.Need-returns-2
+returns_2 : tie.Need-returns-in-Popularimeter
 unfolding first
-returns_2 c name names = rw c.enum_told.given.1
+returns_2 c name names = rw c.enum_told-1.given.1
 
-returns_3 : tie.Need-returns-3
+returns_3 : tie.Need-returns-in-Table
 unfolding first
-returns_3 c name names = rw c.before.before.fields2.given.1 c.table-check.ensures
+returns_3 c name names = rw c.before.before.fields-in-Table-1.given.1 c.table_check.ensures
 
-returns_4 : tie.Need-returns-4
+returns_4 : tie.Need-returns-in-Chapter
 unfolding first
-returns_4 c name names = rw c.before.enum-told2.given.1 (c.run-check.ensures ∙ sym (only _))
+returns_4 c name names = rw c.before.enum_told-in-Chapter-1.given.1 (c.run_check.ensures ∙ sym (only _))
 
-returns_5 : tie.Need-returns-5
+returns_5 : tie.Need-returns-in-Contents
 unfolding first
-returns_5 c name names = rw c.before.enum-told3.given.1 (c.run-check2.ensures ∙ sym (only _))
+returns_5 c name names = rw c.before.enum_told-in-Contents-1.given.1 (c.run_check-in-Contents.ensures ∙ sym (only _))
 
-returns_6 : tie.Need-returns-6
+returns_6 : tie.Need-returns-in-Raw
 unfolding first
-returns_6 c name names = rw c.enum-told4.given.1
+returns_6 c name names = rw c.enum_told-in-Raw-1.given.1
 
 pub late_check_spec : {M : Type 1} → statement M
 late_check_spec =

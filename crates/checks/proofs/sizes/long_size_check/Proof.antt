@@ -7,11 +7,11 @@ use Rattle.checks.specs.Sizes.{size_refusal}
 use Rattle.checks.proofs.sizes.long_size_check.Statement.{statement}
 use Rattle.checks.proofs.sizes.long_size_check.Tie as tie
 
-returns : tie.Need-returns
+returns : tie.Need-returns-then-size-gt268435455
 unfolding first size_refusal
 returns c = rw (le-leb (2 ^ 28) c.before.args.size (omega arith))
 
-returns_2 : tie.Need-returns-2
+returns_2 : tie.Need-returns-else-size-gt268435455
 unfolding first size_refusal
 returns_2 c = rw (lt-leb (2 ^ 28) c.before.args.size (omega arith))
 

@@ -4,17 +4,17 @@ use borrow.Author.Rules.{rules}
 use Rattle.checks.proofs.sizes.size_check.Statement.{statement}
 use Rattle.checks.proofs.sizes.size_check.Tie as tie
 
-returns : tie.Need-returns
+returns : tie.Need-returns-in-Id3v22
 unfolding size_refusal
-returns c = rw c.before.enum_told.given.1 c.short-size-check.ensures
+returns c = rw c.before.enum_told-1.given.1 c.short_size_check.ensures
 
-returns_2 : tie.Need-returns-2
+returns_2 : tie.Need-returns-in-Id3v23
 unfolding size_refusal
-returns_2 c = rw c.before.enum-told2.given.1 c.long-size-check.ensures
+returns_2 c = rw c.before.enum_told-in-Id3v23-1.given.1 c.long_size_check.ensures
 
-returns_3 : tie.Need-returns-3
+returns_3 : tie.Need-returns-in-Id3v24
 unfolding size_refusal
-returns_3 c = rw c.before.enum-told3.given.1 c.long-size-check2.ensures
+returns_3 c = rw c.before.enum_told-in-Id3v24-1.given.1 c.long_size_check-in-Id3v24.ensures
 
 pub size_check_spec : {M : Type 1} → statement M
 size_check_spec =

@@ -10,38 +10,38 @@ use Rattle.checks.proofs.Fitting.{one_over, one_fits, none_left}
 use Rattle.checks.proofs.tables.all_fit.Statement.{statement}
 use Rattle.checks.proofs.tables.all_fit.Tie as tie
 
-abbrev invariant_loop : tie.invariant-loop
+abbrev invariant_loop : tie.invariant-loop-i
 invariant_loop deviations v w a₀ b₀ i₀ a b i = (i ≤ length deviations) × (fit a b (drop i deviations) ≡ fit v w deviations)
 
-abbrev decreases_loop : tie.decreases-loop
+abbrev decreases_loop : tie.decreases-loop-i
 decreases_loop deviations v w a₀ b₀ i₀ a b i = length deviations - i
 
-loop_holds : tie.Need-loop-init invariant_loop decreases_loop
+loop_holds : tie.Need-loop-i-init invariant_loop decreases_loop
 loop_holds c = (omega arith, refl)
 
-returns : tie.Need-returns invariant_loop decreases_loop
+returns : tie.Need-returns-then-not-fits invariant_loop decreases_loop
 returns c =
     let at_loop_test = c.before.before.before in
     let at_loop = at_loop_test.before in
     let at_start = at_loop.before.before in
     let ds = at_start.args.deviations.now in
-    let L = at_loop.loop in
-    sym (one_over ds L.i L.a L.b at_loop_test.loop-test.true (sym c.before.fits2.ensures ∙ not-true _ c.if1.true)) ∙ L.invariant.1
+    let L = at_loop.loop-i in
+    sym (one_over ds L.i L.a L.b at_loop_test.loop-i-test.true (sym c.before.fits2.ensures ∙ not-true _ c.if-not-fits.true)) ∙ L.invariant.1
 
-loop_again : tie.Need-loop-preserved invariant_loop decreases_loop
+loop_again : tie.Need-loop-i-preserved invariant_loop decreases_loop
 loop_again c =
     let at_loop_test = c.before.before.before in
     let at_loop = at_loop_test.before in
     let at_start = at_loop.before.before in
     let ds = at_start.args.deviations.now in
-    let L = at_loop.loop in
-    (omega arith, sym (one_fits ds L.i L.a L.b at_loop_test.loop-test.true (sym c.before.fits2.ensures ∙ not-false _ c.if1.false)) ∙ L.invariant.1)
+    let L = at_loop.loop-i in
+    (omega arith, sym (one_fits ds L.i L.a L.b at_loop_test.loop-i-test.true (sym c.before.fits2.ensures ∙ not-false _ c.if-not-fits.false)) ∙ L.invariant.1)
 
-returns_2 : tie.Need-returns-2 invariant_loop decreases_loop
+returns_2 : tie.Need-returns invariant_loop decreases_loop
 returns_2 c =
     let at_start = c.before.before.before in
     let ds = at_start.args.deviations.now in
-    let L = c.before.loop in
+    let L = c.before.loop-i in
     sym (none_left L.a L.b (drop L.i ds) (omega (arith, length-drop L.i ds))) ∙ L.invariant.1
 
 pub all_fit_spec : {M : Type 1} → statement M

@@ -10,30 +10,30 @@ use Rattle.edit.proofs.LiftSteps.{put_done, put_refused}
 use Rattle.edit.proofs.lifting.recount.Statement.{statement}
 use Rattle.edit.proofs.lifting.recount.Tie as tie
 
-abbrev start : tie.After-put-between → tie.Start
+abbrev start : tie.After-put_between-edited → tie.Start
 start c = let given = c.before.before.before.before in given.before.before.before.before
 
 -- what the put comes to, with the id that the edition has
-placed : (c : tie.After-put-between) → let a = (start c).args in
-    ◌≡◌ {A = Edit} (c.put-between.result, c.put-between.new.0)
-    (placed_of a.version a.gap (counted (meter_id a.version) a.user.now a.rating a.counter) a.tag.now)
+placed : (c : tie.After-put_between-edited) → let a = (start c).args in
+    ◌≡◌ {A = Edit} (c.put_between-edited.result, c.put_between-edited.new.0)
+    (placed_of a.version a.gap (counted (meter_id a.version) a.user.now a.rating a.counter) a.tag-1.now)
 placed c =
     let at_none = c.before.before in
     let at_id = at_none.before.before.before in
     let a = (start c).args in
-    c.put-between.ensures
-    ∙ ap {B = Edit} (λ (id : ℕ). placed_of a.version a.gap (counted id a.user.now a.rating a.counter) a.tag.now) at_id.meter-id.ensures
+    c.put_between-edited.ensures
+    ∙ ap {B = Edit} (λ (id : ℕ). placed_of a.version a.gap (counted id a.user.now a.rating a.counter) a.tag-1.now) at_id.meter_id.ensures
 
-returns : tie.Need-returns
+returns : tie.Need-returns-in-Done
 returns c =
     let at_put = c.before.before.before.before in
-    put_done (start at_put).args.counter (placed at_put) c.enum_told.given.1
+    put_done (start at_put).args.counter (placed at_put) c.enum_told-1.given.1
 
-returns_2 : tie.Need-returns-2
+returns_2 : tie.Need-returns-in-Refused
 returns_2 c =
     let at_edited = c.before in
     let at_put = at_edited.before.before.before.before in
-    put_refused (start at_put).args.counter (placed at_put) at_edited.edited.given.1
+    put_refused (start at_put).args.counter (placed at_put) at_edited.edited-1.given.1
 
 pub recount_spec : {M : Type 1} → statement M
 recount_spec =

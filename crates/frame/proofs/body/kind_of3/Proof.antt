@@ -6,22 +6,22 @@ use Rattle.format.specs.Bytes.{named}
 use Rattle.frame.proofs.body.kind_of3.Statement.{statement}
 use Rattle.frame.proofs.body.kind_of3.Tie as tie
 
-returns : tie.Need-returns
-returns c = rw (sym c.before.is-text.ensures ∙ c.if1.true)
+returns : tie.Need-returns-then-is_text
+returns c = rw (sym c.before.is_text.ensures ∙ c.if-is_text.true)
 
-returns_2 : tie.Need-returns-2
-returns_2 c = rw c.match.keys1
+returns_2 : tie.Need-returns-in-5263184
+returns_2 c = rw c.in_default.keys1
 
-returns_3 : tie.Need-returns-3
-returns_3 c = rw c.match.keys2
+returns_3 : tie.Need-returns-in-5065804
+returns_3 c = rw c.in_default.keys2
 
-returns_4 : tie.Need-returns-4
+returns_4 : tie.Need-returns-in_default
 returns_4 c =
     let at_start = c.before.before.before in
     let id = at_start.args.id in
-    let no = c.match.rest in
+    let no = c.in_default.rest in
     rw (
-      sym c.before.before.is-text.ensures ∙ c.before.if1.false,
+      sym c.before.before.is_text.ensures ∙ c.before.if-is_text.false,
       ne_eqb id (named "POP") no.0.1,
       ne_eqb id (named "MLL") no.1,
     )

@@ -6,28 +6,28 @@ use Rattle.format.specs.Bytes.{named}
 use Rattle.frame.proofs.body.kind_of4.Statement.{statement}
 use Rattle.frame.proofs.body.kind_of4.Tie as tie
 
-returns : tie.Need-returns
-returns c = rw (sym c.before.is-text.ensures ∙ c.if1.true)
+returns : tie.Need-returns-then-is_text
+returns c = rw (sym c.before.is_text.ensures ∙ c.if-is_text.true)
 
-returns_2 : tie.Need-returns-2
-returns_2 c = rw c.match.keys1
+returns_2 : tie.Need-returns-in-1347375181
+returns_2 c = rw c.in_default.keys1
 
-returns_3 : tie.Need-returns-3
-returns_3 c = rw c.match.keys2
+returns_3 : tie.Need-returns-in-1296845908
+returns_3 c = rw c.in_default.keys2
 
-returns_4 : tie.Need-returns-4
-returns_4 c = rw c.match.keys3
+returns_4 : tie.Need-returns-in-1128808784
+returns_4 c = rw c.in_default.keys3
 
-returns_5 : tie.Need-returns-5
-returns_5 c = rw c.match.keys4
+returns_5 : tie.Need-returns-in-1129598787
+returns_5 c = rw c.in_default.keys4
 
-returns_6 : tie.Need-returns-6
+returns_6 : tie.Need-returns-in_default
 returns_6 c =
     let at_start = c.before.before.before in
     let id = at_start.args.id in
-    let no = c.match.rest in
+    let no = c.in_default.rest in
     rw (
-      sym c.before.before.is-text.ensures ∙ c.before.if1.false,
+      sym c.before.before.is_text.ensures ∙ c.before.if-is_text.false,
       ne_eqb id (named "POPM") no.0.0.0.1,
       ne_eqb id (named "MLLT") no.0.0.1,
       ne_eqb id (named "CHAP") no.0.1,

@@ -11,40 +11,40 @@ use Rattle.frame.proofs.Children.{name_closed, name_goes_on, no_zeros, no_names,
 use Rattle.frame.proofs.chapter.names_len.Statement.{statement}
 use Rattle.frame.proofs.chapter.names_len.Tie as tie
 
-abbrev invariant_loop : tie.invariant-loop
+abbrev invariant_loop : tie.invariant-loop-left
 invariant_loop s count left₀ i₀ left i =
     (i ≤ length s) × (left + zeros_in s ≡ count + zeros_in (drop i s)) × (i + names_len left (drop i s) ≡ names_len count s)
 
-abbrev decreases_loop : tie.decreases-loop
+abbrev decreases_loop : tie.decreases-loop-left
 decreases_loop s count left₀ i₀ left i = length s - i
 
-returns : tie.Need-returns invariant_loop decreases_loop
+returns : tie.Need-returns-then-i-s invariant_loop decreases_loop
 returns c =
     let at_start = c.before.before.before in
     let a = at_start.args in
     let s = a.s.now in
-    let L = c.before.before.loop in
+    let L = c.before.before.loop-left in
     names_missing a.count s (omega (arith, no_zeros (drop L.i s) (omega (arith, length-drop L.i s))))
 
-loop_again : tie.Need-loop-preserved invariant_loop decreases_loop
+loop_again : tie.Need-loop-left-preserved invariant_loop decreases_loop
 loop_again c =
     let at_loop_test = c.before.before.before in
     let at_loop = at_loop_test.before in
     let at_start = at_loop.before in
     let s = at_start.args.s.now in
-    let L = at_loop.loop in
-    let lt = c.before.before.if1.false in
-    let some = at_loop_test.loop-test.true in
+    let L = at_loop.loop-left in
+    let lt = c.before.before.if-i-s.false in
+    let some = at_loop_test.loop-left-test.true in
     ⊎_elim
     (λ w. rw w.1 (omega (arith, name_closed s L.i lt L.left some w.0.taken)))
     (λ w. rw w.1 (omega (arith, name_goes_on s L.i lt L.left some w.0.left)))
-    c.if2.branch
+    c.if-s-i-eq0.branch
 
-returns_2 : tie.Need-returns-2 invariant_loop decreases_loop
+returns_2 : tie.Need-returns invariant_loop decreases_loop
 returns_2 c =
     let a = c.before.before.args in
     let s = a.s.now in
-    let L = c.before.loop in
+    let L = c.before.loop-left in
     names_there a.count s L.i (omega arith) (omega (arith, no_names L.left (drop L.i s) (omega arith)))
 
 pub names_len_spec : {M : Type 1} → statement M

@@ -8,28 +8,28 @@ use Rattle.frame.proofs.Bodies.{refused, accepted, chapter_cut, chapter_whole, c
 use Rattle.frame.proofs.chapter.parse_chapter.Statement.{statement}
 use Rattle.frame.proofs.chapter.parse_chapter.Tie as tie
 
-add_run : tie.Need-overflow-add-run
-add_run c = omega (arith, zero_le c.before.part.result.now, c.before.part.type-inv)
+add_run : tie.Need-overflow_add-run
+add_run c = omega (arith, zero_le c.before.part-b.result.now, c.before.part-b.type-inv)
 
-returns : tie.Need-returns
+returns : tie.Need-returns-then-b-run
 returns c v =
     let at_start = c.before.before.before.before in
     let a = at_start.args in
-    let b = c.before.before.part in
-    let z = c.before.zero-at in
-    refused v Kind.Chapter a.from b.result.now _ b.ensures 10 (chapter_cut b.result.now z.result z.ensures c.if1.true)
+    let b = c.before.before.part-b in
+    let z = c.before.zero_at-len in
+    refused v Kind.Chapter a.from b.result.now _ b.ensures 10 (chapter_cut b.result.now z.result z.ensures c.if-b-run.true)
 
-add_start : tie.Need-overflow-add-start
+add_start : tie.Need-overflow_add-start
 add_start c =
     let at_if1 = c.before.before.before.before in
     let at_part = at_if1.before.before in
     let at_start = at_part.before.before in
     let a = at_start.args in
-    let b = at_part.part in
-    let whole = at_if1.if1.false in
+    let b = at_part.part-b in
+    let whole = at_if1.if-b-run.false in
     omega (arith, cut_lies a.from a.to a.s.now b.result.now b.ensures (omega arith))
 
-returns_2 : tie.Need-returns-2
+returns_2 : tie.Need-returns
 returns_2 c v =
     let at_read322 = c.before.before.before in
     let at_read32 = at_read322.before in
@@ -38,16 +38,16 @@ returns_2 c v =
     let at_part = at_zero_at.before in
     let at_start = at_part.before.before in
     let a = at_start.args in
-    let b = at_part.part in
-    let z = at_zero_at.zero-at in
+    let b = at_part.part-b in
+    let z = at_zero_at.zero_at-len in
     let none = c.nowhere in
     accepted v Kind.Chapter a.from b.result.now _ b.ensures _
-    (chapter_whole b.result.now z.result z.ensures at_if1.if1.false)
+    (chapter_whole b.result.now z.result z.ensures at_if1.if-b-run.false)
     (chapter_parts b.result.now z.result z.ensures v a.from _ _ _ _ none.result
     at_read32.read32.ensures
-    at_read322.read322.ensures
-    c.before.before.read323.ensures
-    c.before.read324.ensures
+    at_read322.read32-2.ensures
+    c.before.before.read32-3.ensures
+    c.before.read32-4.ensures
     none.ensures)
 
 pub parse_chapter_spec : {M : Type 1} → statement M

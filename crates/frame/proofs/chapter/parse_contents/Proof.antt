@@ -17,18 +17,18 @@ use Rattle.frame.proofs.Bodies.{refused, accepted, contents_cut, contents_missin
 use Rattle.frame.proofs.chapter.parse_contents.Statement.{statement}
 use Rattle.frame.proofs.chapter.parse_contents.Tie as tie
 
-add_at : tie.Need-overflow-add-at
-add_at c = omega (arith, zero_le c.before.part.result.now, c.before.part.type-inv)
+add_at : tie.Need-overflow_add-at
+add_at c = omega (arith, zero_le c.before.part-b.result.now, c.before.part-b.type-inv)
 
-returns : tie.Need-returns
+returns : tie.Need-returns-then-b-at
 returns c v =
     let at_start = c.before.before.before.before in
     let a = at_start.args in
-    let b = c.before.before.part in
-    let z = c.before.zero-at in
-    refused v Kind.Contents a.from b.result.now _ b.ensures 10 (contents_cut b.result.now z.result z.ensures c.if1.true)
+    let b = c.before.before.part-b in
+    let z = c.before.zero_at-len in
+    refused v Kind.Contents a.from b.result.now _ b.ensures 10 (contents_cut b.result.now z.result z.ensures c.if-b-at.true)
 
-returns_2 : tie.Need-returns-2
+returns_2 : tie.Need-returns-in_default
 returns_2 c v =
     let at_part2 = c.before.before.before in
     let at_if1 = at_part2.before.before.before in
@@ -36,72 +36,72 @@ returns_2 c v =
     let at_part = at_zero_at.before in
     let at_start = at_part.before.before in
     let a = at_start.args in
-    let b = at_part.part in
-    let z = at_zero_at.zero-at in
-    let names = at_part2.part2 in
-    let missing = names_cut _ _ (sym c.enum_told.given.1 ∙ c.before.before.names-len.ensures) in
+    let b = at_part.part-b in
+    let z = at_zero_at.zero_at-len in
+    let names = at_part2.part in
+    let missing = names_cut _ _ (sym c.enum_told-1.given.1 ∙ c.before.before.names_len.ensures) in
     refused v Kind.Contents a.from b.result.now _ b.ensures 10
-    (contents_missing b.result.now z.result z.ensures names.result.now names.ensures at_if1.if1.false missing)
+    (contents_missing b.result.now z.result z.ensures names.result.now names.ensures at_if1.if-b-at.false missing)
 
 -- where the names are there
-module _ (c : tie.After-known-told) where
-  abbrev at_if1 : tie.Else1
+module _ (c : tie.In-Whole) where
+  abbrev at_if1 : tie.Else-b-at
   at_if1 = let at_Names = c.before.before.before.before in at_Names.before.before.before
 
   abbrev b : List ℕ
-  b = at_if1.before.before.part.result.now
+  b = at_if1.before.before.part-b.result.now
 
   abbrev len : ℕ
-  len = at_if1.before.zero-at.result
+  len = at_if1.before.zero_at-len.result
 
   abbrev names : List ℕ
-  names = c.before.before.before.before.part2.result.now
+  names = c.before.before.before.before.part.result.now
 
   abbrev n : ℕ
-  n = c.before.n.given.0.0
+  n = c.before.n-1.given.0.0
 
   answer : (leb (get_or b (len + 2) 0) (zeros_in names) ≡ true) × (n ≡ names_len (get_or b (len + 2) 0) names)
-  answer = names_whole (get_or b (len + 2) 0) names n (sym c.before.n.given.1 ∙ c.before.before.before.names-len.ensures)
+  answer = names_whole (get_or b (len + 2) 0) names n (sym c.before.n-1.given.1 ∙ c.before.before.before.names_len.ensures)
 
   within : len + 3 + n ≤ length b
   within =
-      let z = at_if1.before.zero-at.ensures in
-      let reaches = at_if1.if1.left in
-      contents_within b len z names c.before.before.before.before.part2.ensures reaches (get_or b (len + 2) 0) n answer.1
+      let z = at_if1.before.zero_at-len.ensures in
+      let reaches = at_if1.if-b-at.left in
+      contents_within b len z names c.before.before.before.before.part.ensures reaches (get_or b (len + 2) 0) n answer.1
 
-add_run : tie.Need-overflow-add-run
+add_run : tie.Need-overflow_add-run
 add_run c =
     let at_part2 = c.before.before.before.before in
     let at_if1 = at_part2.before.before.before in
     let at_part = at_if1.before.before in
-    omega (arith, within c, at_part.part.type-inv)
+    omega (arith, within c, at_part.part-b.type-inv)
 
-add_first : tie.Need-overflow-add-first
+add_first : tie.Need-overflow_add-first
 add_first c =
     let at_part2 = c.before.before.before.before in
     let at_if1 = at_part2.before.before.before in
     let at_part = at_if1.before.before in
     let at_start = at_part.before.before in
     let a = at_start.args in
-    let e = at_part.part.ensures in
+    let e = at_part.part-b.ensures in
     let h = within c in
     omega (arith, cut_lies a.from a.to a.s.now (b c) e (omega arith))
 
-add_start : tie.Need-overflow-add-start
+add_start : tie.Need-overflow_add-start
 add_start c =
     let at_part2 = c.before.before.before.before in
     let at_if1 = at_part2.before.before.before in
     let at_part = at_if1.before.before in
     let at_start = at_part.before.before in
     let a = at_start.args in
-    let e = at_part.part.ensures in
+    let e = at_part.part-b.ensures in
     let h = within c in
     omega (arith, cut_lies a.from a.to a.s.now (b c) e (omega arith))
 
-sub_left : tie.Need-overflow-sub-left
+sub_left : tie.Need-overflow_sub-left
 sub_left c = within c
 
-returns_3 : tie.Need-returns-3
+returns_3 : tie.Need-returns
 returns_3 c v =
     let at_part2 = c.before.before.before.before in
     let at_if1 = at_part2.before.before.before in
@@ -109,11 +109,11 @@ returns_3 c v =
     let at_part = at_zero_at.before in
     let at_start = at_part.before.before in
     let a = at_start.args in
-    let b = at_part.part in
-    let z = at_zero_at.zero-at in
-    let names = at_part2.part2 in
+    let b = at_part.part-b in
+    let z = at_zero_at.zero_at-len in
+    let names = at_part2.part in
     accepted v Kind.Contents a.from b.result.now _ b.ensures _
-    (contents_whole b.result.now z.result z.ensures names.result.now names.ensures at_if1.if1.false (answer c).0)
+    (contents_whole b.result.now z.result z.ensures names.result.now names.ensures at_if1.if-b-at.false (answer c).0)
     (contents_parts b.result.now z.result z.ensures names.result.now names.ensures v a.from (n c) (answer c).1)
 
 pub parse_contents_spec : {M : Type 1} → statement M

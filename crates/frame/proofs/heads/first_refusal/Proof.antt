@@ -9,48 +9,48 @@ use Rattle.frame.proofs.Headers.{too_deep, not_deep, head_some}
 use Rattle.frame.proofs.heads.first_refusal.Statement.{statement}
 use Rattle.frame.proofs.heads.first_refusal.Tie as tie
 
-returns : tie.Need-returns
-returns c = let a = c.before.before.args in too_deep a.version a.depth a.b.now c.if1.true
+returns : tie.Need-returns-then-depth-gt-DEEPEST
+returns c = let a = c.before.before.args in too_deep a.version a.depth a.b.now c.if-depth-gt-DEEPEST.true
 
-is_id_3_requires : tie.Need-is-id-3-requires
+is_id_3_requires : tie.Need-is_id_3-requires
 is_id_3_requires c κs =
     let a = c.before.before.before.before in omega (arith, head_some a.args.version, a.requires)
 
-id_refusal_requires : tie.Need-id-refusal-requires
+id_refusal_requires : tie.Need-id_refusal-requires
 id_refusal_requires c κs =
-    let at_start = c.before.before.before.before in rw c.enum-told2.given.1 at at_start.requires
+    let at_start = c.before.before.before.before in rw c.enum_told-in-Id3v23-1.given.1 at at_start.requires
 
-id_refusal_requires_2 : tie.Need-id-refusal-requires-2
+id_refusal_requires_2 : tie.Need-id_refusal-requires-in-Id3v24
 id_refusal_requires_2 c κs =
-    let at_start = c.before.before.before.before in rw c.enum-told3.given.1 at at_start.requires
+    let at_start = c.before.before.before.before in rw c.enum_told-in-Id3v24-1.given.1 at at_start.requires
 
-returns_2 : tie.Need-returns-2
+returns_2 : tie.Need-returns-then-is_id_3
 unfolding first
 returns_2 c =
     let at_match = c.before.before in
     let a = at_match.before.before.before.before.args in
-    let utf8 = sym c.before.is-id-3.ensures ∙ c.if2.true in
-    rw (at_match.enum_told.given.1, le-ltb 8 a.depth at_match.before.before.if1.false, utf8)
+    let utf8 = sym c.before.is_id_3.ensures ∙ c.if-is_id_3.true in
+    rw (at_match.enum_told-1.given.1, le-ltb 8 a.depth at_match.before.before.if-depth-gt-DEEPEST.false, utf8)
 
-returns_3 : tie.Need-returns-3
+returns_3 : tie.Need-returns-else-is_id_3
 unfolding first
 returns_3 c =
     let at_match = c.before.before in
     let a = at_match.before.before.before.before.args in
-    let utf8 = sym c.before.is-id-3.ensures ∙ c.if2.false in
-    rw (at_match.enum_told.given.1, le-ltb 8 a.depth at_match.before.before.if1.false, utf8)
+    let utf8 = sym c.before.is_id_3.ensures ∙ c.if-is_id_3.false in
+    rw (at_match.enum_told-1.given.1, le-ltb 8 a.depth at_match.before.before.if-depth-gt-DEEPEST.false, utf8)
 
-returns_4 : tie.Need-returns-4
+returns_4 : tie.Need-returns-in-Id3v23
 returns_4 c =
     let at_match = c.before in
     let a = at_match.before.before.before.before.args in
-    rw at_match.enum-told2.given.1 (c.id-refusal.ensures ∙ not_deep Id3v23 a.depth a.b.now at_match.before.before.if1.false)
+    rw at_match.enum_told-in-Id3v23-1.given.1 (c.id_refusal.ensures ∙ not_deep Id3v23 a.depth a.b.now at_match.before.before.if-depth-gt-DEEPEST.false)
 
-returns_5 : tie.Need-returns-5
+returns_5 : tie.Need-returns-in-Id3v24
 returns_5 c =
     let at_match = c.before in
     let a = at_match.before.before.before.before.args in
-    rw at_match.enum-told3.given.1 (c.id-refusal2.ensures ∙ not_deep Id3v24 a.depth a.b.now at_match.before.before.if1.false)
+    rw at_match.enum_told-in-Id3v24-1.given.1 (c.id_refusal-in-Id3v24.ensures ∙ not_deep Id3v24 a.depth a.b.now at_match.before.before.if-depth-gt-DEEPEST.false)
 
 pub first_refusal_spec : {M : Type 1} → statement M
 first_refusal_spec =

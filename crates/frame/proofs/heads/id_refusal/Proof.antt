@@ -6,36 +6,36 @@ use Rattle.format.specs.Bytes.{first}
 use Rattle.frame.proofs.heads.id_refusal.Statement.{statement}
 use Rattle.frame.proofs.heads.id_refusal.Tie as tie
 
-returns : tie.Need-returns
+returns : tie.Need-returns-then-not-is_id_4
 unfolding first
-returns c = rw (sym c.before.is-id-4.ensures ∙ not-true _ c.if1.true)
+returns c = rw (sym c.before.is_id_4.ensures ∙ not-true _ c.if-not-is_id_4.true)
 
-returns_2 : tie.Need-returns-2
+returns_2 : tie.Need-returns-then-has
 unfolding first
 returns_2 c =
     let at_id = c.before.before.before in
-    rw (sym at_id.before.is-id-4.ensures ∙ not-false _ at_id.if1.false, sym c.before.has.ensures ∙ c.if2.true)
+    rw (sym at_id.before.is_id_4.ensures ∙ not-false _ at_id.if-not-is_id_4.false, sym c.before.has.ensures ∙ c.if-has.true)
 
-returns_3 : tie.Need-returns-3
+returns_3 : tie.Need-returns-then-has-2
 unfolding first
 returns_3 c =
     let at_encrypted = c.before.before.before in
     let at_id = at_encrypted.before.before.before in
     rw (
-      sym at_id.before.is-id-4.ensures ∙ not-false _ at_id.if1.false,
-      sym at_encrypted.before.has.ensures ∙ at_encrypted.if2.false,
-      sym c.before.has2.ensures ∙ c.if3.true,
+      sym at_id.before.is_id_4.ensures ∙ not-false _ at_id.if-not-is_id_4.false,
+      sym at_encrypted.before.has.ensures ∙ at_encrypted.if-has.false,
+      sym c.before.has-2.ensures ∙ c.if-has-2.true,
     )
 
-returns_4 : tie.Need-returns-4
+returns_4 : tie.Need-returns-else-has-2
 unfolding first
 returns_4 c =
     let at_encrypted = c.before.before.before in
     let at_id = at_encrypted.before.before.before in
     rw (
-      sym at_id.before.is-id-4.ensures ∙ not-false _ at_id.if1.false,
-      sym at_encrypted.before.has.ensures ∙ at_encrypted.if2.false,
-      sym c.before.has2.ensures ∙ c.if3.false,
+      sym at_id.before.is_id_4.ensures ∙ not-false _ at_id.if-not-is_id_4.false,
+      sym at_encrypted.before.has.ensures ∙ at_encrypted.if-has.false,
+      sym c.before.has-2.ensures ∙ c.if-has-2.false,
     )
 
 pub id_refusal_spec : {M : Type 1} → statement M

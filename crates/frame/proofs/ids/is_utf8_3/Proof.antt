@@ -6,16 +6,16 @@ use Rattle.frame.proofs.Utf8.{ascii_3}
 use Rattle.frame.proofs.ids.is_utf8_3.Statement.{statement}
 use Rattle.frame.proofs.ids.is_utf8_3.Tie as tie
 
-returns : tie.Need-returns
-returns c = let a = c.before.args in sym (ascii_3 a.a a.b a.c c.if1.true)
+returns : tie.Need-returns-then-a-b-lt128
+returns c = let a = c.before.args in sym (ascii_3 a.a a.b a.c c.if-a-b-lt128.true)
 
-returns_2 : tie.Need-returns-2
+returns_2 : tie.Need-returns
 returns_2 c =
     let at_lead = c.before.before.before in
     let at_start = at_lead.before.before in
     let a = at_start.args in
-    c.is-over.ensures
-    ∙ c.before.next2.ensures []
+    c.is_over.ensures
+    ∙ c.before.next-2.ensures []
     ∙ c.before.before.next.ensures (a.c ∷ [])
     ∙ at_lead.lead.ensures (a.b ∷ a.c ∷ [])
 

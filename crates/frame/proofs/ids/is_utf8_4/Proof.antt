@@ -6,18 +6,18 @@ use Rattle.frame.proofs.Utf8.{ascii_4}
 use Rattle.frame.proofs.ids.is_utf8_4.Statement.{statement}
 use Rattle.frame.proofs.ids.is_utf8_4.Tie as tie
 
-returns : tie.Need-returns
-returns c = let a = c.before.args in sym (ascii_4 a.a a.b a.c a.d c.if1.true)
+returns : tie.Need-returns-then-a-b-lt128
+returns c = let a = c.before.args in sym (ascii_4 a.a a.b a.c a.d c.if-a-b-lt128.true)
 
-returns_2 : tie.Need-returns-2
+returns_2 : tie.Need-returns
 returns_2 c =
     let at_next = c.before.before.before in
     let at_lead = at_next.before in
     let at_start = at_lead.before.before in
     let a = at_start.args in
-    c.is-over.ensures
-    ∙ c.before.next3.ensures []
-    ∙ c.before.before.next2.ensures (a.d ∷ [])
+    c.is_over.ensures
+    ∙ c.before.next-3.ensures []
+    ∙ c.before.before.next-2.ensures (a.d ∷ [])
     ∙ at_next.next.ensures (a.c ∷ a.d ∷ [])
     ∙ at_lead.lead.ensures (a.b ∷ a.c ∷ a.d ∷ [])
 

@@ -5,40 +5,40 @@ use Rattle.frame.proofs.Utf8.{none_due, tail, tail_low, tail_high}
 use Rattle.frame.proofs.ids.next.Statement.{statement}
 use Rattle.frame.proofs.ids.next.Tie as tie
 
-returns : tie.Need-returns
-returns c s = rw c.enum_told.given.1
+returns : tie.Need-returns-in_default
+returns c s = rw c.enum_told-1.given.1
 
-returns_2 : tie.Need-returns-2
+returns_2 : tie.Need-returns-then-count-eq0
 returns_2 c s =
     let at_due = c.before.before.before in
     let at_start = at_due.before.before in
     let b = at_start.args.b in
-    let d = at_due.due.given in
-    rw d.1 (c.lead.ensures s ∙ none_due _ _ b s _ c.before.if1.true)
+    let d = at_due.due-1.given in
+    rw d.1 (c.lead.ensures s ∙ none_due _ _ b s _ c.before.if-count-eq0.true)
 
-returns_3 : tie.Need-returns-3
+returns_3 : tie.Need-returns-then-b-low
 returns_3 c s =
     let at_due = c.before.before.before in
     let at_start = at_due.before.before in
     let b = at_start.args.b in
-    let d = at_due.due.given in
-    rw d.1 (tail_low _ _ b s _ c.before.if1.false c.if2.true)
+    let d = at_due.due-1.given in
+    rw d.1 (tail_low _ _ b s _ c.before.if-count-eq0.false c.if-b-low.true)
 
-returns_4 : tie.Need-returns-4
+returns_4 : tie.Need-returns-then-high-b
 returns_4 c s =
     let at_due = c.before.before.before.before in
     let at_start = at_due.before.before in
     let b = at_start.args.b in
-    let d = at_due.due.given in
-    rw d.1 (tail_high _ _ b s _ c.before.before.if1.false c.before.if2.false c.if3.true)
+    let d = at_due.due-1.given in
+    rw d.1 (tail_high _ _ b s _ c.before.before.if-count-eq0.false c.before.if-b-low.false c.if-high-b.true)
 
-returns_5 : tie.Need-returns-5
+returns_5 : tie.Need-returns
 returns_5 c s =
     let at_due = c.before.before.before.before in
     let at_start = at_due.before.before in
     let b = at_start.args.b in
-    let d = at_due.due.given in
-    rw d.1 (tail _ _ b s _ c.before.before.if1.false c.before.if2.false c.if3.false)
+    let d = at_due.due-1.given in
+    rw d.1 (tail _ _ b s _ c.before.before.if-count-eq0.false c.before.if-b-low.false c.if-high-b.false)
 
 pub next_spec : {M : Type 1} → statement M
 next_spec =

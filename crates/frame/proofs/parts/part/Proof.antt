@@ -8,9 +8,9 @@ returns : tie.Need-returns
 returns c =
     let at_start = c.before.before.before.before in
     let a = at_start.args in
-    let end = c.before.before.least in
-    let start = c.before.least2 in
-    part_cut a.from a.to start.result end.result a.s.now end.ensures start.ensures
+    let end = c.before.before.least-end in
+    let start = c.before.least-start in
+    part_cut a.from a.to start.result-1 end.result-1 a.s.now end.ensures start.ensures
 
 pub part_spec : {M : Type 1} → statement M
 part_spec =

@@ -9,32 +9,32 @@ use Rattle.frame.proofs.Ends.{zero_here, zero_next, zero_none}
 use Rattle.frame.proofs.parts.zero_at.Statement.{statement}
 use Rattle.frame.proofs.parts.zero_at.Tie as tie
 
-abbrev invariant_loop : tie.invariant-loop
+abbrev invariant_loop : tie.invariant-loop-i
 invariant_loop s i₀ i = (i ≤ length s) × (i + zero_at (drop i s) ≡ zero_at s)
 
-abbrev decreases_loop : tie.decreases-loop
+abbrev decreases_loop : tie.decreases-loop-i
 decreases_loop s i₀ i = length s - i
 
-returns : tie.Need-returns invariant_loop decreases_loop
+returns : tie.Need-returns-then-s-i-eq0 invariant_loop decreases_loop
 returns c =
     let at_loop = c.before.before.before in
     let at_start = at_loop.before in
     let s = at_start.args.s.now in
-    let L = at_loop.loop in
-    omega (arith, zero_here s L.i c.before.before.loop-test.true c.if1.true)
+    let L = at_loop.loop-i in
+    omega (arith, zero_here s L.i c.before.before.loop-i-test.true c.if-s-i-eq0.true)
 
-loop_again : tie.Need-loop-preserved invariant_loop decreases_loop
+loop_again : tie.Need-loop-i-preserved invariant_loop decreases_loop
 loop_again c =
     let at_loop = c.before.before.before in
     let at_start = at_loop.before in
     let s = at_start.args.s.now in
-    let L = at_loop.loop in
-    omega (arith, zero_next s L.i c.before.before.loop-test.true c.if1.false)
+    let L = at_loop.loop-i in
+    omega (arith, zero_next s L.i c.before.before.loop-i-test.true c.if-s-i-eq0.false)
 
-returns_2 : tie.Need-returns-2 invariant_loop decreases_loop
+returns_2 : tie.Need-returns invariant_loop decreases_loop
 returns_2 c =
     let s = c.before.before.args.s.now in
-    let L = c.before.loop in
+    let L = c.before.loop-i in
     omega (arith, zero_none (drop L.i s) (omega (arith, length-drop L.i s)))
 
 pub zero_at_spec : {M : Type 1} → statement M

@@ -7,40 +7,40 @@ use Rattle.frame.proofs.Counters.{Skipped, skip, begins_large, begins_last}
 use Rattle.frame.proofs.popularimeter.after_zeros.Statement.{statement}
 use Rattle.frame.proofs.popularimeter.after_zeros.Tie as tie
 
-abbrev invariant_loop : tie.invariant-loop
+abbrev invariant_loop : tie.invariant-loop-i
 invariant_loop s from to i₀ i = Skipped from to s i
 
-abbrev decreases_loop : tie.decreases-loop
+abbrev decreases_loop : tie.decreases-loop-i
 decreases_loop s from to i₀ i = to - i
 
-loop_holds : tie.Need-loop-init invariant_loop decreases_loop
+loop_holds : tie.Need-loop-i-init invariant_loop decreases_loop
 loop_holds c = record { order = c.requires.0; same = refl }
 
-sub_loop : tie.Need-overflow-sub-loop invariant_loop decreases_loop
-sub_loop c = c.loop.invariant.order
+sub_loop : tie.Need-overflow_sub-to invariant_loop decreases_loop
+sub_loop c = c.loop-i.invariant.order
 
-shared_slice_read_if1 : tie.Need-shared-slice-read-if1 invariant_loop decreases_loop
+shared_slice_read_if1 : tie.Need-bounds-s-i invariant_loop decreases_loop
 shared_slice_read_if1 c = let p = c.before.before.before.requires in omega arith
 
-returns : tie.Need-returns invariant_loop decreases_loop
+returns : tie.Need-returns-then-s-i-ne0 invariant_loop decreases_loop
 returns c =
     let at_loop = c.before.before.before in
     let a = at_loop.before.args in
-    let L = at_loop.loop in
-    begins_large a.from a.to a.s.now at_loop.before.requires.1 L.i L.invariant (omega arith) (λ zero. omega (arith, c.if1.true))
+    let L = at_loop.loop-i in
+    begins_large a.from a.to a.s.now at_loop.before.requires.1 L.i L.invariant (omega arith) (λ zero. omega (arith, c.if-s-i-ne0.true))
 
-loop_again : tie.Need-loop-preserved invariant_loop decreases_loop
+loop_again : tie.Need-loop-i-preserved invariant_loop decreases_loop
 loop_again c =
     let at_loop = c.before.before.before in
     let a = at_loop.before.args in
-    let L = at_loop.loop in
-    skip a.from a.to a.s.now at_loop.before.requires.1 L.i L.invariant (omega arith) (omega (arith, c.if1.false))
+    let L = at_loop.loop-i in
+    skip a.from a.to a.s.now at_loop.before.requires.1 L.i L.invariant (omega arith) (omega (arith, c.if-s-i-ne0.false))
 
-returns_2 : tie.Need-returns-2 invariant_loop decreases_loop
+returns_2 : tie.Need-returns invariant_loop decreases_loop
 returns_2 c =
     let at_loop = c.before in
     let a = at_loop.before.args in
-    let L = at_loop.loop in
+    let L = at_loop.loop-i in
     begins_last a.from a.to a.s.now at_loop.before.requires.1 L.i L.invariant (omega arith)
 
 pub after_zeros_spec : {M : Type 1} → statement M

@@ -14,85 +14,85 @@ use Rattle.frame.proofs.Bodies.{refused, accepted, counter_lies, popularimeter_c
 use Rattle.frame.proofs.popularimeter.parse.Statement.{statement}
 use Rattle.frame.proofs.popularimeter.parse.Tie as tie
 
-add_if1 : tie.Need-overflow-add-if1
-add_if1 c = omega (arith, zero_le c.before.part.result.now, c.before.part.type-inv)
+add_if1 : tie.Need-overflow_add-len
+add_if1 c = omega (arith, zero_le c.before.part-b.result.now, c.before.part-b.type-inv)
 
-returns : tie.Need-returns
+returns : tie.Need-returns-then-b-len
 returns c v =
     let at_start = c.before.before.before.before in
     let a = at_start.args in
-    let b = c.before.before.part in
-    let z = c.before.zero-at in
-    refused v Kind.Popularimeter a.from b.result.now _ b.ensures 10 (popularimeter_cut b.result.now z.result z.ensures c.if1.true)
+    let b = c.before.before.part-b in
+    let z = c.before.zero_at-len in
+    refused v Kind.Popularimeter a.from b.result.now _ b.ensures 10 (popularimeter_cut b.result.now z.result z.ensures c.if-b-len.true)
 
 -- the body lies in the buffer
-lies : (c : tie.Else1) →
+lies : (c : tie.Else-b-len) →
     let at_part = c.before.before in
-    at_part.before.before.args.from + length at_part.part.result.now ≤ length at_part.before.before.args.s.now
+    at_part.before.before.args.from + length at_part.part-b.result.now ≤ length at_part.before.before.args.s.now
 lies c =
     let at_part = c.before.before in
     let a = at_part.before.before.args in
-    let b = at_part.part in
+    let b = at_part.part-b in
     cut_lies a.from a.to a.s.now b.result.now b.ensures (omega arith)
 
 -- and the counter in it
-counter_in_lem : (c : tie.Else1) →
+counter_in_lem : (c : tie.Else-b-len) →
     let at_part = c.before.before in
     let a = at_part.before.before.args in
-    let len = c.before.zero-at.result in
-    let b = at_part.part.result.now in
+    let len = c.before.zero_at-len.result in
+    let b = at_part.part-b.result.now in
     number (slice (a.from + len + 2) (a.from + length b) a.s.now) ≡ number (drop (len + 2) b)
 counter_in_lem c =
     let at_part = c.before.before in
     let a = at_part.before.before.args in
-    let b = at_part.part in
-    ap number (counter_lies a.from a.to c.before.zero-at.result a.s.now b.result.now b.ensures c.if1.false)
+    let b = at_part.part-b in
+    ap number (counter_lies a.from a.to c.before.zero_at-len.result a.s.now b.result.now b.ensures c.if-b-len.false)
 
-add_start : tie.Need-overflow-add-start
+add_start : tie.Need-overflow_add-start
 add_start c = omega (arith, lies c.before)
 
-add_start_2 : tie.Need-overflow-add-start-2
+add_start_2 : tie.Need-overflow_add-start-2
 add_start_2 c = omega (arith, lies c.before)
 
-add_end : tie.Need-overflow-add-end
+add_end : tie.Need-overflow_add-end
 add_end c = omega (arith, lies c.before)
 
-after_zeros_requires : tie.Need-after-zeros-requires
+after_zeros_requires : tie.Need-after_zeros-first-requires
 after_zeros_requires c κs = (omega arith, lies c.before)
 
-sub_if2 : tie.Need-overflow-sub-if2
-sub_if2 c = let begins = c.after-zeros.ensures in omega arith
+sub_if2 : tie.Need-overflow_sub-end
+sub_if2 c = let begins = c.after_zeros-first.ensures in omega arith
 
-returns_2 : tie.Need-returns-2
+returns_2 : tie.Need-returns-then-end-first-gt8
 returns_2 c v =
     let at_if1 = c.before.before.before in
     let at_part = at_if1.before.before in
     let a = at_part.before.before.args in
-    let b = at_part.part in
-    let z = at_if1.before.zero-at in
-    let begins = c.before.after-zeros.ensures in
-    let large : 2 ^ 64 ≤ number (drop (z.result + 2) b.result.now) = omega (arith, begins.large c.if2.true, begins.same, counter_in_lem at_if1) in
+    let b = at_part.part-b in
+    let z = at_if1.before.zero_at-len in
+    let begins = c.before.after_zeros-first.ensures in
+    let large : 2 ^ 64 ≤ number (drop (z.result + 2) b.result.now) = omega (arith, begins.large c.if-end-first-gt8.true, begins.same, counter_in_lem at_if1) in
     refused v Kind.Popularimeter a.from b.result.now _ b.ensures 34
-    (popularimeter_large b.result.now z.result z.ensures at_if1.if1.false large)
+    (popularimeter_large b.result.now z.result z.ensures at_if1.if-b-len.false large)
 
-returns_3 : tie.Need-returns-3
+returns_3 : tie.Need-returns
 returns_3 c v =
     let at_zeros = c.before.before.before in
     let at_if1 = at_zeros.before.before in
     let at_part = at_if1.before.before in
     let a = at_part.before.before.args in
-    let b = at_part.part in
-    let z = at_if1.before.zero-at in
-    let n = c.before.read64 in
-    let rated = at_if1.if1.false in
+    let b = at_part.part-b in
+    let z = at_if1.before.zero_at-len in
+    let n = c.before.read64-counter in
+    let rated = at_if1.if-b-len.false in
     let counter : n.result ≡ number (drop (z.result + 2) b.result.now) =
-    counter_read (a.from + z.result + 2) (a.from + length b.result.now) at_zeros.after-zeros.result n.result a.s.now
-    at_zeros.after-zeros.ensures (omega arith) n.ensures
+    counter_read (a.from + z.result + 2) (a.from + length b.result.now) at_zeros.after_zeros-first.result n.result a.s.now
+    at_zeros.after_zeros-first.ensures (omega arith) n.ensures
     ∙ counter_in_lem at_if1 in
     let fits : number (drop (z.result + 2) b.result.now) < 2 ^ 64 = omega (arith, counter, n.type-inv) in
     accepted v Kind.Popularimeter a.from b.result.now _ b.ensures _
     (popularimeter_whole b.result.now z.result z.ensures rated fits)
-    (popularimeter_parts b.result.now z.result z.ensures v a.from n.result c.nowhere.result counter c.nowhere.ensures)
+    (popularimeter_parts b.result.now z.result z.ensures v a.from n.result c.nowhere-none.result counter c.nowhere-none.ensures)
 
 pub parse_spec : {M : Type 1} → statement M
 parse_spec =

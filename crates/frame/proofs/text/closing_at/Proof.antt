@@ -9,38 +9,38 @@ use Rattle.frame.proofs.Ends.{trim_none, trim_zero, closing_kept, closing_none}
 use Rattle.frame.proofs.text.closing_at.Statement.{statement}
 use Rattle.frame.proofs.text.closing_at.Tie as tie
 
-abbrev invariant_loop : tie.invariant-loop
+abbrev invariant_loop : tie.invariant-loop-i
 invariant_loop s i₀ i = (i ≤ length s) × (min 1 (length s) ≤ i) × (trimmed (drop i s) ≡ 0)
 
-abbrev decreases_loop : tie.decreases-loop
+abbrev decreases_loop : tie.decreases-loop-i
 decreases_loop s i₀ i = i
 
-loop_holds : tie.Need-loop-init invariant_loop decreases_loop
+loop_holds : tie.Need-loop-i-init invariant_loop decreases_loop
 loop_holds c =
     let s = c.args.s.now in
     (omega arith, omega arith, trim_none (drop (length s) s) (omega (arith, length-drop (length s) s)))
 
-returns : tie.Need-returns invariant_loop decreases_loop
+returns : tie.Need-returns-then-s-i-ne0 invariant_loop decreases_loop
 returns c =
     let at_loop = c.before.before.before in
     let at_start = at_loop.before in
     let s = at_start.args.s.now in
-    let L = at_loop.loop in
-    sym (closing_kept L.i s (omega arith) L.invariant.0 L.invariant.2 c.if1.true)
+    let L = at_loop.loop-i in
+    sym (closing_kept L.i s (omega arith) L.invariant.0 L.invariant.2 c.if-s-i-ne0.true)
 
-loop_again : tie.Need-loop-preserved invariant_loop decreases_loop
+loop_again : tie.Need-loop-i-preserved invariant_loop decreases_loop
 loop_again c =
     let at_loop = c.before.before.before in
     let at_start = at_loop.before in
     let s = at_start.args.s.now in
-    let L = at_loop.loop in
-    (omega arith, omega arith, trim_zero L.i s (omega arith) L.invariant.0 L.invariant.2 c.if1.false)
+    let L = at_loop.loop-i in
+    (omega arith, omega arith, trim_zero L.i s (omega arith) L.invariant.0 L.invariant.2 c.if-s-i-ne0.false)
 
-returns_2 : tie.Need-returns-2 invariant_loop decreases_loop
+returns_2 : tie.Need-returns invariant_loop decreases_loop
 returns_2 c =
     let s = c.before.before.args.s.now in
-    let L = c.before.loop in
-    sym (closing_none L.i s c.loop-test.false L.invariant.1 L.invariant.2)
+    let L = c.before.loop-i in
+    sym (closing_none L.i s c.loop-i-test.false L.invariant.1 L.invariant.2)
 
 pub closing_at_spec : {M : Type 1} → statement M
 closing_at_spec =

@@ -10,49 +10,49 @@ use Rattle.frame.proofs.Ends.{pairs_none, pairs_zero, closing_pairs_kept, closin
 use Rattle.frame.proofs.text.closing_pair_at.Statement.{statement}
 use Rattle.frame.proofs.text.closing_pair_at.Tie as tie
 
-abbrev invariant_loop : tie.invariant-loop
+abbrev invariant_loop : tie.invariant-loop-i
 invariant_loop s i₀ i = (i ≤ length s) × (i % 2 ≡ 0) × (min 2 (length s) ≤ i + 1) × (trimmed_pairs (drop i s) ≡ 0)
 
-abbrev decreases_loop : tie.decreases-loop
+abbrev decreases_loop : tie.decreases-loop-i
 decreases_loop s i₀ i = i
 
-loop_holds : tie.Need-loop-init invariant_loop decreases_loop
+loop_holds : tie.Need-loop-i-init invariant_loop decreases_loop
 loop_holds c =
     let s = c.before.args.s.now in
     let i : ℕ = length s - length s % 2 in
     (omega arith, omega arith, omega arith, pairs_none (drop i s) (omega (arith, length-drop i s)))
 
-returns : tie.Need-returns invariant_loop decreases_loop
+returns : tie.Need-returns-then-not-zero_pair invariant_loop decreases_loop
 returns c =
     let at_loop_test = c.before.before.before.before in
     let at_loop = at_loop_test.before in
     let at_start = at_loop.before.before in
     let s = at_start.args.s.now in
-    let L = at_loop.loop in
-    let z = c.before.zero-pair in
-    let p = at_loop_test.loop-test.true in
-    sym (closing_pairs_kept L.i s p L.invariant.1 L.invariant.0 L.invariant.3 (sym (not-true _ c.if1.true) ∙ z.ensures))
+    let L = at_loop.loop-i in
+    let z = c.before.zero_pair in
+    let p = at_loop_test.loop-i-test.true in
+    sym (closing_pairs_kept L.i s p L.invariant.1 L.invariant.0 L.invariant.3 (sym (not-true _ c.if-not-zero_pair.true) ∙ z.ensures))
 
-loop_again : tie.Need-loop-preserved invariant_loop decreases_loop
+loop_again : tie.Need-loop-i-preserved invariant_loop decreases_loop
 loop_again c =
     let at_zero_pair = c.before in
     let at_loop = at_zero_pair.before.before.before.before in
     let at_start = at_loop.before.before in
     let s = at_start.args.s.now in
-    let L = at_loop.loop in
-    let z = c.before.zero-pair in (
+    let L = at_loop.loop-i in
+    let z = c.before.zero_pair in (
       omega arith,
       omega arith,
       omega arith,
-      pairs_zero L.i s (omega arith) L.invariant.0 L.invariant.3 (sym (not-false _ c.if1.false) ∙ z.ensures),
+      pairs_zero L.i s (omega arith) L.invariant.0 L.invariant.3 (sym (not-false _ c.if-not-zero_pair.false) ∙ z.ensures),
     )
 
-returns_2 : tie.Need-returns-2 invariant_loop decreases_loop
+returns_2 : tie.Need-returns invariant_loop decreases_loop
 returns_2 c =
     let at_start = c.before.before.before in
     let s = at_start.args.s.now in
-    let L = c.before.loop in
-    sym (closing_pairs_none L.i s c.loop-test.false L.invariant.1 L.invariant.2 L.invariant.3)
+    let L = c.before.loop-i in
+    sym (closing_pairs_none L.i s c.loop-i-test.false L.invariant.1 L.invariant.2 L.invariant.3)
 
 pub closing_pair_at_spec : {M : Type 1} → statement M
 closing_pair_at_spec =

@@ -3,29 +3,29 @@ use borrow.Author.Rules.{rules}
 use Rattle.frame.proofs.text.text_end.Statement.{statement}
 use Rattle.frame.proofs.text.text_end.Tie as tie
 
-returns : tie.Need-returns
+returns : tie.Need-returns-in-Id3v22
 returns c =
     let at_is_paired = c.before.before.before in
     let at_part = at_is_paired.before in
-    let text = at_part.part.ensures in
-    let paired = at_is_paired.is-paired.ensures in
-    rw (c.before.enum_told.given.1, ← text, ← paired) c.first-end.ensures
+    let text = at_part.part-text.ensures in
+    let paired = at_is_paired.is_paired-paired.ensures in
+    rw (c.before.enum_told-1.given.1, ← text, ← paired) c.first_end.ensures
 
-returns_2 : tie.Need-returns-2
+returns_2 : tie.Need-returns-in-Id3v23
 returns_2 c =
     let at_is_paired = c.before.before.before in
     let at_part = at_is_paired.before in
-    let text = at_part.part.ensures in
-    let paired = at_is_paired.is-paired.ensures in
-    rw (c.before.enum-told2.given.1, ← text, ← paired) c.first-end2.ensures
+    let text = at_part.part-text.ensures in
+    let paired = at_is_paired.is_paired-paired.ensures in
+    rw (c.before.enum_told-in-Id3v23-1.given.1, ← text, ← paired) c.first_end-in-Id3v23.ensures
 
-returns_3 : tie.Need-returns-3
+returns_3 : tie.Need-returns-in-Id3v24
 returns_3 c =
     let at_is_paired = c.before.before.before in
     let at_part = at_is_paired.before in
-    let text = at_part.part.ensures in
-    let paired = at_is_paired.is-paired.ensures in
-    rw (c.before.enum-told3.given.1, ← text, ← paired) c.closing-end.ensures
+    let text = at_part.part-text.ensures in
+    let paired = at_is_paired.is_paired-paired.ensures in
+    rw (c.before.enum_told-in-Id3v24-1.given.1, ← text, ← paired) c.closing_end.ensures
 
 pub text_end_spec : {M : Type 1} → statement M
 text_end_spec =

@@ -9,37 +9,37 @@ use Rattle.frame.proofs.Ends.{pair_here, pair_next, pair_none}
 use Rattle.frame.proofs.text.zero_pair_at.Statement.{statement}
 use Rattle.frame.proofs.text.zero_pair_at.Tie as tie
 
-abbrev invariant_loop : tie.invariant-loop
+abbrev invariant_loop : tie.invariant-loop-i
 invariant_loop s i₀ i = (i ≤ length s) × (i + zero_pair_at (drop i s) ≡ zero_pair_at s)
 
-abbrev decreases_loop : tie.decreases-loop
+abbrev decreases_loop : tie.decreases-loop-i
 decreases_loop s i₀ i = length s - i
 
-returns : tie.Need-returns invariant_loop decreases_loop
+returns : tie.Need-returns-then-zero_pair invariant_loop decreases_loop
 returns c =
     let at_loop_test = c.before.before.before.before in
     let at_loop = at_loop_test.before in
     let at_start = at_loop.before.before in
     let s = at_start.args.s.now in
-    let L = at_loop.loop in
-    let z = c.before.zero-pair in
-    omega (arith, pair_here s L.i at_loop_test.loop-test.true z.result z.ensures c.if1.true)
+    let L = at_loop.loop-i in
+    let z = c.before.zero_pair in
+    omega (arith, pair_here s L.i at_loop_test.loop-i-test.true z.result z.ensures c.if-zero_pair.true)
 
-loop_again : tie.Need-loop-preserved invariant_loop decreases_loop
+loop_again : tie.Need-loop-i-preserved invariant_loop decreases_loop
 loop_again c =
     let at_loop_test = c.before.before.before.before in
     let at_loop = at_loop_test.before in
     let at_start = at_loop.before.before in
     let s = at_start.args.s.now in
-    let L = at_loop.loop in
-    let z = c.before.zero-pair in
-    omega (arith, pair_next s L.i at_loop_test.loop-test.true z.result z.ensures c.if1.false)
+    let L = at_loop.loop-i in
+    let z = c.before.zero_pair in
+    omega (arith, pair_next s L.i at_loop_test.loop-i-test.true z.result z.ensures c.if-zero_pair.false)
 
-returns_2 : tie.Need-returns-2 invariant_loop decreases_loop
+returns_2 : tie.Need-returns invariant_loop decreases_loop
 returns_2 c =
     let at_start = c.before.before.before in
     let s = at_start.args.s.now in
-    let L = c.before.loop in
+    let L = c.before.loop-i in
     omega (arith, pair_none (drop L.i s) (omega (arith, length-drop L.i s)), length-drop L.i s)
 
 pub zero_pair_at_spec : {M : Type 1} → statement M

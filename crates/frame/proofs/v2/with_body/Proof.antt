@@ -15,8 +15,8 @@ returns : tie.Need-returns
 returns c depth shallow =
     let at_start = c.before.before.before.before in
     let b = at_start.args.b.now in
-    let id = c.before.before.read-few in
-    let size = c.before.read-few2 in
+    let id = c.before.before.read_few-id in
+    let size = c.before.read_few-size in
     found Id3v22 b at_start.requires depth shallow 0 refl at_start.requires.long
     size.result (size.ensures.0 ∙ ap number (short_cut 3 3 6 b (omega arith))) size.result (omega arith) (λ w. absurd (false_not_true w))
     id.result (id.ensures.0 ∙ ap number (short_cut 3 0 3 b (omega arith))) false false refl refl c.found.result c.found.ensures

@@ -9,36 +9,36 @@ use Rattle.frame.proofs.Headers.{no_length, too_small, not_whole, found}
 use Rattle.frame.proofs.v3.with_body.Statement.{statement}
 use Rattle.frame.proofs.v3.with_body.Tie as tie
 
-is_length : (c : tie.After-length-bytes) → c.length-bytes.result ≡ length_bytes Id3v23 c.before.before.before.before.args.b.now
-is_length c = c.length-bytes.ensures.0 ∙ ap (λ (t : Bool). pick t 4 0) c.before.has.ensures
+is_length : (c : tie.After-length_bytes-n) → c.length_bytes-n.result ≡ length_bytes Id3v23 c.before.before.before.before.args.b.now
+is_length c = c.length_bytes-n.ensures.0 ∙ ap (λ (t : Bool). pick t 4 0) c.before.has-compressed.ensures
 
-returns : tie.Need-returns
+returns : tie.Need-returns-then-b-start
 returns c depth shallow =
     let at_read = c.before.before.before.before in
     let a = at_read.before in
     let n = c.before in
-    no_length Id3v23 a.args.b.now a.requires depth shallow n.length-bytes.result (is_length n) c.if1.true
+    no_length Id3v23 a.args.b.now a.requires depth shallow n.length_bytes-n.result (is_length n) c.if-b-start.true
 
-returns_2 : tie.Need-returns-2
+returns_2 : tie.Need-returns-then-whole-n
 returns_2 c depth shallow =
     let at_length_bytes = c.before.before.before in
     let a = at_length_bytes.before.before.before.before in
     let n = c.before.before.before in
-    let whole = c.before.read32 in
-    too_small Id3v23 a.args.b.now a.requires depth shallow n.length-bytes.result (is_length n) c.before.before.if1.false
-    whole.result whole.ensures refl c.if2.true
+    let whole = c.before.read32-whole in
+    too_small Id3v23 a.args.b.now a.requires depth shallow n.length_bytes-n.result (is_length n) c.before.before.if-b-start.false
+    whole.result whole.ensures refl c.if-whole-n.true
 
-returns_3 : tie.Need-returns-3
+returns_3 : tie.Need-returns-then-left-size
 returns_3 c depth shallow =
     let at_if1 = c.before.before.before in
     let at_read = at_if1.before.before.before.before in
     let a = at_read.before in
     let n = at_if1.before in
-    let whole = c.before.before.read32 in
-    not_whole Id3v23 a.args.b.now a.requires depth shallow n.length-bytes.result (is_length n) at_if1.if1.false
-    whole.result whole.ensures _ refl refl c.before.if2.false c.if3.true
+    let whole = c.before.before.read32-whole in
+    not_whole Id3v23 a.args.b.now a.requires depth shallow n.length_bytes-n.result (is_length n) at_if1.if-b-start.false
+    whole.result whole.ensures _ refl refl c.before.if-whole-n.false c.if-left-size.true
 
-returns_4 : tie.Need-returns-4
+returns_4 : tie.Need-returns
 returns_4 c depth shallow =
     let at_if2 = c.before.before.before in
     let at_read32 = at_if2.before in
@@ -46,11 +46,11 @@ returns_4 c depth shallow =
     let at_has = at_if1.before.before in
     let a = at_has.before.before.before in
     let n = at_if1.before in
-    let whole = at_read32.read32 in
-    let id = c.before.read322 in
-    let compressed = at_has.has in
-    found Id3v23 a.args.b.now a.requires depth shallow n.length-bytes.result (is_length n) at_if1.if1.false
-    whole.result whole.ensures _ refl (λ w. (at_if2.if2.false, c.before.before.if3.false))
+    let whole = at_read32.read32-whole in
+    let id = c.before.read32 in
+    let compressed = at_has.has-compressed in
+    found Id3v23 a.args.b.now a.requires depth shallow n.length_bytes-n.result (is_length n) at_if1.if-b-start.false
+    whole.result whole.ensures _ refl (λ w. (at_if2.if-whole-n.false, c.before.before.if-left-size.false))
     id.result id.ensures compressed.result false compressed.ensures refl c.found.result c.found.ensures
 
 pub with_body_spec : {M : Type 1} → statement M

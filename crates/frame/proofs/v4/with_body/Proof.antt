@@ -10,17 +10,17 @@ use Rattle.frame.proofs.Headers.{no_length, found}
 use Rattle.frame.proofs.v4.with_body.Statement.{statement}
 use Rattle.frame.proofs.v4.with_body.Tie as tie
 
-is_length : (c : tie.After-length-bytes) → c.length-bytes.result ≡ length_bytes Id3v24 c.before.before.before.before.args.b.now
-is_length c = c.length-bytes.ensures.0 ∙ ap (λ (t : Bool). pick t 4 0) c.before.has.ensures
+is_length : (c : tie.After-length_bytes-n) → c.length_bytes-n.result ≡ length_bytes Id3v24 c.before.before.before.before.args.b.now
+is_length c = c.length_bytes-n.ensures.0 ∙ ap (λ (t : Bool). pick t 4 0) c.before.has.ensures
 
-returns : tie.Need-returns
+returns : tie.Need-returns-then-b-start
 returns c depth shallow =
     let at_length_bytes = c.before.before.before in
     let a = at_length_bytes.before.before.before.before in
     let n = c.before.before.before in
-    no_length Id3v24 a.args.b.now a.requires depth shallow n.length-bytes.result (is_length n) c.if1.true
+    no_length Id3v24 a.args.b.now a.requires depth shallow n.length_bytes-n.result (is_length n) c.if-b-start.true
 
-returns_2 : tie.Need-returns-2
+returns_2 : tie.Need-returns
 returns_2 c depth shallow =
     let at_has2 = c.before.before.before in
     let at_if1 = at_has2.before in
@@ -29,13 +29,13 @@ returns_2 c depth shallow =
     let at_read = at_frame_size.before.before.before.before in
     let a = at_read.before in
     let n = at_frame_size.before in
-    let there = at_if1.if1.false in
-    let whole = at_frame_size.frame-size in
-    let size = at_beyond.beyond in
+    let there = at_if1.if-b-start.false in
+    let whole = at_frame_size.frame_size in
+    let size = at_beyond.beyond-size in
     let id = c.before.read32 in
-    let compressed = at_has2.has2 in
-    let flagged = c.before.before.has3 in
-    found Id3v24 a.args.b.now a.requires depth shallow n.length-bytes.result (is_length n) there
+    let compressed = at_has2.has-compressed in
+    let flagged = c.before.before.has-flagged in
+    found Id3v24 a.args.b.now a.requires depth shallow n.length_bytes-n.result (is_length n) there
     whole.result whole.ensures size.result size.ensures (λ w. absurd (false_not_true w))
     id.result id.ensures compressed.result flagged.result compressed.ensures flagged.ensures c.found.result c.found.ensures
 

@@ -4,17 +4,17 @@ use Rattle.meter.proofs.Meets.{next_ended, next_failed}
 use Rattle.meter.proofs.Meter.next.Statement.{statement}
 use Rattle.meter.proofs.Meter.next.Tie as tie
 
-returns_2 : tie.Need-returns-2
+returns_2 : tie.Need-returns-in-Ended
 returns_2 c =
     let at_r = c.before.before in
     let a = at_r.before.before.before.args in
-    next_ended a.self a.tag.now a.work.now c.enum-told2.given.1
+    next_ended a.self a.tag.now a.work.now c.enum_told-in-Ended-1.given.1
 
-returns_3 : tie.Need-returns-3
+returns_3 : tie.Need-returns-in-Failed
 returns_3 c =
     let at_r = c.before.before.before in
     let a = at_r.before.before.before.args in
-    next_failed a.self a.tag.now a.work.now c.before.stop.given.1
+    next_failed a.self a.tag.now a.work.now c.before.stop-1.given.1
 
 pub next_spec : {M : Type 1} → statement M
 next_spec =

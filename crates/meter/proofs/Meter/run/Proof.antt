@@ -9,21 +9,21 @@ use Rattle.meter.proofs.Meets.{Answer, Same, begins, goes_on_lem, passed_less}
 use Rattle.meter.proofs.Meter.run.Statement.{statement}
 use Rattle.meter.proofs.Meter.run.Tie as tie
 
-abbrev invariant_loop : tie.invariant-loop
+abbrev invariant_loop : tie.invariant-loop-k
 invariant_loop self work₀ tag r version at₀ frames₀ short₀ compressed₀ work at frames short compressed =
     (length work ≡ length work₀) × Same self tag work₀ at frames short compressed work
 
-abbrev decreases_loop : tie.decreases-loop
+abbrev decreases_loop : tie.decreases-loop-k
 decreases_loop self work₀ tag r version at₀ frames₀ short₀ compressed₀ work at frames short compressed = self.reader.end - at
 
-loop_holds : tie.Need-loop-init invariant_loop decreases_loop
+loop_holds : tie.Need-loop-k-init invariant_loop decreases_loop
 loop_holds c =
     let start = c.before.before.before in
     (refl, begins start.args.self start.args.tag.now start.args.work.now start.requires)
 
 -- ---- after a look at the place: it was `met` that stood there
 
-abbrev at_loop : tie.After-meet invariant_loop decreases_loop → tie.At-loop invariant_loop decreases_loop
+abbrev at_loop : tie.After-meet invariant_loop decreases_loop → tie.At-loop-k invariant_loop decreases_loop
 at_loop c = c.before.before
 
 abbrev at_start : tie.After-meet invariant_loop decreases_loop → tie.Start invariant_loop decreases_loop
@@ -40,40 +40,40 @@ module _ (c : tie.After-meet invariant_loop decreases_loop) {met : Met} (is : c.
       let a = (at_start c).args in
       let L = (at_loop c).loop in
       met_next (λ m w. next_of m a.tag.now w) (moved_as L.at L.frames L.short L.compressed Stop.Running a.self) met c.meet.new.0
-      ≡ next_of a.self a.tag.now a.work.now
+      ≡ next_of a.self a.tag.now a.work-1.now
   rest_is =
       let a = (at_start c).args in
       let L = (at_loop c).loop in
-      goes_on_lem a.self a.tag.now a.work.now L.work c.meet.new.0 L.at L.frames L.short L.compressed L.inv.1 met met_here
+      goes_on_lem a.self a.tag.now a.work-1.now L.work-1 c.meet.new.0 L.at L.frames L.short L.compressed L.inv.1 met met_here
 
-returns : tie.Need-returns invariant_loop decreases_loop
+returns : tie.Need-returns-in-Nothing invariant_loop decreases_loop
 returns c =
     let at_ended = c.before in
-    rw c.moved.ensures (rest_is at_ended.before.before.before.before at_ended.enum_told.given.1)
+    rw c.moved.ensures (rest_is at_ended.before.before.before.before at_ended.enum_told-1.given.1)
 
-returns_2 : tie.Need-returns-2 invariant_loop decreases_loop
+returns_2 : tie.Need-returns-in-Refused invariant_loop decreases_loop
 returns_2 c =
     let at_refused = c.before.before in
-    rw c.moved2.ensures (rest_is at_refused.before.before.before.before at_refused.k.given.1)
+    rw c.moved-in-Refused.ensures (rest_is at_refused.before.before.before.before at_refused.k-1.given.1)
 
-loop_less : tie.Need-loop-smaller invariant_loop decreases_loop
+loop_less : tie.Need-loop-k-smaller invariant_loop decreases_loop
 loop_less c =
     let at_passed = c.before.before in
     let at_meet = at_passed.before.before.before.before in
     let r = (at_start at_meet).args.self.reader in
     let L = (at_loop at_meet).loop in
-    passed_less r.version r.in_work 0 L.at r.end _ L.work _ _ _ (met_here at_meet at_passed.next.given.1 0)
+    passed_less r.version r.in_work 0 L.at r.end _ L.work-1 _ _ _ (met_here at_meet at_passed.next-1.given.1 0)
 
-loop_again : tie.Need-loop-preserved invariant_loop decreases_loop
+loop_again : tie.Need-loop-k-preserved invariant_loop decreases_loop
 loop_again c =
     let at_passed = c.before.before in
     let at_meet = at_passed.before.before.before.before in
-    (at_meet.meet.auto.0 ∙ (at_loop at_meet).loop.invariant.0, rw c.one_more.ensures (rest_is at_meet at_passed.next.given.1))
+    (at_meet.meet.auto.0 ∙ (at_loop at_meet).loop.invariant.0, rw c.one_more-frames.ensures (rest_is at_meet at_passed.next-1.given.1))
 
-returns_3 : tie.Need-returns-3 invariant_loop decreases_loop
+returns_3 : tie.Need-returns-in-Popularimeter invariant_loop decreases_loop
 returns_3 c =
     let at_found = c.before.before.before in
-    rw (c.moved3.ensures, c.before.one-more2.ensures) (rest_is at_found.before.before.before.before at_found.next2.given.1)
+    rw (c.moved-in-Popularimeter.ensures, c.before.one_more.ensures) (rest_is at_found.before.before.before.before at_found.next-in-Popularimeter-1.given.1)
 
 pub run_spec : {M : Type 1} → statement M
 run_spec =

@@ -3,7 +3,7 @@ use Rattle.std.proofs.Common.{rules}
 use Rattle.meter.proofs.glance.with_flag.Statement.{statement}
 use Rattle.meter.proofs.glance.with_flag.Tie as tie
 
-returns : tie.Need-returns
+returns : tie.Need-returns-in-Plain
 returns c = cc
 
 pub with_flag_spec : {M : Type 1} → statement M

@@ -11,25 +11,25 @@ use Rattle.meter.proofs.going.meet.Tie as tie
 
 -- ---- after the glance
 
-abbrev at_source : tie.After-glance-at → tie.After-source
+abbrev at_source : tie.After-glance_at → tie.After-source-s
 at_source c = c.before.before
 
-abbrev at_start : tie.After-glance-at → tie.Start
+abbrev at_start : tie.After-glance_at → tie.Start
 at_start c = (at_source c).before.before.before.before
 
 -- the bytes from the place on
-abbrev here : tie.After-glance-at → List ℕ
+abbrev here : tie.After-glance_at → List ℕ
 here c =
     let a = (at_start c).args in
-    slice a.at a.end (source_of a.in_work a.work.now a.tag.now)
+    slice a.at a.end (source_of a.in_work a.work-1.now a.tag.now)
 
-module _ (c : tie.After-glance-at) where
+module _ (c : tie.After-glance_at) where
   says : {g : Glance} → c.glance_at.result ≡ g → Says (at_start c).args.version (here c) g
   says {g} is =
       let a = (at_start c).args in
       let s = (at_source c).source in
       let last = c.before.least in
-      says_here a.version a.in_work a.at a.end last.result s.result.now a.tag.now a.work.now g s.ensures last.ensures (rw is at c.glance_at.ensures)
+      says_here a.version a.in_work a.at a.end last.result s.result.now a.tag.now a.work-1.now g s.ensures last.ensures (rw is at c.glance_at.ensures)
 
   -- the end of a whole frame is a number
   fits : {n : ℕ} {flagged : Bool} → Whole (at_start c).args.version flagged n (here c) → {head : ℕ} → head ≡ head_len (at_start c).args.version
@@ -39,78 +39,78 @@ module _ (c : tie.After-glance-at) where
       omega (
         arith,
         is,
-        fits_here a.version a.in_work 0 a.at a.end a.tag.now a.work.now n flagged h,
+        fits_here a.version a.in_work 0 a.at a.end a.tag.now a.work-1.now n flagged h,
         ap length (at_source c).source.ensures,
         (at_start c).well-formed,
       )
 
-add_passed : tie.Need-overflow-add-passed
+add_passed : tie.Need-overflow_add-at
 add_passed c =
     let at_plain = c.before.before in
     let at_glance = at_plain.before.before in
-    omega (arith, fits at_glance (says at_glance at_plain.size.given.1).0 c.head-len.ensures.0)
+    omega (arith, fits at_glance (says at_glance at_plain.size-1.given.1).0 c.head_len.ensures.0)
 
-add_passed_2 : tie.Need-overflow-add-passed-2
+add_passed_2 : tie.Need-overflow_add-at-in-Plain
 add_passed_2 c =
     let at_plain = c.before.before in
     let at_glance = at_plain.before.before in
-    omega (arith, fits at_glance (says at_glance at_plain.size.given.1).0 c.head-len.ensures.0)
+    omega (arith, fits at_glance (says at_glance at_plain.size-1.given.1).0 c.head_len.ensures.0)
 
-add_first : tie.Need-overflow-add-first
+add_first : tie.Need-overflow_add-first
 add_first c =
     let at_flagged = c.before.before.before in
     let at_glance = at_flagged.before.before in
-    omega (arith, fits at_glance (says at_glance at_flagged.size2.given.1).0 c.head-len2.ensures.0)
+    omega (arith, fits at_glance (says at_glance at_flagged.size-in-Flagged-1.given.1).0 c.head_len-in-Flagged.ensures.0)
 
-add_flagged : tie.Need-overflow-add-flagged
+add_flagged : tie.Need-overflow_add-first-in-Flagged
 add_flagged c =
     let at_flagged = c.before.before.before.before in
     let at_glance = at_flagged.before.before in
-    omega (arith, fits at_glance (says at_glance at_flagged.size2.given.1).0 c.before.head-len2.ensures.0)
+    omega (arith, fits at_glance (says at_glance at_flagged.size-in-Flagged-1.given.1).0 c.before.head_len-in-Flagged.ensures.0)
 
-add_first_2 : tie.Need-overflow-add-first-2
+add_first_2 : tie.Need-overflow_add-first-in-Meter
 add_first_2 c =
     let at_meter = c.before.before in
     let at_glance = at_meter.before.before in
-    omega (arith, fits at_glance (says at_glance at_meter.size3.given.1).0 c.head-len3.ensures.0)
+    omega (arith, fits at_glance (says at_glance at_meter.size-in-Meter-1.given.1).0 c.head_len-in-Meter.ensures.0)
 
-add_next : tie.Need-overflow-add-next
+add_next : tie.Need-overflow_add-next
 add_next c =
     let at_meter = c.before.before in
     let at_glance = at_meter.before.before in
-    omega (arith, fits at_glance (says at_glance at_meter.size3.given.1).0 c.head-len3.ensures.0)
+    omega (arith, fits at_glance (says at_glance at_meter.size-in-Meter-1.given.1).0 c.head_len-in-Meter.ensures.0)
 
-returns_3 : tie.Need-returns-3
+returns_3 : tie.Need-returns-in-End
 returns_3 c =
     let at_glance = c.before.before in
     let a = (at_start at_glance).args in
-    λ begin. meets_end a.version a.in_work begin a.at a.end a.tag.now a.work.now (says at_glance c.enum-told2.given.1)
+    λ begin. meets_end a.version a.in_work begin a.at a.end a.tag.now a.work-1.now (says at_glance c.enum_told-in-End-1.given.1)
 
-returns_4 : tie.Need-returns-4
+returns_4 : tie.Need-returns-in-Plain
 returns_4 c =
     let at_plain = c.before.before.before in
     let at_glance = at_plain.before.before in
     let a = (at_start at_glance).args in
-    λ begin. rw (c.passed.ensures, c.before.head-len.ensures.0)
-    (meets_plain a.version a.in_work begin a.at a.end a.tag.now a.work.now _ (says at_glance at_plain.size.given.1))
+    λ begin. rw (c.passed.ensures, c.before.head_len.ensures.0)
+    (meets_plain a.version a.in_work begin a.at a.end a.tag.now a.work-1.now _ (says at_glance at_plain.size-1.given.1))
 
-returns_5 : tie.Need-returns-5
+returns_5 : tie.Need-returns-else-in_work
 returns_5 c =
     let at_passed = c.before.before in
     let at_head_len = at_passed.before.before in
     let at_flagged = at_head_len.before.before.before in
     let at_glance = at_flagged.before.before in
     let a = (at_start at_glance).args in
-    λ begin. meets_flagged a.version a.in_work begin a.at a.end a.tag.now a.work.now _ at_head_len.before.if1.false (says at_glance at_flagged.size2.given.1)
-    (rw at_head_len.head-len2.ensures.0 at at_passed.flagged.ensures)
+    λ begin. meets_flagged a.version a.in_work begin a.at a.end a.tag.now a.work-1.now _ at_head_len.before.if-in_work.false (says at_glance at_flagged.size-in-Flagged-1.given.1)
+    (rw at_head_len.head_len-in-Flagged.ensures.0 at at_passed.flagged.ensures)
 
-returns_6 : tie.Need-returns-6
+returns_6 : tie.Need-returns-in-Meter
 returns_6 c =
     let at_head_len = c.before.before in
     let at_meter = at_head_len.before.before in
     let at_glance = at_meter.before.before in
     let a = (at_start at_glance).args in
-    λ begin. meets_meter a.version a.in_work begin a.at a.end a.tag.now a.work.now _ (says at_glance at_meter.size3.given.1) at_head_len.head-len3.ensures.0 (at_source at_glance).source.ensures
+    λ begin. meets_meter a.version a.in_work begin a.at a.end a.tag.now a.work-1.now _ (says at_glance at_meter.size-in-Meter-1.given.1) at_head_len.head_len-in-Meter.ensures.0 (at_source at_glance).source.ensures
     (c.before.parse.ensures a.version) (c.read_as.ensures a.version)
 
 pub meet_spec : {M : Type 1} → statement M

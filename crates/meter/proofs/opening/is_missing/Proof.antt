@@ -4,12 +4,12 @@ use Rattle.meter.proofs.Openings.{missing_short, missing_long}
 use Rattle.meter.proofs.opening.is_missing.Statement.{statement}
 use Rattle.meter.proofs.opening.is_missing.Tie as tie
 
-returns : tie.Need-returns
-returns c = missing_short c.before.before.args.tag.now c.if1.true
+returns : tie.Need-returns-then-tag-lt10
+returns c = missing_short c.before.before.args.tag.now c.if-tag-lt10.true
 
-returns_2 : tie.Need-returns-2
+returns_2 : tie.Need-returns
 returns_2 c =
-    missing_long c.before.before.before.args.tag.now c.before.if1.false c.type_size.ensures.0
+    missing_long c.before.before.before.args.tag.now c.before.if-tag-lt10.false c.type_size.ensures.0
 
 pub is_missing_spec : {M : Type 1} → statement M
 is_missing_spec = tie.close (tie.spec returns (λ c. search rules) (λ c κs. search rules) returns_2)

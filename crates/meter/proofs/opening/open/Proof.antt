@@ -4,15 +4,15 @@ use Rattle.meter.proofs.Openings.{opens}
 use Rattle.meter.proofs.opening.open.Statement.{statement}
 use Rattle.meter.proofs.opening.open.Tie as tie
 
-returns_2 : tie.Need-returns-2
+returns_2 : tie.Need-returns-in-Plain
 returns_2 c =
     let at_front = c.before.before.before.before in
     let at_front_of = at_front.before.before in
     let at_read32 = at_front_of.before.before in
     let a = at_read32.before.before.before.before.args in
-    rw (c.metered.ensures, c.before.is-missing.ensures, c.before.before.plain-reader.ensures)
-    (opens a.tag.now (λ i. omega (arith, at_read32.before.before.shared-slice-known.given i)) at_read32.before.if1.false at_read32.read32.result _ at_read32.read32.ensures refl
-    at_front.front.given.0.0 (sym at_front_of.front_of.ensures ∙ at_front.front.given.1) a.work.now)
+    rw (c.metered.ensures, c.before.is_missing.ensures, c.before.before.plain_reader.ensures)
+    (opens a.tag.now (λ i. omega (arith, at_read32.before.before.shared_slice_known-1.given i)) at_read32.before.if-tag-lt10.false at_read32.read32.result _ at_read32.read32.ensures refl
+    at_front.front-1.given.0.0 (sym at_front_of.front_of-front.ensures ∙ at_front.front-1.given.1) a.work.now)
 
 pub open_spec : {M : Type 1} → statement M
 open_spec =

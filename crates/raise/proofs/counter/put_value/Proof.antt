@@ -11,14 +11,14 @@ use Rattle.raise.proofs.Values.{next_left, put_turn}
 use Rattle.raise.proofs.counter.put_value.Statement.{statement}
 use Rattle.raise.proofs.counter.put_value.Tie as tie
 
-abbrev invariant_loop : tie.invariant-loop
+abbrev invariant_loop : tie.invariant-loop-at
 invariant_loop tag₀ start stop value at₀ left₀ tag at left =
     (start ≤ at) × (at ≤ stop) × (left ≡ value / 256 ^ (stop - at)) × (tag ≡ sets tag₀ at (bytes_of (stop - at) value))
 
-abbrev decreases_loop : tie.decreases-loop
+abbrev decreases_loop : tie.decreases-loop-at
 decreases_loop tag₀ start stop value at₀ left₀ tag at left = at
 
-loop_holds : tie.Need-loop-init invariant_loop decreases_loop
+loop_holds : tie.Need-loop-at-init invariant_loop decreases_loop
 unfolding digits
 loop_holds c =
     let a = c.args in
@@ -30,19 +30,19 @@ loop_holds c =
     )
 
 -- as long as it was
-long : (c : tie.In-loop invariant_loop decreases_loop) → length c.before.loop.tag ≡ length c.before.before.args.tag.now
+long : (c : tie.In-loop-at invariant_loop decreases_loop) → length c.before.loop-at.tag ≡ length c.before.before.args.tag.now
 long c =
     let a = c.before.before.args in
-    let L = c.before.loop in
+    let L = c.before.loop-at in
     ap length L.invariant.3 ∙ length-sets a.tag.now L.at (bytes_of (a.stop - L.at) a.value)
 
-slice_write_tag : tie.Need-slice-write-tag invariant_loop decreases_loop
+slice_write_tag : tie.Need-bounds-tag-at invariant_loop decreases_loop
 slice_write_tag c = omega (arith, long c, c.before.before.requires.1)
 
-loop_again : tie.Need-loop-preserved invariant_loop decreases_loop
+loop_again : tie.Need-loop-at-preserved invariant_loop decreases_loop
 loop_again c =
     let a = c.before.before.args in
-    let L = c.before.loop in
+    let L = c.before.loop-at in
     let k = a.stop - L.at in
     let here : L.at ≡ suc (L.at - 1) = omega arith in
     let more : k + 1 ≡ a.stop - (L.at - 1) = omega (arith, L.invariant) in
@@ -57,16 +57,16 @@ loop_again c =
           ∙ ap (λ (j : ℕ). sets a.tag.now (L.at - 1) (bytes_of j a.value)) next,
     )
 
-same_length : tie.Need-same-length invariant_loop decreases_loop
+same_length : tie.Need-shape_of-tag invariant_loop decreases_loop
 same_length c =
     let a = c.before.before.args in
-    let L = c.before.loop in
+    let L = c.before.loop-at in
     ap length L.invariant.3 ∙ length-sets a.tag.now L.at (bytes_of (a.stop - L.at) a.value)
 
 returns : tie.Need-returns invariant_loop decreases_loop
 returns c =
     let a = c.before.before.args in
-    let L = c.before.loop in
+    let L = c.before.loop-at in
     let all : L.at ≡ a.start = omega (arith, L.invariant.0) in
     L.invariant.3 ∙ ap (λ (n : ℕ). sets a.tag.now n (bytes_of (a.stop - n) a.value)) all
 

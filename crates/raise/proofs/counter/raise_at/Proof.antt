@@ -8,35 +8,35 @@ use Rattle.raise.proofs.Sums.{field_back, field_past, field_there, sum_large, su
 use Rattle.raise.proofs.counter.raise_at.Statement.{statement}
 use Rattle.raise.proofs.counter.raise_at.Tie as tie
 
-returns : tie.Need-returns
+returns : tie.Need-returns-then-counter-amount
 returns c =
     let a = c.before.before.args in
     sum_large a.start a.stop a.counter a.amount a.tag.now (omega arith)
 
 -- the sum fits 64 bits
-small : (c : tie.Else1) → let a = c.before.before.args in a.counter + a.amount < 2 ^ 64
+small : (c : tie.Else-counter-amount) → let a = c.before.before.args in a.counter + a.amount < 2 ^ 64
 small c = omega arith
 
-returns_2 : tie.Need-returns-2
+returns_2 : tie.Need-returns-then-stop-start
 returns_2 c =
     let at_sum = c.before in
     let a = at_sum.before.before.args in
-    sum_nowhere a.start a.stop a.counter a.amount a.tag.now (small at_sum) (field_back a.start a.stop a.tag.now c.if2.true)
+    sum_nowhere a.start a.stop a.counter a.amount a.tag.now (small at_sum) (field_back a.start a.stop a.tag.now c.if-stop-start.true)
 
-returns_3 : tie.Need-returns-3
+returns_3 : tie.Need-returns-then-tag-stop
 returns_3 c =
     let at_order = c.before in
     let at_sum = at_order.before in
     let a = at_sum.before.before.args in
-    sum_nowhere a.start a.stop a.counter a.amount a.tag.now (small at_sum) (field_past a.start a.stop a.tag.now (omega (arith, at_order.if2.false)) c.if3.true)
+    sum_nowhere a.start a.stop a.counter a.amount a.tag.now (small at_sum) (field_past a.start a.stop a.tag.now (omega (arith, at_order.if-stop-start.false)) c.if-tag-stop.true)
 
-returns_4 : tie.Need-returns-4
+returns_4 : tie.Need-returns-then-not-fits
 returns_4 c =
     let at_sum = c.before.before.before.before in
     let a = at_sum.before.before.args in
-    sum_wide a.start a.stop a.counter a.amount a.tag.now (small at_sum) (sym c.before.fits2.ensures ∙ not-true _ c.if4.true)
+    sum_wide a.start a.stop a.counter a.amount a.tag.now (small at_sum) (sym c.before.fits2.ensures ∙ not-true _ c.if-not-fits.true)
 
-returns_5 : tie.Need-returns-5
+returns_5 : tie.Need-returns
 returns_5 c =
     let at_put = c.before.before in
     let at_if4 = at_put.before.before in
@@ -45,8 +45,8 @@ returns_5 c =
     let at_sum = at_order.before in
     let a = at_sum.before.before.args in
     sum_stored a.start a.stop a.counter a.amount a.tag.now (small at_sum)
-    (field_there a.start a.stop a.tag.now (omega (arith, at_order.if2.false)) (omega (arith, at_there.if3.false)))
-    (sym at_if4.before.fits2.ensures ∙ not-false _ at_if4.if4.false) _ at_put.put-value.ensures
+    (field_there a.start a.stop a.tag.now (omega (arith, at_order.if-stop-start.false)) (omega (arith, at_there.if-tag-stop.false)))
+    (sym at_if4.before.fits2.ensures ∙ not-false _ at_if4.if-not-fits.false) _ at_put.put_value.ensures
 
 pub raise_at_spec : {M : Type 1} → statement M
 raise_at_spec =

@@ -5,15 +5,15 @@ use Rattle.raise.proofs.Headed.{header_refuses}
 use Rattle.raise.proofs.frames.frames.Statement.{statement}
 use Rattle.raise.proofs.frames.frames.Tie as tie
 
-frames_found_requires : tie.Need-frames-found-requires
+frames_found_requires : tie.Need-frames_found-requires
 frames_found_requires c κs =
     let at_header = c.before.before.before in
-    sym at_header.header.ensures ∙ c.before.headed2.given.1
+    sym at_header.header-headed.ensures ∙ c.before.headed-in-Found-1.given.1
 
-returns : tie.Need-returns
+returns : tie.Need-returns-in-Refused
 returns c =
     let at_header = c.before.before.before in
-    header_refuses at_header.before.before.args.tag.now _ (sym at_header.header.ensures ∙ c.before.headed.given.1)
+    header_refuses at_header.before.before.args.tag.now _ (sym at_header.header-headed.ensures ∙ c.before.headed-1.given.1)
 
 pub frames_spec : {M : Type 1} → statement M
 frames_spec = tie.close (tie.spec (λ c κs. search rules) (λ c. search rules) (λ c. search rules) frames_found_requires returns (λ c. search rules))

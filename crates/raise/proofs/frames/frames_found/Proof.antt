@@ -6,13 +6,13 @@ use Rattle.raise.proofs.Headed.{whole_refused, frames_told}
 use Rattle.raise.proofs.frames.frames_found.Statement.{statement}
 use Rattle.raise.proofs.frames.frames_found.Tie as tie
 
-returns : tie.Need-returns
+returns : tie.Need-returns-then-is_whole
 returns c =
     let at_start = c.before.before.before in
     let a = at_start.args in
-    whole_refused a.tag.now a.h at_start.requires (sym c.before.is-whole.ensures ∙ c.if1.true)
+    whole_refused a.tag.now a.h at_start.requires (sym c.before.is_whole.ensures ∙ c.if-is_whole.true)
 
-returns_2 : tie.Need-returns-2
+returns_2 : tie.Need-returns
 returns_2 c =
     let at_begin = c.before in
     let at_end = at_begin.before.before in
@@ -20,11 +20,11 @@ returns_2 c =
     let at_start = at_if1.before.before.before in
     let a = at_start.args in
     let tag = a.tag.now in
-    let end = at_end.least.result in
-    frames_told tag a.h at_start.requires (sym at_if1.before.is-whole.ensures ∙ at_if1.if1.false)
-    (region_start_lem tag a.h at_start.requires end at_end.least.ensures at_begin.least2.result at_begin.least2.ensures)
-    (region_end_lem tag a.h at_start.requires end at_end.least.ensures)
-    c.is-simple.ensures
+    let end = at_end.least-end.result in
+    frames_told tag a.h at_start.requires (sym at_if1.before.is_whole.ensures ∙ at_if1.if-is_whole.false)
+    (region_start_lem tag a.h at_start.requires end at_end.least-end.ensures at_begin.least-begin.result at_begin.least-begin.ensures)
+    (region_end_lem tag a.h at_start.requires end at_end.least-end.ensures)
+    c.is_simple-odd.ensures
 
 pub frames_found_spec : {M : Type 1} → statement M
 frames_found_spec =

@@ -7,16 +7,16 @@ use Rattle.format.specs.Looks.{all_zero}
 use Rattle.raise.proofs.frames.is_plain_end.Statement.{statement}
 use Rattle.raise.proofs.frames.is_plain_end.Tie as tie
 
-returns : tie.Need-returns
+returns : tie.Need-returns-then-odd
 returns c =
     let a = c.before.before.args in
-    sym (ap (λ (t : Bool). not t && all_zero (slice a.at a.end a.tag.now)) c.if1.true)
+    sym (ap (λ (t : Bool). not t && all_zero (slice a.at a.end a.tag.now)) c.if-odd.true)
 
-returns_2 : tie.Need-returns-2
+returns_2 : tie.Need-returns
 returns_2 c =
     let at_if1 = c.before in
     let a = at_if1.before.before.args in
-    c.all-zero.ensures ∙ sym (ap (λ (t : Bool). not t && all_zero (slice a.at a.end a.tag.now)) at_if1.if1.false)
+    c.all_zero.ensures ∙ sym (ap (λ (t : Bool). not t && all_zero (slice a.at a.end a.tag.now)) at_if1.if-odd.false)
 
 pub is_plain_end_spec : {M : Type 1} → statement M
 is_plain_end_spec = tie.close (tie.spec returns (λ c κs. search rules) returns_2)

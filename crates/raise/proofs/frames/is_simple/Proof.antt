@@ -7,24 +7,24 @@ use Rattle.raise.proofs.Simple.{bytes_missing, has_extended, says_simple}
 use Rattle.raise.proofs.frames.is_simple.Statement.{statement}
 use Rattle.raise.proofs.frames.is_simple.Tie as tie
 
-returns : tie.Need-returns
+returns : tie.Need-returns-then-tag-h
 returns c =
     let at_start = c.before.before.before in
-    bytes_missing at_start.args.tag.now at_start.args.h at_start.requires c.if1.true
+    bytes_missing at_start.args.tag.now at_start.args.h at_start.requires c.if-tag-h.true
 
-returns_2 : tie.Need-returns-2
+returns_2 : tie.Need-returns-then-has
 returns_2 c =
     let at_before = c.before.before.before.before in
     let at_start = at_before.before in
-    has_extended at_start.args.tag.now at_start.args.h at_start.requires (sym c.before.has.ensures ∙ c.if2.true)
+    has_extended at_start.args.tag.now at_start.args.h at_start.requires (sym c.before.has.ensures ∙ c.if-has.true)
 
-returns_3 : tie.Need-returns-3
+returns_3 : tie.Need-returns
 returns_3 c =
     let at_if2 = c.before in
     let at_if1 = at_if2.before.before in
     let at_start = at_if1.before.before.before in
-    ap not c.has2.ensures
-    ∙ says_simple at_start.args.tag.now at_start.args.h at_start.requires (omega (arith, at_if1.if1.false)) (sym at_if2.before.has.ensures ∙ at_if2.if2.false)
+    ap not c.has-2.ensures
+    ∙ says_simple at_start.args.tag.now at_start.args.h at_start.requires (omega (arith, at_if1.if-tag-h.false)) (sym at_if2.before.has.ensures ∙ at_if2.if-has.false)
 
 pub is_simple_spec : {M : Type 1} → statement M
 is_simple_spec =

@@ -8,17 +8,17 @@ use Rattle.raise.specs.declared.scanning.Scanned.{Scanned}
 use Rattle.raise.proofs.scanning.after_last.Statement.{statement}
 use Rattle.raise.proofs.scanning.after_last.Tie as tie
 
-returns : tie.Need-returns
+returns : tie.Need-returns-then-not-is_plain_end
 returns c =
     let a = c.before.before.before.args in
     let found = Scanned.Frames a.version a.found a.aim a.last a.end in
-    sym (ap (λ (t : Bool). pick t found (Scanned.Refused 40)) (sym c.before.is-plain-end.ensures ∙ not-true _ c.if1.true))
+    sym (ap (λ (t : Bool). pick t found (Scanned.Refused 40)) (sym c.before.is_plain_end.ensures ∙ not-true _ c.if-not-is_plain_end.true))
 
-returns_2 : tie.Need-returns-2
+returns_2 : tie.Need-returns
 returns_2 c =
     let a = c.before.before.before.args in
     let found = Scanned.Frames a.version a.found a.aim a.last a.end in
-    sym (ap (λ (t : Bool). pick t found (Scanned.Refused 40)) (sym c.before.is-plain-end.ensures ∙ not-false _ c.if1.false))
+    sym (ap (λ (t : Bool). pick t found (Scanned.Refused 40)) (sym c.before.is_plain_end.ensures ∙ not-false _ c.if-not-is_plain_end.false))
 
 pub after_last_spec : {M : Type 1} → statement M
 after_last_spec = tie.close (tie.spec (λ c κs. search rules) returns returns_2)

@@ -4,23 +4,23 @@ use Rattle.raise.proofs.Aims.{aimed_first, aimed_before, aimed_found}
 use Rattle.raise.proofs.scanning.aimed.Statement.{statement}
 use Rattle.raise.proofs.scanning.aimed.Tie as tie
 
-returns : tie.Need-returns
+returns : tie.Need-returns-then-n-eq0
 returns c =
     let at_aim = c.before.before in
     let a = at_aim.before.before.args in
-    aimed_first a.aim _ a.at a.next at_aim.aim.given.1 c.if1.true
+    aimed_first a.aim _ a.at a.next at_aim.aim-1.given.1 c.if-n-eq0.true
 
-returns_2 : tie.Need-returns-2
+returns_2 : tie.Need-returns-else-n-eq0
 returns_2 c =
     let at_aim = c.before.before in
     let a = at_aim.before.before.args in
-    aimed_before a.aim _ a.at a.next at_aim.aim.given.1 c.if1.false
+    aimed_before a.aim _ a.at a.next at_aim.aim-1.given.1 c.if-n-eq0.false
 
-returns_3 : tie.Need-returns-3
+returns_3 : tie.Need-returns-in-Frame
 returns_3 c =
     let at_aim = c.before in
     let a = at_aim.before.before.args in
-    aimed_found a.aim _ _ a.at a.next at_aim.aim2.given.1
+    aimed_found a.aim _ _ a.at a.next at_aim.aim-in-Frame-1.given.1
 
 pub aimed_spec : {M : Type 1} → statement M
 aimed_spec =

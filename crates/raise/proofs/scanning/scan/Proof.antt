@@ -13,24 +13,24 @@ use Rattle.raise.proofs.scanning.scan.Statement.{statement}
 use Rattle.raise.proofs.scanning.scan.Tie as tie
 
 -- the frames that were found
-told : (c : tie.After-frames) {x : Framed} → c.frames.result ≡ x → FramedAs c.before.before.before.args.tag.now x
-told c e = framed_as _ (sym e ∙ c.frames.ensures)
+told : (c : tie.After-frames-framed) {x : Framed} → c.frames-framed.result ≡ x → FramedAs c.before.before.before.args.tag.now x
+told c e = framed_as _ (sym e ∙ c.frames-framed.ensures)
 
 search_requires : tie.Need-search-requires
-search_requires c κs = framed_fits (told c.before.before.before c.before.framed2.given.1)
+search_requires c κs = framed_fits (told c.before.before.before c.before.framed-in-Frames-1.given.1)
 
-returns : tie.Need-returns
+returns : tie.Need-returns-in-Refused
 unfolding scanned_of
-returns c = framed_refused Scanned.Refused _ _ (told c.before.before.before c.before.framed.given.1)
+returns c = framed_refused Scanned.Refused _ _ (told c.before.before.before c.before.framed-1.given.1)
 
-returns_2 : tie.Need-returns-2
+returns_2 : tie.Need-returns-in-Frames
 unfolding scanned_of scanned_in
 returns_2 c =
     let at_framed = c.before.before in
     let at_frames = at_framed.before.before in
     let a = at_frames.before.before.before.args in
     c.search.ensures
-    ∙ framed_looked Scanned.Refused _ (λ (v : Version) (begin end : ℕ) (s : List ℕ). scanned_on v a.user.now a.number begin end (blocks_in v s)) (told at_frames at_framed.framed2.given.1)
+    ∙ framed_looked Scanned.Refused _ (λ (v : Version) (begin end : ℕ) (s : List ℕ). scanned_on v a.user.now a.number begin end (blocks_in v s)) (told at_frames at_framed.framed-in-Frames-1.given.1)
 
 pub scan_spec : {M : Type 1} → statement M
 scan_spec = tie.close (tie.spec (λ c κs. search rules) (λ c. search rules) (λ c. search rules) search_requires returns returns_2)

@@ -22,70 +22,70 @@ use Rattle.raise.proofs.Aims.{aim_turn, all_scanned}
 use Rattle.raise.proofs.scanning.search.Statement.{statement}
 use Rattle.raise.proofs.scanning.search.Tie as tie
 
-abbrev invariant_loop : tie.invariant-loop
+abbrev invariant_loop : tie.invariant-loop-k
 invariant_loop tag user number version begin end oddly at₀ odd₀ found₀ aim₀ at odd found aim =
     (both (plain_if (not odd)) (look_at version 1 (slice at end tag)) ≡ both (plain_if (not oddly)) (look_at version 1 (slice begin end tag)))
     × (odd ≡ false → (found_on version user found at (blocks_in version (slice at end tag)) ≡ found_on version user Found.None begin (blocks_in version (slice begin end tag)))
     × ((aimed_on aim at (blocks_in version (slice at end tag)) ≡ aimed_on (Aim.Before number) begin (blocks_in version (slice begin end tag)))
     × (at + length (joined (blocks_in version (slice at end tag))) ≡ begin + length (joined (blocks_in version (slice begin end tag))))))
 
-abbrev decreases_loop : tie.decreases-loop
+abbrev decreases_loop : tie.decreases-loop-k
 decreases_loop tag user number version begin end oddly at₀ odd₀ found₀ aim₀ at odd found aim = end - at
 
 -- ---- what was seen at the place
 
-abbrev at_loop : tie.After-look-at invariant_loop decreases_loop → tie.At-loop invariant_loop decreases_loop
+abbrev at_loop : tie.After-look_at invariant_loop decreases_loop → tie.At-loop-k invariant_loop decreases_loop
 at_loop c = c.before
 
-abbrev start : tie.After-look-at invariant_loop decreases_loop → tie.Start invariant_loop decreases_loop
+abbrev start : tie.After-look_at invariant_loop decreases_loop → tie.Start invariant_loop decreases_loop
 start c = (at_loop c).before.before.before
 
-seen : (c : tie.After-look-at invariant_loop decreases_loop) {x : Seen} → c.look_at.result ≡ x
+seen : (c : tie.After-look_at invariant_loop decreases_loop) {x : Seen} → c.look_at.result ≡ x
     → x ≡ seen_of (start c).args.version (at_loop c).loop.at (slice (at_loop c).loop.at (start c).args.end (start c).args.tag.now)
 seen c e = sym e ∙ c.look_at.ensures
 
-loop_holds : tie.Need-loop-init invariant_loop decreases_loop
+loop_holds : tie.Need-loop-k-init invariant_loop decreases_loop
 loop_holds c = (refl, λ e. (refl, (refl, refl)))
 
-returns : tie.Need-returns invariant_loop decreases_loop
+returns : tie.Need-returns-in-Stops invariant_loop decreases_loop
 unfolding scanned_in
 returns c =
     let at_seen = c.before.before.before in
     let a = (start at_seen).args in
     let L = (at_loop at_seen).loop in
     look_stops Scanned.Refused a.version (slice a.begin a.end a.tag.now) a.oddly (slice L.at a.end a.tag.now) L.odd L.inv.0 _
-    _ (says_stops (says a.version L.at a.end a.tag.now (seen at_seen c.before.k.given.1)))
+    _ (says_stops (says a.version L.at a.end a.tag.now (seen at_seen c.before.k-1.given.1)))
 
-returns_2 : tie.Need-returns-2 invariant_loop decreases_loop
+returns_2 : tie.Need-returns-in-End invariant_loop decreases_loop
 unfolding scanned_in scanned_on
 returns_2 c =
     let at_seen = c.before.before.before in
     let a = (start at_seen).args in
     let L = (at_loop at_seen).loop in
     let rest = slice L.at a.end a.tag.now in
-    let ends = says_end (says a.version L.at a.end a.tag.now (seen at_seen c.before.enum_told.given.1)) in
+    let ends = says_end (says a.version L.at a.end a.tag.now (seen at_seen c.before.enum_told-1.given.1)) in
     c.after_last.ensures
     ∙ look_ends Scanned.Refused a.version (slice a.begin a.end a.tag.now) a.oddly rest L.odd L.inv.0 _ ends _
     (λ even. all_scanned a.user.now L.at rest L.found L.aim ends (L.inv.1 even))
 
 -- a frame of another kind
-other : (c : tie.After-next invariant_loop decreases_loop)
+other : (c : tie.In-Frame-2 invariant_loop decreases_loop)
     → let at_seen = c.before.before in
     let a = (start at_seen).args in
-    MetOther a.version (at_loop at_seen).loop.at a.end a.tag.now c.next.given.0.0 c.next.given.0.1.0
+    MetOther a.version (at_loop at_seen).loop.at a.end a.tag.now c.next-1.given.0.0 c.next-1.given.0.1.0
 other c =
     let at_seen = c.before.before in
     let a = (start at_seen).args in
-    says_other (says a.version (at_loop at_seen).loop.at a.end a.tag.now (seen at_seen c.next.given.1))
+    says_other (says a.version (at_loop at_seen).loop.at a.end a.tag.now (seen at_seen c.next-1.given.1))
 
-loop_less : tie.Need-loop-smaller invariant_loop decreases_loop
+loop_less : tie.Need-loop-k-smaller-in-Frame invariant_loop decreases_loop
 loop_less c =
     let at_next = c.before.before in
     let le = (start at_next.before.before).pre in
     let m = (other at_next).met in
     omega (arith, later le m, within le m)
 
-loop_again : tie.Need-loop-preserved invariant_loop decreases_loop
+loop_again : tie.Need-loop-k-preserved-in-Frame invariant_loop decreases_loop
 loop_again c =
     let at_next = c.before.before in
     let at_seen = at_next.before.before in
@@ -93,32 +93,32 @@ loop_again c =
     let le = (start at_seen).requires in
     let L = (at_loop at_seen).loop in
     let m = other at_next in
-    let g = at_next.next.given.0 in
+    let g = at_next.next-1.given.0 in
     let rest = blocks_in a.version (slice g.0 a.end a.tag.now) in (
       look_again le m.met L.odd L.inv.0,
       λ even. let p = or_false L.odd g.1.0 even in
           let before = L.inv.1 p.0 in (
             other_turn a.version a.user.now L.found le m p.1 ∙ before.0,
             (
-              ap (λ (x : Aim). aimed_on x g.0 rest) c.aimed.ensures ∙ aim_turn le m.met L.aim p.1 ∙ before.1.0,
+              ap (λ (x : Aim). aimed_on x g.0 rest) c.aimed-aim.ensures ∙ aim_turn le m.met L.aim p.1 ∙ before.1.0,
               last_on le m.met p.1 ∙ before.1.1,
             ),
           ),
     )
 
 -- a popularimeter
-meter : (c : tie.After-next2 invariant_loop decreases_loop)
+meter : (c : tie.In-Popularimeter-2 invariant_loop decreases_loop)
     → let at_seen = c.before.before in
     let a = (start at_seen).args in
-    let g = c.next2.given.0 in
+    let g = c.next-in-Popularimeter-1.given.0 in
     MetMeter a.version (at_loop at_seen).loop.at a.end a.tag.now g.0 g.1.0 g.1.1.0 g.1.1.1.1.0
 meter c =
     let at_seen = c.before.before in
     let a = (start at_seen).args in
-    says_meter (says a.version (at_loop at_seen).loop.at a.end a.tag.now (seen at_seen c.next2.given.1))
+    says_meter (says a.version (at_loop at_seen).loop.at a.end a.tag.now (seen at_seen c.next-in-Popularimeter-1.given.1))
 
-user_in_lem : (c : tie.After-struct-known invariant_loop decreases_loop) → let at_next = c.before.before in
-    let name = at_next.next2.given.0.1.1.0 in
+user_in_lem : (c : tie.After-struct_known-1 invariant_loop decreases_loop) → let at_next = c.before.before in
+    let name = at_next.next-in-Popularimeter-1.given.0.1.1.0 in
     name.start + name.len ≤ (start at_next.before.before).args.end
 user_in_lem c =
     let at_next = c.before.before in
@@ -126,16 +126,16 @@ user_in_lem c =
     let m = meter at_next in
     omega (arith, user_fits le m, within le m.met)
 
-add_start : tie.Need-overflow-add-start invariant_loop decreases_loop
+add_start : tie.Need-overflow_add-start invariant_loop decreases_loop
 add_start c = let s = start c.before.before.before.before in omega (arith, user_in_lem c, s.pre, s.fits)
 
-add_start_2 : tie.Need-overflow-add-start-2 invariant_loop decreases_loop
+add_start_2 : tie.Need-overflow_add-start-in-Popularimeter invariant_loop decreases_loop
 add_start_2 c = let s = start c.before.before.before.before in omega (arith, user_in_lem c, s.pre, s.fits)
 
-is_user_requires : tie.Need-is-user-requires invariant_loop decreases_loop
+is_user_requires : tie.Need-is_user-mine-requires invariant_loop decreases_loop
 is_user_requires c κs = let s = start c.before.before.before.before in omega (arith, user_in_lem c, s.pre)
 
-loop_less_2 : tie.Need-loop-smaller-2 invariant_loop decreases_loop
+loop_less_2 : tie.Need-loop-k-smaller invariant_loop decreases_loop
 loop_less_2 c =
     let at_also = c.before in
     let at_next = at_also.before.before.before.before in
@@ -143,7 +143,7 @@ loop_less_2 c =
     let m = (meter at_next).met in
     omega (arith, later le m, within le m)
 
-loop_again_2 : tie.Need-loop-preserved-2 invariant_loop decreases_loop
+loop_again_2 : tie.Need-loop-k-preserved invariant_loop decreases_loop
 loop_again_2 c =
     let at_also = c.before in
     let at_next = at_also.before.before.before.before in
@@ -152,17 +152,17 @@ loop_again_2 c =
     let le = (start at_seen).requires in
     let L = (at_loop at_seen).loop in
     let m = meter at_next in
-    let g = at_next.next2.given.0 in
+    let g = at_next.next-in-Popularimeter-1.given.0 in
     let v = a.version in
     let rest = blocks_in v (slice g.0 a.end a.tag.now) in (
       look_again le m.met L.odd L.inv.0,
       λ even. let p = or_false L.odd g.1.0 even in
           let before = L.inv.1 p.0 in (
-            ap (λ (f : Found). found_on v a.user.now f g.0 rest) at_also.also.ensures
-                ∙ meter_turn v a.user.now L.found le m at_also.before.is-user.result _ p.1 at_also.before.is-user.ensures refl
+            ap (λ (f : Found). found_on v a.user.now f g.0 rest) at_also.also-found.ensures
+                ∙ meter_turn v a.user.now L.found le m at_also.before.is_user-mine.result _ p.1 at_also.before.is_user-mine.ensures refl
                 ∙ before.0,
             (
-              ap (λ (x : Aim). aimed_on x g.0 rest) c.aimed2.ensures ∙ aim_turn le m.met L.aim p.1 ∙ before.1.0,
+              ap (λ (x : Aim). aimed_on x g.0 rest) c.aimed-aim-in-Popularimeter.ensures ∙ aim_turn le m.met L.aim p.1 ∙ before.1.0,
               last_on le m.met p.1 ∙ before.1.1,
             ),
           ),

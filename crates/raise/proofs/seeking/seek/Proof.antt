@@ -8,14 +8,14 @@ use Rattle.raise.proofs.seeking.seek.Statement.{statement}
 use Rattle.raise.proofs.seeking.seek.Tie as tie
 
 -- what the scan found
-told : (c : tie.After-scan) {x : Scanned} → c.scan.result ≡ x → let a = c.before.before.before.args in sought_in x ≡ sought_of a.tag.now a.user.now
-told c e = let a = c.before.before.before.args in sought_scanned a.tag.now a.user.now 0 (sym e ∙ c.scan.ensures)
+told : (c : tie.After-scan-scanned) {x : Scanned} → c.scan-scanned.result ≡ x → let a = c.before.before.before.args in sought_in x ≡ sought_of a.tag.now a.user.now
+told c e = let a = c.before.before.before.args in sought_scanned a.tag.now a.user.now 0 (sym e ∙ c.scan-scanned.ensures)
 
-returns : tie.Need-returns
-returns c = told c.before.before.before c.before.scanned.given.1
+returns : tie.Need-returns-in-Refused
+returns c = told c.before.before.before c.before.scanned-1.given.1
 
-returns_2 : tie.Need-returns-2
-returns_2 c = let at_scanned = c.before.before in c.one_of_lem.ensures ∙ told at_scanned.before.before at_scanned.scanned2.given.1
+returns_2 : tie.Need-returns-in-Frames
+returns_2 c = let at_scanned = c.before.before in c.one_of_lem.ensures ∙ told at_scanned.before.before at_scanned.scanned-in-Frames-1.given.1
 
 pub seek_spec : {M : Type 1} → statement M
 seek_spec =

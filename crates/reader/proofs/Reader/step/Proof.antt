@@ -4,22 +4,22 @@ use borrow.Author.Rules.{rules}
 use Rattle.reader.proofs.Reader.step.Statement.{statement}
 use Rattle.reader.proofs.Reader.step.Tie as tie
 
-returns : tie.Need-returns
+returns : tie.Need-returns-in-Running
 returns c =
     let at_enum_told = c.before.before.before.before in
     let a = at_enum_told.before.before.before.before.args in
-    running a.self a.tag.now a.work.now at_enum_told.enum_told.given.1 c.before.before.go.ensures
+    running a.self a.tag.now a.work.now at_enum_told.enum_told-1.given.1 c.before.before.go.ensures
 
-returns_2 : tie.Need-returns-2
+returns_2 : tie.Need-returns-in-Ended
 returns_2 c =
     let a = c.before.before.before.before.args in
-    ended a.self a.tag.now a.work.now c.enum-told2.given.1
+    ended a.self a.tag.now a.work.now c.enum_told-in-Ended-1.given.1
 
-returns_3 : tie.Need-returns-3
+returns_3 : tie.Need-returns-in-Failed
 returns_3 c =
     let at_known = c.before.before.before.before in
     let a = at_known.before.args in
-    failed a.self a.tag.now a.work.now c.before.stop.given.1
+    failed a.self a.tag.now a.work.now c.before.stop-1.given.1
 
 pub step_spec : {M : Type 1} → statement M
 step_spec =

@@ -11,9 +11,9 @@ use Rattle.reader.proofs.headers.synchsafe.Tie as tie
 returns : tie.Need-returns
 returns c =
     let a = c.before.before.before.args in
-    c.decode-u32.ensures
+    c.decode_u32.ensures
     ∙ ap (λ (n : ℕ). from_synchsafe (bytes_of 4 n)) c.before.read32.ensures
-    ∙ synchsafe_four a.at a.s.now c.before.before.before.requires (λ i. omega (arith, c.before.before.shared-slice-known.given i))
+    ∙ synchsafe_four a.at a.s.now c.before.before.before.requires (λ i. omega (arith, c.before.before.shared_slice_known-1.given i))
 
 pub synchsafe_spec : {M : Type 1} → statement M
 synchsafe_spec = tie.close (tie.spec (λ c κs. search rules) (λ c κs. search rules) returns)

@@ -3,11 +3,11 @@ use borrow.Author.Rules.{rules}
 use Rattle.reader.proofs.opening.is_whole.Statement.{statement}
 use Rattle.reader.proofs.opening.is_whole.Tie as tie
 
-returns : tie.Need-returns
-returns c = rw c.enum_told.given.1 c.before.before.has.ensures
+returns : tie.Need-returns-in-Id3v22
+returns c = rw c.enum_told-1.given.1 c.before.before.has-on.ensures
 
-returns_2 : tie.Need-returns-2
-returns_2 c = rw c.enum-told2.given.1 c.before.before.has.ensures
+returns_2 : tie.Need-returns-in-Id3v23
+returns_2 c = rw c.enum_told-in-Id3v23-1.given.1 c.before.before.has-on.ensures
 
 pub is_whole_spec : {M : Type 1} → statement M
 is_whole_spec =

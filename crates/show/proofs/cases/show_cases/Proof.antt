@@ -7,10 +7,10 @@ use borrow.Author.Rules.{rules}
 use Rattle.show.proofs.cases.show_cases.Statement.{statement}
 use Rattle.show.proofs.cases.show_cases.Tie as tie
 
-abbrev invariant_loop : tie.invariant-loop
+abbrev invariant_loop : tie.invariant-loop-number
 invariant_loop area₀ work₀ text₀ number₀ area work text number = (length area ≡ length area₀) × (length work ≡ length work₀) × (length text ≡ length text₀)
 
-abbrev decreases_loop : tie.decreases-loop
+abbrev decreases_loop : tie.decreases-loop-number
 decreases_loop area₀ work₀ text₀ number₀ area work text number = 2 ^ 64 - number
 
 pub show_cases_spec : {M : Type 1} → statement M

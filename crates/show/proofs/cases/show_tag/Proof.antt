@@ -5,12 +5,12 @@ use borrow.Author.Rules.{rules}
 use Rattle.show.proofs.cases.show_tag.Statement.{statement}
 use Rattle.show.proofs.cases.show_tag.Tie as tie
 
-slice_aggregate_show : tie.Need-slice-aggregate-show
+slice_aggregate_show : tie.Need-slice_bounds-show-end-2
 slice_aggregate_show c =
     let at_start = c.before.before.before.before in
     omega (arith, length-take at_start.args.room at_start.args.work.now)
 
-slice_aggregate_show_2 : tie.Need-slice-aggregate-show-2
+slice_aggregate_show_2 : tie.Need-slice_bounds-show-end-3
 slice_aggregate_show_2 c =
     let at_work = c.before.before in
     let at_start = at_work.before.before.before.before in

@@ -7,10 +7,10 @@ use borrow.Author.Rules.{rules}
 use Rattle.test_trips.proofs.same.first_are.Statement.{statement}
 use Rattle.test_trips.proofs.same.first_are.Tie as tie
 
-abbrev invariant_loop : tie.invariant-loop
+abbrev invariant_loop : tie.invariant-loop-i
 invariant_loop s n given i₀ i = (i ≤ n) × ((n ≤ length s) × (n ≡ length given))
 
-abbrev decreases_loop : tie.decreases-loop
+abbrev decreases_loop : tie.decreases-loop-i
 decreases_loop s n given i₀ i = n - i
 
 pub first_are_spec : {M : Type 1} → statement M

@@ -6,10 +6,10 @@ use lib.ListN.{length}
 use Rattle.test_trips.proofs.same.same_bytes.Statement.{statement}
 use Rattle.test_trips.proofs.same.same_bytes.Tie as tie
 
-abbrev invariant_loop : tie.invariant-loop
+abbrev invariant_loop : tie.invariant-loop-i
 invariant_loop s t i₀ i = (i ≤ length s) × (length s ≡ length t)
 
-abbrev decreases_loop : tie.decreases-loop
+abbrev decreases_loop : tie.decreases-loop-i
 decreases_loop s t i₀ i = length s - i
 
 pub same_bytes_spec : {M : Type 1} → statement M

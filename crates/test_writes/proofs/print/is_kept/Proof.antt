@@ -6,10 +6,10 @@ use lib.ListN.{length}
 use Rattle.test_writes.proofs.print.is_kept.Statement.{statement}
 use Rattle.test_writes.proofs.print.is_kept.Tie as tie
 
-abbrev invariant_loop : tie.invariant-loop
+abbrev invariant_loop : tie.invariant-loop-i
 invariant_loop s before at n i₀ i = (i ≤ length s) × (length s ≡ length before)
 
-abbrev decreases_loop : tie.decreases-loop
+abbrev decreases_loop : tie.decreases-loop-i
 decreases_loop s before at n i₀ i = length s - i
 
 pub is_kept_spec : {M : Type 1} → statement M

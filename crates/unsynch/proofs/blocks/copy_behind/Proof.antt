@@ -18,7 +18,7 @@ returns c =
     let part : List ℕ = slice (a.i + 1) (a.i + a.n + 1) a.s.now in
     let block = slice_copy a.s.now (replicate 64 0) _ (a.i + 1) (a.i + a.n + 1) a.n (omega arith) (omega arith) (omega arith) at_copy.copy.ensures in
     let n : a.at + a.n ≡ a.at + length part = omega (arith, length-slice (a.i + 1) (a.i + a.n + 1) a.s.now (omega arith)) in
-    λ j. (n j, (at_stored.copy2.ensures ∙ ap (sets a.buf.now a.at) block) j)
+    λ j. (n j, (at_stored.copy-2.ensures ∙ ap (sets a.buf.now a.at) block) j)
 
 pub copy_behind_spec : {M : Type 1} → statement M
 copy_behind_spec =

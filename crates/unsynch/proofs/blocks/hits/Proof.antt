@@ -7,10 +7,10 @@ use borrow.Author.Rules.{rules}
 use Rattle.unsynch.proofs.blocks.hits.Statement.{statement}
 use Rattle.unsynch.proofs.blocks.hits.Tie as tie
 
-returns_2 : tie.Need-returns-2
+returns_2 : tie.Need-returns
 returns_2 c =
     let a = c.before.before.before.args in
-    sym (no_ff a.how a.s.now 64 a.i (a.i + 64) (omega arith) (omega arith) (sym c.before.any-ff.ensures ∙ c.if1.false))
+    sym (no_ff a.how a.s.now 64 a.i (a.i + 64) (omega arith) (omega arith) (sym c.before.any_ff.ensures ∙ c.if-any_ff.false))
 
 pub hits_spec : {M : Type 1} → statement M
 hits_spec = tie.close (tie.spec (λ c κs. search rules) (λ c κs. search rules) (λ c. search rules) (λ c. search rules) returns_2)

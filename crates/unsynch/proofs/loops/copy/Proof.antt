@@ -7,36 +7,36 @@ use native.Mathlib.Omega.{arith}
 use Rattle.unsynch.proofs.loops.copy.Statement.{statement}
 use Rattle.unsynch.proofs.loops.copy.Tie as tie
 
-abbrev invariant_loop : tie.invariant-loop
+abbrev invariant_loop : tie.invariant-loop-k
 invariant_loop buf₀ at s from to n k₀ buf k = (n ≡ to - from) × (k ≤ n) × Storing buf₀ at (slice from to s) buf (at + k) (slice (from + k) to s)
 
-abbrev decreases_loop : tie.decreases-loop
+abbrev decreases_loop : tie.decreases-loop-k
 decreases_loop buf₀ at s from to n k₀ buf k = n - k
 
-loop_holds : tie.Need-loop-init invariant_loop decreases_loop
+loop_holds : tie.Need-loop-k-init invariant_loop decreases_loop
 loop_holds c =
     let a = c.args in
     (refl, omega arith, copy_begin a.s.now a.from a.to a.at (omega arith) a.buf.now (omega arith))
 
-slice_write_buf : tie.Need-slice-write-buf invariant_loop decreases_loop
+slice_write_buf : tie.Need-bounds-buf-at invariant_loop decreases_loop
 slice_write_buf c =
     let a = c.before.before.before.args in
-    let L = c.before.before.loop in
+    let L = c.before.before.loop-k in
     (copy_turn a.s.now a.from a.to a.at (omega arith) L.k (omega arith) L.invariant.2).0
 
-loop_again : tie.Need-loop-preserved invariant_loop decreases_loop
+loop_again : tie.Need-loop-k-preserved invariant_loop decreases_loop
 loop_again c =
     let a = c.before.before.before.args in
-    let L = c.before.before.loop in
+    let L = c.before.before.loop-k in
     (refl, omega arith, (copy_turn a.s.now a.from a.to a.at (omega arith) L.k (omega arith) L.invariant.2).1)
 
-same_length : tie.Need-same-length invariant_loop decreases_loop
-same_length c = c.before.loop.invariant.2.long
+same_length : tie.Need-shape_of-buf invariant_loop decreases_loop
+same_length c = c.before.loop-k.invariant.2.long
 
 returns : tie.Need-returns invariant_loop decreases_loop
 returns c =
     let a = c.before.before.args in
-    copy_end a.s.now a.from a.to a.at (omega arith) c.before.loop.k (omega arith) c.before.loop.invariant.2
+    copy_end a.s.now a.from a.to a.at (omega arith) c.before.loop-k.k (omega arith) c.before.loop-k.invariant.2
 
 pub copy_spec : {M : Type 1} → statement M
 copy_spec =

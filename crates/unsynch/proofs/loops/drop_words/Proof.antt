@@ -10,73 +10,73 @@ use native.Mathlib.Omega.{arith}
 use Rattle.unsynch.proofs.loops.drop_words.Statement.{statement}
 use Rattle.unsynch.proofs.loops.drop_words.Tie as tie
 
-abbrev invariant_loop : tie.invariant-loop
+abbrev invariant_loop : tie.invariant-loop-i
 invariant_loop buf₀ at s from to o₀ i₀ buf o i =
     (from ≤ i) × (i < to) × Storing buf₀ at (edited_after resync_by s from to) buf o (edited_after resync_by s i to)
 
-abbrev decreases_loop : tie.decreases-loop
+abbrev decreases_loop : tie.decreases-loop-i
 decreases_loop buf₀ at s from to o₀ i₀ buf o i = to - i
 
 -- where no FF was found, the eight bytes are left alone
-alone : (c : tie.After-any-ff invariant_loop decreases_loop) → c.any-ff.result ≡ false
+alone : (c : tie.After-any_ff invariant_loop decreases_loop) → c.any_ff.result ≡ false
     → let at_loop = c.before.before in
-    let L = at_loop.loop in
+    let L = at_loop.loop-i in
     hits_after resync_by at_loop.before.before.before.args.s.now L.i (L.i + 8 + 1) ≡ 0
 alone c e =
-    let L = c.before.before.loop in
-    no_ff resync_by _ 8 L.i (L.i + 8) (omega arith) (omega arith) (sym c.any-ff.ensures ∙ e)
+    let L = c.before.before.loop-i in
+    no_ff resync_by _ 8 L.i (L.i + 8) (omega arith) (omega arith) (sym c.any_ff.ensures ∙ e)
 
-loop_holds : tie.Need-loop-init invariant_loop decreases_loop
+loop_holds : tie.Need-loop-i-init invariant_loop decreases_loop
 loop_holds c = (omega arith, omega arith, begin _ _ _ (omega arith))
 
-drop_bytes_requires : tie.Need-drop-bytes-requires invariant_loop decreases_loop
+drop_bytes_requires : tie.Need-drop_bytes-o-requires invariant_loop decreases_loop
 drop_bytes_requires c κs =
     let at_loop = c.before.before.before.before in
     let a = at_loop.before.before.before.args in
-    let L = at_loop.loop in
+    let L = at_loop.loop-i in
     (omega arith, (piece resync_by a.s.now L.i (L.i + 8) a.to (omega arith) (omega arith) (omega arith) L.invariant.2).0)
 
-copy_behind_requires : tie.Need-copy-behind-requires invariant_loop decreases_loop
+copy_behind_requires : tie.Need-copy_behind-o-requires invariant_loop decreases_loop
 copy_behind_requires c κs =
     let at_loop = c.before.before.before.before in
     let a = at_loop.before.before.before.args in
-    let L = at_loop.loop in
-    (omega arith, omega arith, (block resync_by a.s.now L.i 8 a.to (omega arith) (omega arith) (alone c.before.before c.before.if1.false) L.invariant.2).0)
+    let L = at_loop.loop-i in
+    (omega arith, omega arith, (block resync_by a.s.now L.i 8 a.to (omega arith) (omega arith) (alone c.before.before c.before.if-any_ff.false) L.invariant.2).0)
 
-loop_again : tie.Need-loop-preserved invariant_loop decreases_loop
+loop_again : tie.Need-loop-i-preserved-then-any_ff invariant_loop decreases_loop
 loop_again c =
     let at_store = c.before.before in
-    let stores = at_store.drop-bytes in
+    let stores = at_store.drop_bytes-o in
     let at_test = at_store.before.before in
     let at_loop = at_test.before.before.before in
     let a = at_loop.before.before.before.args in
-    let L = at_loop.loop in
+    let L = at_loop.loop-i in
     let t = (piece resync_by a.s.now L.i (L.i + 8) a.to (omega arith) (omega arith) (omega arith) L.invariant.2).1 stores.result stores.new.0 stores.ensures in
     (omega arith, omega arith, t.1)
 
-loop_again_2 : tie.Need-loop-preserved-2 invariant_loop decreases_loop
+loop_again_2 : tie.Need-loop-i-preserved invariant_loop decreases_loop
 loop_again_2 c =
     let at_store = c.before.before in
-    let stores = at_store.copy-behind in
+    let stores = at_store.copy_behind-o in
     let at_test = at_store.before.before in
     let at_loop = at_test.before.before.before in
     let a = at_loop.before.before.before.args in
-    let L = at_loop.loop in
-    let t = (block resync_by a.s.now L.i 8 a.to (omega arith) (omega arith) (alone at_test.before at_test.if1.false) L.invariant.2).1 stores.result stores.new.0 stores.ensures in
+    let L = at_loop.loop-i in
+    let t = (block resync_by a.s.now L.i 8 a.to (omega arith) (omega arith) (alone at_test.before at_test.if-any_ff.false) L.invariant.2).1 stores.result stores.new.0 stores.ensures in
     (omega arith, omega arith, t)
 
-drop_bytes_requires_2 : tie.Need-drop-bytes-requires-2 invariant_loop decreases_loop
-drop_bytes_requires_2 c κs = (omega arith, lies c.before.before.loop.invariant.2)
+drop_bytes_requires_2 : tie.Need-drop_bytes-requires invariant_loop decreases_loop
+drop_bytes_requires_2 c κs = (omega arith, lies c.before.before.loop-i.invariant.2)
 
-same_length : tie.Need-same-length invariant_loop decreases_loop
+same_length : tie.Need-shape_of-buf invariant_loop decreases_loop
 same_length c =
     let at_last = c.before.before in
-    at_last.drop-bytes2.auto.0 ∙ at_last.before.before.before.loop.invariant.2.long
+    at_last.drop_bytes.auto.0 ∙ at_last.before.before.before.loop-i.invariant.2.long
 
 returns : tie.Need-returns invariant_loop decreases_loop
 returns c =
     let at_last = c.before.before in
-    at_last.drop-bytes2.ensures ∙ rest at_last.before.before.before.loop.invariant.2
+    at_last.drop_bytes.ensures ∙ rest at_last.before.before.before.loop-i.invariant.2
 
 pub drop_words_spec : {M : Type 1} → statement M
 drop_words_spec =

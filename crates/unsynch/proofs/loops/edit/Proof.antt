@@ -14,49 +14,49 @@ use Rattle.unsynch.proofs.loops.edit.Statement.{statement}
 use Rattle.unsynch.proofs.loops.edit.Tie as tie
 
 -- the first byte is to be put: the arguments
-abbrev start : tie.After-shared-slice-known2 → tie.Start
+abbrev start : tie.After-shared_slice_known-2-1 → tie.Start
 start c = c.before.before.before
 
 -- it comes before the others
-first : (c : tie.After-shared-slice-known2) → let a = (start c).args in
-    Storing a.buf.now a.at (edited a.how false (slice a.from a.to a.s.now))
-    a.buf.now a.at (get_or a.s.now a.from 0 ∷ edited_after a.how a.s.now a.from a.to)
+first : (c : tie.After-shared_slice_known-2-1) → let a = (start c).args in
+    Storing a.buf-1.now a.at (edited a.how false (slice a.from a.to a.s.now))
+    a.buf-1.now a.at (get_or a.s.now a.from 0 ∷ edited_after a.how a.s.now a.from a.to)
 first c =
     let a = (start c).args in
     same_list (plain_first a.how a.s.now a.from a.to (omega arith) (omega arith)) (begin _ _ _ (start c).requires.1.0)
 
-slice_write_buf : tie.Need-slice-write-buf
+slice_write_buf : tie.Need-bounds-buf-at
 slice_write_buf c = next_lies (first c)
 
-edit_after_requires : tie.Need-edit-after-requires
+edit_after_requires : tie.Need-edit_after-requires
 edit_after_requires c κs =
     let at_first = c.before.before in
     (omega arith, (lies (put (first at_first)), (start at_first).requires.1.1))
 
-same_length : tie.Need-same-length
+same_length : tie.Need-shape_of-buf-then-how
 same_length c =
     let at_edit = c.before.before in
-    at_edit.edit-after.auto.0 ∙ (put (first at_edit.before.before.before)).long
+    at_edit.edit_after.auto.0 ∙ (put (first at_edit.before.before.before)).long
 
-returns : tie.Need-returns
+returns : tie.Need-returns-then-how
 returns c =
     let at_edit = c.before.before in
-    at_edit.edit-after.ensures ∙ rest (put (first at_edit.before.before.before))
+    at_edit.edit_after.ensures ∙ rest (put (first at_edit.before.before.before))
 
-edit_by_byte_requires : tie.Need-edit-by-byte-requires
+edit_by_byte_requires : tie.Need-edit_by_byte-requires
 edit_by_byte_requires c κs =
     let at_first = c.before.before in
     (omega arith, (lies (put (first at_first)), (start at_first).requires.1.1))
 
-same_length_2 : tie.Need-same-length-2
+same_length_2 : tie.Need-shape_of-buf
 same_length_2 c =
     let at_edit = c.before.before in
-    at_edit.edit-by-byte.auto.0 ∙ (put (first at_edit.before.before.before)).long
+    at_edit.edit_by_byte.auto.0 ∙ (put (first at_edit.before.before.before)).long
 
-returns_2 : tie.Need-returns-2
+returns_2 : tie.Need-returns
 returns_2 c =
     let at_edit = c.before.before in
-    at_edit.edit-by-byte.ensures ∙ rest (put (first at_edit.before.before.before))
+    at_edit.edit_by_byte.ensures ∙ rest (put (first at_edit.before.before.before))
 
 pub edit_spec : {M : Type 1} → statement M
 edit_spec =

@@ -10,7 +10,7 @@ use native.Mathlib.Omega.{arith}
 use Rattle.unsynch.proofs.loops.edit_chunk.Statement.{statement}
 use Rattle.unsynch.proofs.loops.edit_chunk.Tie as tie
 
-edit_after_requires : tie.Need-edit-after-requires
+edit_after_requires : tie.Need-edit_after-requires
 edit_after_requires c κs =
     let at_copy = c.before.before.before in
     let at_start = at_copy.before.before.before.before in
@@ -24,7 +24,7 @@ returns c =
     let at_copy = at_edit.before.before.before.before in
     let a = at_copy.before.before.before.before.args in
     let e = in_copy a.how a.area.now (replicate 1025 0) at_copy.copy.new.0 a.from a.to (omega arith) (omega arith) (omega arith) at_copy.copy.ensures in
-    at_edit.edit-after.ensures ∙ ap (λ (l : List ℕ). stored l a.at a.area.now) e.1
+    at_edit.edit_after.ensures ∙ ap (λ (l : List ℕ). stored l a.at a.area.now) e.1
 
 pub edit_chunk_spec : {M : Type 1} → statement M
 edit_chunk_spec =

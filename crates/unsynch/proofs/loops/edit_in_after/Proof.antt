@@ -11,41 +11,41 @@ use native.Mathlib.Omega.{arith}
 use Rattle.unsynch.proofs.loops.edit_in_after.Statement.{statement}
 use Rattle.unsynch.proofs.loops.edit_in_after.Tie as tie
 
-abbrev invariant_loop : tie.invariant-loop
+abbrev invariant_loop : tie.invariant-loop-i
 invariant_loop area₀ at from to how o₀ i₀ area o i =
     (from ≤ i) × (i < to) × (at ≤ o) × (take at area ≡ take at area₀)
     × Storing area₀ at (edited_after how area₀ from to) area o (edited_after how area₀ i to)
 
-abbrev decreases_loop : tie.decreases-loop
+abbrev decreases_loop : tie.decreases-loop-i
 decreases_loop area₀ at from to how o₀ i₀ area o i = to - i
 
-loop_holds : tie.Need-loop-init invariant_loop decreases_loop
+loop_holds : tie.Need-loop-i-init invariant_loop decreases_loop
 loop_holds c = (omega arith, omega arith, omega arith, refl, begin _ _ _ (omega arith))
 
-edit_chunk_requires : tie.Need-edit-chunk-requires invariant_loop decreases_loop
+edit_chunk_requires : tie.Need-edit_chunk-o-requires invariant_loop decreases_loop
 edit_chunk_requires c κs =
     let at_loop = c.before.before.before in
     let at_start = at_loop.before.before in
     let a = at_start.args in
-    let L = at_loop.loop in
+    let L = at_loop.loop-i in
     (omega (arith, L.invariant.4.long), ((piece_in a.how a.area.now L.i (L.i + c.before.least.result) a.to (omega arith) (omega arith) (omega arith) a.at (omega arith) (omega arith) L.invariant.2 L.invariant.4.long L.invariant.3 L.invariant.4).0, at_start.requires.1.1))
 
-loop_again : tie.Need-loop-preserved invariant_loop decreases_loop
+loop_again : tie.Need-loop-i-preserved invariant_loop decreases_loop
 loop_again c =
     let at_least_lem = c.before.before.before.before in
     let at_loop = at_least_lem.before.before in
     let a = at_loop.before.before.args in
-    let L = at_loop.loop in
-    let t = (piece_in a.how a.area.now L.i (L.i + at_least_lem.least.result) a.to (omega arith) (omega arith) (omega arith) a.at (omega arith) (omega arith) L.invariant.2 L.invariant.4.long L.invariant.3 L.invariant.4).1 c.before.before.edit-chunk.result c.before.before.edit-chunk.new.0 c.before.before.edit-chunk.ensures in
+    let L = at_loop.loop-i in
+    let t = (piece_in a.how a.area.now L.i (L.i + at_least_lem.least.result) a.to (omega arith) (omega arith) (omega arith) a.at (omega arith) (omega arith) L.invariant.2 L.invariant.4.long L.invariant.3 L.invariant.4).1 c.before.before.edit_chunk-o.result c.before.before.edit_chunk-o.new.0 c.before.before.edit_chunk-o.ensures in
     (omega arith, omega arith, omega arith, t.1, t.2)
 
-same_length : tie.Need-same-length invariant_loop decreases_loop
-same_length c = c.before.loop.invariant.4.long
+same_length : tie.Need-shape_of-area invariant_loop decreases_loop
+same_length c = c.before.loop-i.invariant.4.long
 
 returns : tie.Need-returns invariant_loop decreases_loop
 returns c =
     let a = c.before.before.before.args in
-    let L = c.before.loop in
+    let L = c.before.loop-i in
     done (edited_end a.how a.area.now L.i a.to (omega arith)) L.invariant.4
 
 pub edit_in_after_spec : {M : Type 1} → statement M

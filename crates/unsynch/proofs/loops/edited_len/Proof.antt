@@ -6,25 +6,25 @@ use native.Mathlib.Omega.{arith}
 use Rattle.unsynch.proofs.loops.edited_len.Statement.{statement}
 use Rattle.unsynch.proofs.loops.edited_len.Tie as tie
 
-add_result : tie.Need-overflow-add-result
+add_result : tie.Need-overflow_add-result
 add_result c =
     let a = c.before.before.before.args in
     omega (arith, few_after a.how a.s.now a.from a.to (omega arith) (omega arith))
 
-sub_result_3 : tie.Need-overflow-sub-result-3
+sub_result_3 : tie.Need-overflow_sub-result-else-how-2
 sub_result_3 c =
     let a = c.before.before.before.args in
     omega (arith, few_after a.how a.s.now a.from a.to (omega arith) (omega arith))
 
-returns : tie.Need-returns
+returns : tie.Need-returns-then-how
 returns c =
     let a = c.before.before.before.args in
-    omega (arith, length_longer a.how a.s.now a.from a.to (omega arith) (omega arith) c.if1.true)
+    omega (arith, length_longer a.how a.s.now a.from a.to (omega arith) (omega arith) c.if-how.true)
 
-returns_2 : tie.Need-returns-2
+returns_2 : tie.Need-returns-else-how
 returns_2 c =
     let a = c.before.before.before.args in
-    omega (arith, length_shorter a.how a.s.now a.from a.to (omega arith) (omega arith) c.if1.false)
+    omega (arith, length_shorter a.how a.s.now a.from a.to (omega arith) (omega arith) c.if-how.false)
 
 pub edited_len_spec : {M : Type 1} → statement M
 edited_len_spec =

@@ -17,7 +17,7 @@ use Rattle.unsynch.proofs.loops.fits.Tie as tie
 most_requires : tie.Need-most-requires
 most_requires c κs = omega (arith, c.before.well-formed)
 
-returns : tie.Need-returns
+returns : tie.Need-returns-then-most-room
 returns c =
     let at_start = c.before.before.before in
     let a = at_start.args in
@@ -27,9 +27,9 @@ returns c =
     omega (arith, length_most a.how at_start.requires.1 part, ap (λ (n : ℕ). pick (a.how.insert && a.how.zero) (n + n) n) long) in
     sym (le-leb _ _ most)
 
-returns_2 : tie.Need-returns-2
+returns_2 : tie.Need-returns
 returns_2 c =
-    ap (λ (n : ℕ). leb n c.before.before.before.before.args.room) c.edited-len.ensures
+    ap (λ (n : ℕ). leb n c.before.before.before.before.args.room) c.edited_len.ensures
 
 pub fits_spec : {M : Type 1} → statement M
 fits_spec = tie.close (tie.spec (λ c. search rules) most_requires returns (λ c κs. omega arith) returns_2)

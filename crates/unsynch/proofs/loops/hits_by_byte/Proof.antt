@@ -8,24 +8,24 @@ use native.Mathlib.Omega.{arith}
 use Rattle.unsynch.proofs.loops.hits_by_byte.Statement.{statement}
 use Rattle.unsynch.proofs.loops.hits_by_byte.Tie as tie
 
-abbrev invariant_loop : tie.invariant-loop
+abbrev invariant_loop : tie.invariant-loop-k
 invariant_loop s from to how n₀ k₀ n k = (from ≤ k) × (k < to) × (n ≤ k - from) × (n + hits_after how s k to ≡ hits_after how s from to)
 
-abbrev decreases_loop : tie.decreases-loop
+abbrev decreases_loop : tie.decreases-loop-k
 decreases_loop s from to how n₀ k₀ n k = to - k
 
-loop_again : tie.Need-loop-preserved invariant_loop decreases_loop
+loop_again : tie.Need-loop-k-preserved invariant_loop decreases_loop
 loop_again c =
     let at_hit = c.before in
     let at_loop = at_hit.before.before.before.before in
     let a = at_loop.before.before.args in
-    let L = at_loop.loop in
+    let L = at_loop.loop-k in
     omega (arith, counts a.how a.s.now L.k a.to (omega arith) (omega arith) at_hit.hit.result at_hit.hit.ensures)
 
 returns : tie.Need-returns invariant_loop decreases_loop
 returns c =
     let a = c.before.before.before.args in
-    let L = c.before.loop in
+    let L = c.before.loop-k in
     omega (arith, hits_end a.how a.s.now L.k a.to (omega arith))
 
 pub hits_by_byte_spec : {M : Type 1} → statement M

@@ -27,11 +27,11 @@ use Rattle.walk.proofs.inside.look.Tie as tie
 -- src/inside.rt:71:27
 -- src/inside.rt:72:22
 -- src/inside.rt:62:1
-returns : tie.Need-returns
-returns c = rw c.before.enum_told.given.1 c.text.ensures
+returns : tie.Need-returns-in-Text
+returns c = rw c.before.enum_told-1.given.1 c.text.ensures
 
 -- src/inside.rt:62:1
-returns_2 : tie.Need-returns-2
+returns_2 : tie.Need-returns-in-Popularimeter
 returns_2 c =
     let at_parse = c.before in
     let at_start = at_parse.before.before.before.before in
@@ -39,10 +39,10 @@ returns_2 c =
     let b = slice a.from a.to a.s.now in
     let l = length-slice a.from a.to a.s.now at_start.requires.1 in
     let ends : a.from + length b ≡ a.to = omega arith in
-    c.after.ensures ∙ after_as Id3v24 a.from a.to b ends a.kind Kind.Popularimeter c.before.parse.result c.before.before.enum-told2.given.1 (c.before.parse.ensures Id3v24)
+    c.after.ensures ∙ after_as Id3v24 a.from a.to b ends a.kind Kind.Popularimeter c.before.parse.result c.before.before.enum_told-in-Popularimeter-1.given.1 (c.before.parse.ensures Id3v24)
 
 -- src/inside.rt:62:1
-returns_3 : tie.Need-returns-3
+returns_3 : tie.Need-returns-in-Table
 returns_3 c =
     let at_parse2 = c.before in
     let at_start = at_parse2.before.before.before.before in
@@ -50,10 +50,10 @@ returns_3 c =
     let b = slice a.from a.to a.s.now in
     let l = length-slice a.from a.to a.s.now at_start.requires.1 in
     let ends : a.from + length b ≡ a.to = omega arith in
-    c.after2.ensures ∙ after_as Id3v24 a.from a.to b ends a.kind Kind.Table c.before.parse2.result c.before.before.enum-told3.given.1 (c.before.parse2.ensures Id3v24)
+    c.after-in-Table.ensures ∙ after_as Id3v24 a.from a.to b ends a.kind Kind.Table c.before.parse-in-Table.result c.before.before.enum_told-in-Table-1.given.1 (c.before.parse-in-Table.ensures Id3v24)
 
 -- src/inside.rt:62:1
-returns_4 : tie.Need-returns-4
+returns_4 : tie.Need-returns-in-Chapter
 returns_4 c =
     let at_parse_chapter = c.before in
     let at_start = at_parse_chapter.before.before.before.before in
@@ -61,10 +61,10 @@ returns_4 c =
     let b = slice a.from a.to a.s.now in
     let l = length-slice a.from a.to a.s.now at_start.requires.1 in
     let ends : a.from + length b ≡ a.to = omega arith in
-    c.after3.ensures ∙ after_as Id3v24 a.from a.to b ends a.kind Kind.Chapter c.before.parse-chapter.result c.before.before.enum-told4.given.1 (c.before.parse-chapter.ensures Id3v24)
+    c.after-in-Chapter.ensures ∙ after_as Id3v24 a.from a.to b ends a.kind Kind.Chapter c.before.parse_chapter.result c.before.before.enum_told-in-Chapter-1.given.1 (c.before.parse_chapter.ensures Id3v24)
 
 -- src/inside.rt:62:1
-returns_5 : tie.Need-returns-5
+returns_5 : tie.Need-returns-in-Contents
 returns_5 c =
     let at_parse_contents = c.before in
     let at_start = at_parse_contents.before.before.before.before in
@@ -72,17 +72,17 @@ returns_5 c =
     let b = slice a.from a.to a.s.now in
     let l = length-slice a.from a.to a.s.now at_start.requires.1 in
     let ends : a.from + length b ≡ a.to = omega arith in
-    c.after4.ensures ∙ after_as Id3v24 a.from a.to b ends a.kind Kind.Contents c.before.parse-contents.result c.before.before.enum-told5.given.1 (c.before.parse-contents.ensures Id3v24)
+    c.after-in-Contents.ensures ∙ after_as Id3v24 a.from a.to b ends a.kind Kind.Contents c.before.parse_contents.result c.before.before.enum_told-in-Contents-1.given.1 (c.before.parse_contents.ensures Id3v24)
 
 -- src/inside.rt:62:1
-returns_6 : tie.Need-returns-6
+returns_6 : tie.Need-returns-in-Raw
 returns_6 c =
     let at_start = c.before.before.before in
     let a = at_start.args in
     let b = slice a.from a.to a.s.now in
     let l = length-slice a.from a.to a.s.now at_start.requires.1 in
     let ends : a.from + length b ≡ a.to = omega arith in
-    raw_inside a.kind a.from b a.to ends c.enum-told6.given.1
+    raw_inside a.kind a.from b a.to ends c.enum_told-in-Raw-1.given.1
 
 pub look_spec : {M : Type 1} → statement M
 look_spec =

@@ -11,34 +11,34 @@ use Rattle.walk.proofs.inside.place.Tie as tie
 -- src/inside.rt:32:24
 -- src/inside.rt:33:22
 -- src/inside.rt:23:1
-returns : tie.Need-returns
+returns : tie.Need-returns-in-Chapter
 unfolding place_of
-returns c = rw c.enum_told.given.1
+returns c = rw c.enum_told-1.given.1
 
 -- src/inside.rt:23:1
-returns_2 : tie.Need-returns-2
+returns_2 : tie.Need-returns-in-Contents
 unfolding place_of
-returns_2 c = rw c.enum-told2.given.1
+returns_2 c = rw c.enum_told-in-Contents-1.given.1
 
 -- src/inside.rt:23:1
-returns_3 : tie.Need-returns-3
+returns_3 : tie.Need-returns-in-Text
 unfolding place_of
-returns_3 c = rw c.enum-told3.given.1
+returns_3 c = rw c.enum_told-in-Text-1.given.1
 
 -- src/inside.rt:23:1
-returns_4 : tie.Need-returns-4
+returns_4 : tie.Need-returns-in-Popularimeter
 unfolding place_of
-returns_4 c = rw c.enum-told4.given.1
+returns_4 c = rw c.enum_told-in-Popularimeter-1.given.1
 
 -- src/inside.rt:23:1
-returns_5 : tie.Need-returns-5
+returns_5 : tie.Need-returns-in-Table
 unfolding place_of
-returns_5 c = rw c.enum-told5.given.1
+returns_5 c = rw c.enum_told-in-Table-1.given.1
 
 -- src/inside.rt:23:1
-returns_6 : tie.Need-returns-6
+returns_6 : tie.Need-returns-in-Raw
 unfolding place_of
-returns_6 c = rw c.enum-told6.given.1
+returns_6 c = rw c.enum_told-in-Raw-1.given.1
 
 pub place_spec : {M : Type 1} → statement M
 place_spec =

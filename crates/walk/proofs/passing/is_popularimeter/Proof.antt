@@ -4,11 +4,11 @@ use borrow.Author.Rules.{rules}
 use Rattle.walk.proofs.passing.is_popularimeter.Statement.{statement}
 use Rattle.walk.proofs.passing.is_popularimeter.Tie as tie
 
-returns : tie.Need-returns
-returns c = is_meter_lem c.before.before.args.kind c.enum_told.given.1
+returns : tie.Need-returns-in-Popularimeter
+returns c = is_meter_lem c.before.before.args.kind c.enum_told-1.given.1
 
-returns_2 : tie.Need-returns-2
-returns_2 c = no_meter c.before.args.kind c.match.keys2
+returns_2 : tie.Need-returns-in_default
+returns_2 c = no_meter c.before.args.kind c.in_default.keys2
 
 pub is_popularimeter_spec : {M : Type 1} → statement M
 is_popularimeter_spec = tie.close (tie.spec (λ c. search rules) returns returns_2)

@@ -16,29 +16,29 @@ use Rattle.walk.proofs.passing.pass_in.Statement.{statement}
 use Rattle.walk.proofs.passing.pass_in.Tie as tie
 
 -- the frame that was found
-found : (d : tie.After-known-told2)
+found : (d : tie.In-Found)
     → let at_decode = d.before.before.before in
     let a = at_decode.before.before.before.args in
-    let h = d.before.id.given.0 in
+    let h = d.before.id-1.given.0 in
     Here a.version a.at a.end a.s.now h.0 h.1.0 h.1.1.0 h.1.1.1.0 h.1.1.1.1.0 h.1.1.1.1.1.0
 found d =
     let at_decode = d.before.before.before in
     let a = at_decode.before.before.before.args in
-    here a.version a.at a.end a.s.now _ _ _ _ _ _ (sym d.before.id.given.1 ∙ d.before.before.before.decode.ensures)
+    here a.version a.at a.end a.s.now _ _ _ _ _ _ (sym d.before.id-1.given.1 ∙ d.before.before.before.decode.ensures)
 
-add_first : tie.Need-overflow-add-first
+add_first : tie.Need-overflow_add-first
 add_first c =
     let at_decode = c.before.before.before in
     let at_start = at_decode.before.before.before in
     omega (arith, (found c).within, at_start.ranges)
 
-add_next : tie.Need-overflow-add-next
+add_next : tie.Need-overflow_add-next
 add_next c =
     let at_decode = c.before.before.before in
     let at_start = at_decode.before.before.before in
     omega (arith, (found c).within, at_start.ranges)
 
-returns : tie.Need-returns
+returns : tie.Need-returns-then-resynced
 returns c =
     let at_if2 = c.before.before.before.before in
     let at_if1 = at_if2.before in
@@ -46,52 +46,52 @@ returns c =
     let d = q.before.before.before in
     let at_decode = d.before.before.before in
     let a = at_decode.before.before.before.args in
-    let h = d.before.id.given.0 in
+    let h = d.before.id-1.given.0 in
     let b = slice (a.at + h.1.1.1.1.0) (a.at + h.1.1.1.1.0 + h.1.1.1.1.1.0) a.s.now in
-    λ begin. pass_front a.version a.in_work begin a.at a.end a.s.now a.room.now (found d) _ _ q.before.before.shown-kind.ensures q.before.is-resynced.ensures (sym q.is-popularimeter.ensures ∙ at_if1.if1.true) at_if2.if2.true
+    λ begin. pass_front a.version a.in_work begin a.at a.end a.s.now a.room.now (found d) _ _ q.before.before.shown_kind-kind.ensures q.before.is_resynced-resynced.ensures (sym q.is_popularimeter.ensures ∙ at_if1.if-is_popularimeter.true) at_if2.if-resynced.true
     (c.before.before.flagged.ensures a.version h.0 (a.at - begin) 0 (length (resynchronised b)))
 
-returns_2 : tie.Need-returns-2
+returns_2 : tie.Need-returns-then-is_popularimeter
 returns_2 c =
     let at_if1 = c.before.before.before in
     let q = at_if1.before in
     let d = q.before.before.before in
     let at_decode = d.before.before.before in
     let a = at_decode.before.before.before.args in
-    let h = d.before.id.given.0 in
+    let h = d.before.id-1.given.0 in
     let b = slice (a.at + h.1.1.1.1.0) (a.at + h.1.1.1.1.0 + h.1.1.1.1.1.0) a.s.now in
-    λ begin. pass_meter a.version a.in_work begin a.at a.end a.s.now a.room.now (found d) _ _ q.before.before.shown-kind.ensures q.before.is-resynced.ensures (sym q.is-popularimeter.ensures ∙ at_if1.if1.true) c.before.before.if2.false
+    λ begin. pass_meter a.version a.in_work begin a.at a.end a.s.now a.room.now (found d) _ _ q.before.before.shown_kind-kind.ensures q.before.is_resynced-resynced.ensures (sym q.is_popularimeter.ensures ∙ at_if1.if-is_popularimeter.true) c.before.before.if-resynced.false
     (c.before.parse.ensures a.version) (c.read_as.ensures a.version h.0 (a.at - begin) (a.at + h.1.1.1.1.0) (length b))
 
-body_requires : tie.Need-body-requires
+body_requires : tie.Need-body-r-requires
 body_requires c κs =
     let at_shown_kind = c.before.before.before.before in
     (omega arith, (found at_shown_kind.before).within, omega arith)
 
-returns_3 : tie.Need-returns-3
+returns_3 : tie.Need-returns-then-r-ne0
 returns_3 c =
     let at_body = c.before.before.before in
     let q = at_body.before.before.before in
     let d = q.before.before.before in
     let at_decode = d.before.before.before in
     let a = at_decode.before.before.before.args in
-    λ begin. pass_body_refused a.version a.in_work begin a.at a.end a.s.now a.room.now (found d) _ _ q.before.before.shown-kind.ensures q.before.is-resynced.ensures at_body.body.ensures c.if3.true
+    λ begin. pass_body_refused a.version a.in_work begin a.at a.end a.s.now a.room.now (found d) _ _ q.before.before.shown_kind-kind.ensures q.before.is_resynced-resynced.ensures at_body.body-r.ensures c.if-r-ne0.true
 
-returns_4 : tie.Need-returns-4
+returns_4 : tie.Need-returns-in-Nothing
 returns_4 c =
     let at_decode = c.before.before in
     let at_start = at_decode.before.before.before in
     let a = at_start.args in
-    λ begin. pass_nothing a.version a.in_work begin a.at (slice a.at a.end a.s.now) a.room.now (sym c.enum_told.given.1 ∙ c.before.before.decode.ensures)
+    λ begin. pass_nothing a.version a.in_work begin a.at (slice a.at a.end a.s.now) a.room.now (sym c.enum_told-1.given.1 ∙ c.before.before.decode.ensures)
 
-returns_5 : tie.Need-returns-5
+returns_5 : tie.Need-returns-in-Refused
 returns_5 c =
     let at_decode = c.before.before.before in
     let at_start = at_decode.before.before.before in
     let a = at_start.args in
-    λ begin. pass_refused a.version a.in_work begin a.at (slice a.at a.end a.s.now) a.room.now (sym c.before.k.given.1 ∙ at_decode.decode.ensures)
+    λ begin. pass_refused a.version a.in_work begin a.at (slice a.at a.end a.s.now) a.room.now (sym c.before.k-1.given.1 ∙ at_decode.decode.ensures)
 
-returns_6 : tie.Need-returns-6
+returns_6 : tie.Need-returns-else-r-ne0
 returns_6 c =
     let at_if3 = c.before.before in
     let at_body = at_if3.before.before.before in
@@ -100,9 +100,9 @@ returns_6 c =
     let d = q.before.before.before in
     let at_decode = d.before.before.before in
     let a = at_decode.before.before.before.args in
-    let h = d.before.id.given.0 in
-    let packed = ap (λ (x : Bool). h.1.0 && x) (c.is-popularimeter2.ensures ∙ ap (λ (k : Kind). eqb (kind_number k) 1) c.before.kind-of.ensures) in
-    λ begin. pass_over a.version a.in_work begin a.at a.end a.s.now a.room.now (found d) _ _ q.before.before.shown-kind.ensures q.before.is-resynced.ensures at_body.body.ensures c.before.before.if3.false (sym q.is-popularimeter.ensures ∙ at_if1.if1.false) _ packed
+    let h = d.before.id-1.given.0 in
+    let packed = ap (λ (x : Bool). h.1.0 && x) (c.is_popularimeter-in-Found.ensures ∙ ap (λ (k : Kind). eqb (kind_number k) 1) c.before.kind_of.ensures) in
+    λ begin. pass_over a.version a.in_work begin a.at a.end a.s.now a.room.now (found d) _ _ q.before.before.shown_kind-kind.ensures q.before.is_resynced-resynced.ensures at_body.body-r.ensures c.before.before.if-r-ne0.false (sym q.is_popularimeter.ensures ∙ at_if1.if-is_popularimeter.false) _ packed
 
 pub pass_in_spec : {M : Type 1} → statement M
 pass_in_spec =

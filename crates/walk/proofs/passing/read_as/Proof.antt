@@ -4,32 +4,32 @@ use borrow.Author.Rules.{rules}
 use Rattle.walk.proofs.passing.read_as.Statement.{statement}
 use Rattle.walk.proofs.passing.read_as.Tie as tie
 
-returns : tie.Need-returns
+returns : tie.Need-returns-then-short
 returns c =
     let at_start = c.before.before.before.before in
     let a = at_start.args in
-    λ v id place from len. read_short v id a.short place a.in_work from len a.next c.before.before.parsed2.given.1 c.if1.true
+    λ v id place from len. read_short v id a.short place a.in_work from len a.next c.before.before.parsed-in-Parts-1.given.1 c.if-short.true
 
-returns_2 : tie.Need-returns-2
+returns_2 : tie.Need-returns-in-Refused
 returns_2 c =
     let at_start = c.before.before.before in
     let a = at_start.args in
-    λ v id place from len. read_refused v id a.short place a.in_work from len a.next c.before.parsed.given.1
+    λ v id place from len. read_refused v id a.short place a.in_work from len a.next c.before.parsed-1.given.1
 
-returns_3 : tie.Need-returns-3
+returns_3 : tie.Need-returns-in-Popularimeter
 returns_3 c =
     let at_if1 = c.before.before.before.before in
     let at_parsed2 = at_if1.before.before in
     let at_start = at_parsed2.before.before in
     let a = at_start.args in
-    λ v id place from len. read_whole v id a.short place a.in_work from len a.next at_parsed2.parsed2.given.1 at_if1.if1.false c.before.fields.given.1
+    λ v id place from len. read_whole v id a.short place a.in_work from len a.next at_parsed2.parsed-in-Parts-1.given.1 at_if1.if-short.false c.before.fields-1.given.1
 
-returns_4 : tie.Need-returns-4
+returns_4 : tie.Need-returns-in_default
 returns_4 c =
     let at_parsed2 = c.before.before.before.before in
     let at_start = at_parsed2.before.before in
     let a = at_start.args in
-    λ v id place from len. read_other v id a.short place a.in_work from len a.next at_parsed2.parsed2.given.1 c.match2.keys2
+    λ v id place from len. read_other v id a.short place a.in_work from len a.next at_parsed2.parsed-in-Parts-1.given.1 c.in_default.keys2
 
 pub read_as_spec : {M : Type 1} → statement M
 read_as_spec =

@@ -60,131 +60,131 @@ run_calls t = (least-reads.Asked, least-reads.Learnt, look-ahead-reads.Asked, lo
 body_look_requires : (t : ℕ) → look-body-lts.Need-look-requires (body_calls t) (look_body_at t) look-body.Post
 body_look_requires t c κs = omega arith
 
-body_enum_known_k : (t : ℕ) → look-body-lts.Need-enum-known-k (body_calls t) (look_body_at t) look-body.Post
+body_enum_known_k : (t : ℕ) → look-body-lts.Need-enum_known-k (body_calls t) (look_body_at t) look-body.Post
 body_enum_known_k t c = search rules
 
-body_enum_known_at : (t : ℕ) → look-body-lts.Need-enum-known-at (body_calls t) (look_body_at t) look-body.Post
+body_enum_known_at : (t : ℕ) → look-body-lts.Need-enum_known-at (body_calls t) (look_body_at t) look-body.Post
 body_enum_known_at t c = search rules
 
-body_add_look_run : (t : ℕ) → look-body-lts.Need-overflow-add-look-run (body_calls t) (look_body_at t) look-body.Post
+body_add_look_run : (t : ℕ) → look-body-lts.Need-overflow_add-depth (body_calls t) (look_body_at t) look-body.Post
 body_add_look_run t c = omega arith
 
 -- where the run begins
-run_begins : (t : ℕ) (c : look-body-lts.After-at (body_calls t) (look_body_at t) look-body.Post)
+run_begins : (t : ℕ) (c : look-body-lts.In-Run-2 (body_calls t) (look_body_at t) look-body.Post)
     → let a = c.before.before.before.before.args in
-    Inside.Run c.at.given.0.0 ≡ inside_at a.kind a.from (slice a.from a.to a.s.now)
-run_begins t c = sym c.at.given.1 ∙ c.before.before.look.ensures
+    Inside.Run c.at-1.given.0.0 ≡ inside_at a.kind a.from (slice a.from a.to a.s.now)
+run_begins t c = sym c.at-1.given.1 ∙ c.before.before.look.ensures
 
-body_returns : (t : ℕ) → look-body-lts.Need-returns (body_calls t) (look_body_at t) look-body.Post
+body_returns : (t : ℕ) → look-body-lts.Need-returns-then-to-at (body_calls t) (look_body_at t) look-body.Post
 body_returns t c =
     let at_run = c.before.before in
     let a = at_run.before.before.before.before.args in
-    body_none a.version (a.depth + 1) a.kind a.from a.to a.s.now _ (run_begins t at_run) (omega (arith, c.if1.true))
+    body_none a.version (a.depth + 1) a.kind a.from a.to a.s.now _ (run_begins t at_run) (omega (arith, c.if-to-at.true))
 
-body_look_run_requires : (t : ℕ) → look-body-lts.Need-look-run-requires (body_calls t) (look_body_at t) look-body.Post
+body_look_run_requires : (t : ℕ) → look-body-lts.Need-look_run-requires (body_calls t) (look_body_at t) look-body.Post
 body_look_run_requires t c κs =
     let at_run = c.before.before in
     let at_start = at_run.before.before.before.before in
     let a = at_start.args in
-    let at = at_run.at.given.0.0 in
+    let at = at_run.at-1.given.0.0 in
     let m : 2 * (a.to - a.from) + 1 ≡ t = at_start.requires.0 in
     let less : 2 * (a.to - at) < t = omega (arith, run_from a.kind a.from a.to at a.s.now (run_begins t at_run)) in
     (less, omega arith)
 
-body_returns_2 : (t : ℕ) → look-body-lts.Need-returns-2 (body_calls t) (look_body_at t) look-body.Post
+body_returns_2 : (t : ℕ) → look-body-lts.Need-returns-in-Refused (body_calls t) (look_body_at t) look-body.Post
 body_returns_2 t c =
     let at_look = c.before.before.before in
     let a = at_look.before.before.args in
-    body_stopped a.version (a.depth + 1) a.kind a.from a.to a.s.now _ (sym c.before.k.given.1 ∙ at_look.look.ensures)
+    body_stopped a.version (a.depth + 1) a.kind a.from a.to a.s.now _ (sym c.before.k-1.given.1 ∙ at_look.look.ensures)
 
-body_returns_3 : (t : ℕ) → look-body-lts.Need-returns-3 (body_calls t) (look_body_at t) look-body.Post
+body_returns_3 : (t : ℕ) → look-body-lts.Need-returns-else-to-at (body_calls t) (look_body_at t) look-body.Post
 body_returns_3 t c =
     let at_run = c.before.before.before in
     let a = at_run.before.before.before.before.args in
-    c.look-run.ensures ∙ body_run a.version (a.depth + 1) a.kind a.from a.to a.s.now _ (run_begins t at_run)
+    c.look_run.ensures ∙ body_run a.version (a.depth + 1) a.kind a.from a.to a.s.now _ (run_begins t at_run)
 
 -- ---- a run
 
-abbrev invariant_loop : look-run-lts.invariant-loop
+abbrev invariant_loop : look-run-lts.invariant-loop-k
 invariant_loop s from to version depth end at₀ odd₀ at odd =
     (from ≤ at) × (end ≤ length s) × (end ≤ to) × (both (plain_if (not odd)) (look_at version depth (slice at end s)) ≡ look_at version depth (slice from to s))
 
-abbrev decreases_loop : look-run-lts.decreases-loop
+abbrev decreases_loop : look-run-lts.decreases-loop-k
 decreases_loop s from to version depth end at₀ odd₀ at odd = end - at
 
-run_least_requires : (t : ℕ) → look-run-lts.Need-least-requires (run_calls t) (look_run_at t) look-run.Post invariant_loop decreases_loop
+run_least_requires : (t : ℕ) → look-run-lts.Need-least-end-requires (run_calls t) (look_run_at t) look-run.Post invariant_loop decreases_loop
 run_least_requires t c κs = search rules
 
-run_enum_known_k : (t : ℕ) → look-run-lts.Need-enum-known-k (run_calls t) (look_run_at t) look-run.Post invariant_loop decreases_loop
+run_enum_known_k : (t : ℕ) → look-run-lts.Need-enum_known-k (run_calls t) (look_run_at t) look-run.Post invariant_loop decreases_loop
 run_enum_known_k t c = search rules
 
-run_enum_told : (t : ℕ) → look-run-lts.Need-enum-told (run_calls t) (look_run_at t) look-run.Post invariant_loop decreases_loop
+run_enum_told : (t : ℕ) → look-run-lts.Need-enum_told-1 (run_calls t) (look_run_at t) look-run.Post invariant_loop decreases_loop
 run_enum_told t c = search rules
 
 run_ended_requires : (t : ℕ) → look-run-lts.Need-ended-requires (run_calls t) (look_run_at t) look-run.Post invariant_loop decreases_loop
 run_ended_requires t c κs = search rules
 
-run_enum_known_kind : (t : ℕ) → look-run-lts.Need-enum-known-kind (run_calls t) (look_run_at t) look-run.Post invariant_loop decreases_loop
+run_enum_known_kind : (t : ℕ) → look-run-lts.Need-enum_known-kind (run_calls t) (look_run_at t) look-run.Post invariant_loop decreases_loop
 run_enum_known_kind t c = search rules
 
 run_turned_requires : (t : ℕ) → look-run-lts.Need-turned-requires (run_calls t) (look_run_at t) look-run.Post invariant_loop decreases_loop
 run_turned_requires t c κs = search rules
 
-run_enum_known_k_2 : (t : ℕ) → look-run-lts.Need-enum-known-k-2 (run_calls t) (look_run_at t) look-run.Post invariant_loop decreases_loop
+run_enum_known_k_2 : (t : ℕ) → look-run-lts.Need-enum_known-k-in-Stop-turned (run_calls t) (look_run_at t) look-run.Post invariant_loop decreases_loop
 run_enum_known_k_2 t c = search rules
 
-run_enum_known_so_far : (t : ℕ) → look-run-lts.Need-enum-known-so-far (run_calls t) (look_run_at t) look-run.Post invariant_loop decreases_loop
+run_enum_known_so_far : (t : ℕ) → look-run-lts.Need-enum_known-so_far (run_calls t) (look_run_at t) look-run.Post invariant_loop decreases_loop
 run_enum_known_so_far t c = search rules
 
-run_loop_holds : (t : ℕ) → look-run-lts.Need-loop-init (run_calls t) (look_run_at t) look-run.Post invariant_loop decreases_loop
+run_loop_holds : (t : ℕ) → look-run-lts.Need-loop-k-init (run_calls t) (look_run_at t) look-run.Post invariant_loop decreases_loop
 run_loop_holds t c =
     let a = c.before.before.args in
-    let same = slice_cut a.from a.to c.least.result a.s.now c.least.ensures in
+    let same = slice_cut a.from a.to c.least-end.result a.s.now c.least-end.ensures in
     (omega arith, omega arith, omega arith, ap (look_at a.version a.depth) same)
 
-run_look_ahead_requires : (t : ℕ) → look-run-lts.Need-look-ahead-requires (run_calls t) (look_run_at t) look-run.Post invariant_loop decreases_loop
-run_look_ahead_requires t c κs = c.loop.invariant.1
+run_look_ahead_requires : (t : ℕ) → look-run-lts.Need-look_ahead-requires (run_calls t) (look_run_at t) look-run.Post invariant_loop decreases_loop
+run_look_ahead_requires t c κs = c.loop-k.invariant.1
 
-run_returns : (t : ℕ) → look-run-lts.Need-returns (run_calls t) (look_run_at t) look-run.Post invariant_loop decreases_loop
+run_returns : (t : ℕ) → look-run-lts.Need-returns-in-Stop (run_calls t) (look_run_at t) look-run.Post invariant_loop decreases_loop
 run_returns t c =
     let at_ahead = c.before.before.before in
     let at_loop = at_ahead.before in
     let a = at_loop.before.before.before.args in
-    let L = at_loop.loop in
-    let k = c.before.k.given.0.0 in
-    let stops = look_stopped a.version a.depth L.at (slice L.at at_loop.before.least.result a.s.now) k (sym c.before.k.given.1 ∙ at_ahead.look-ahead.ensures) in
+    let L = at_loop.loop-k in
+    let k = c.before.k-1.given.0.0 in
+    let stops = look_stopped a.version a.depth L.at (slice L.at at_loop.before.least-end.result a.s.now) k (sym c.before.k-1.given.1 ∙ at_ahead.look_ahead.ensures) in
     sym (both_stop (not L.odd) k) ∙ ap (both (plain_if (not L.odd))) (sym stops) ∙ L.invariant.3
 
-run_returns_2 : (t : ℕ) → look-run-lts.Need-returns-2 (run_calls t) (look_run_at t) look-run.Post invariant_loop decreases_loop
+run_returns_2 : (t : ℕ) → look-run-lts.Need-returns-in-End (run_calls t) (look_run_at t) look-run.Post invariant_loop decreases_loop
 run_returns_2 t c =
     let at_ahead = c.before.before.before in
     let at_loop = at_ahead.before in
     let at_start = at_loop.before.before.before in
     let a = at_start.args in
-    let L = at_loop.loop in
-    let ends = look_ended a.version a.depth L.at (slice L.at at_loop.before.least.result a.s.now) at_start.requires.1 (sym c.before.enum_told.given.1 ∙ at_ahead.look-ahead.ensures) in
+    let L = at_loop.loop-k in
+    let ends = look_ended a.version a.depth L.at (slice L.at at_loop.before.least-end.result a.s.now) at_start.requires.1 (sym c.before.enum_told-1.given.1 ∙ at_ahead.look_ahead.ensures) in
     c.ended.ensures ∙ sym (both_end (plain_if (not L.odd))) ∙ ap (both (plain_if (not L.odd))) (sym ends) ∙ L.invariant.3
 
 -- where the look goes on
-run_goes : (t : ℕ) (c : look-run-lts.After-kind (run_calls t) (look_run_at t) look-run.Post invariant_loop decreases_loop)
+run_goes : (t : ℕ) (c : look-run-lts.In-Body-2 (run_calls t) (look_run_at t) look-run.Post invariant_loop decreases_loop)
     → let at_loop = c.before.before.before in
     let a = at_loop.before.before.before.args in
-    let g = c.kind.given.0 in
-    Goes a.version a.depth at_loop.loop.at at_loop.before.least.result a.s.now g.0 g.1.0 g.1.1.0 g.1.1.1.0
+    let g = c.kind-1.given.0 in
+    Goes a.version a.depth at_loop.loop-k.at at_loop.before.least-end.result a.s.now g.0 g.1.0 g.1.1.0 g.1.1.1.0
 run_goes t c =
     let at_loop = c.before.before.before in
     let a = at_loop.before.before.before.args in
-    goes a.version a.depth at_loop.loop.at at_loop.before.least.result a.s.now at_loop.loop.invariant.1 _ _ _ _
-    (sym c.kind.given.1 ∙ c.before.before.look-ahead.ensures)
+    goes a.version a.depth at_loop.loop-k.at at_loop.before.least-end.result a.s.now at_loop.loop-k.invariant.1 _ _ _ _
+    (sym c.kind-1.given.1 ∙ c.before.before.look_ahead.ensures)
 
-run_look_body_requires : (t : ℕ) → look-run-lts.Need-look-body-requires (run_calls t) (look_run_at t) look-run.Post invariant_loop decreases_loop
+run_look_body_requires : (t : ℕ) → look-run-lts.Need-look_body-body-requires (run_calls t) (look_run_at t) look-run.Post invariant_loop decreases_loop
 run_look_body_requires t c κs =
     let at_kind = c.before in
     let at_loop = at_kind.before.before.before in
     let at_start = at_loop.before.before.before in
     let a = at_start.args in
-    let L = at_loop.loop in
-    let g = at_kind.kind.given.0 in
+    let L = at_loop.loop-k in
+    let g = at_kind.kind-1.given.0 in
     let on = run_goes t at_kind in
     let m : 2 * (a.to - a.from) ≡ t = at_start.requires.0 in
     let less : 2 * (g.1.1.1.0 - g.1.1.0) + 1 < t = omega (arith, on.begins, on.ordered, on.within, L.invariant) in
@@ -195,49 +195,49 @@ run_turned : (t : ℕ) (c : look-run-lts.After-turned (run_calls t) (look_run_at
     → let at_kind = c.before.before.before in
     let at_loop = at_kind.before.before.before in
     let a = at_loop.before.before.before.args in
-    let g = at_kind.kind.given.0 in
-    c.turned.result ≡ turn_of at_loop.loop.odd (inside_look (look_at a.version (a.depth + 1)) g.0 (slice g.1.1.0 g.1.1.1.0 a.s.now)) g.1.0
+    let g = at_kind.kind-1.given.0 in
+    c.turned.result ≡ turn_of at_loop.loop-k.odd (inside_look (look_at a.version (a.depth + 1)) g.0 (slice g.1.1.0 g.1.1.1.0 a.s.now)) g.1.0
 run_turned t c =
     let at_kind = c.before.before.before in
     let at_loop = at_kind.before.before.before in
-    let g = at_kind.kind.given.0 in
-    c.turned.ensures ∙ ap (λ (x : Look). turn_of at_loop.loop.odd x g.1.0) c.before.look-body.ensures
+    let g = at_kind.kind-1.given.0 in
+    c.turned.ensures ∙ ap (λ (x : Look). turn_of at_loop.loop-k.odd x g.1.0) c.before.look_body-body.ensures
 
-run_returns_3 : (t : ℕ) → look-run-lts.Need-returns-3 (run_calls t) (look_run_at t) look-run.Post invariant_loop decreases_loop
+run_returns_3 : (t : ℕ) → look-run-lts.Need-returns-in-Stop-turned (run_calls t) (look_run_at t) look-run.Post invariant_loop decreases_loop
 run_returns_3 t c =
     let at_turned = c.before.before.before in
     let at_kind = at_turned.before.before.before in
     let at_loop = at_kind.before.before.before in
     let a = at_loop.before.before.before.args in
-    let L = at_loop.loop in
-    let g = at_kind.kind.given.0 in
+    let L = at_loop.loop-k in
+    let g = at_kind.kind-1.given.0 in
     let on = run_goes t at_kind in
     let inside = inside_look (look_at a.version (a.depth + 1)) g.0 (slice g.1.1.0 g.1.1.1.0 a.s.now) in
-    let rest = look_at a.version a.depth (slice g.1.1.1.0 at_loop.before.least.result a.s.now) in
-    sym (turn_stop L.odd inside g.1.0 _ rest (sym c.before.k2.given.1 ∙ run_turned t at_turned))
+    let rest = look_at a.version a.depth (slice g.1.1.1.0 at_loop.before.least-end.result a.s.now) in
+    sym (turn_stop L.odd inside g.1.0 _ rest (sym c.before.k-in-Stop-turned-1.given.1 ∙ run_turned t at_turned))
     ∙ ap (both (plain_if (not L.odd))) (sym on.same) ∙ L.invariant.3
 
-run_loop_less : (t : ℕ) → look-run-lts.Need-loop-smaller (run_calls t) (look_run_at t) look-run.Post invariant_loop decreases_loop
+run_loop_less : (t : ℕ) → look-run-lts.Need-loop-k-smaller (run_calls t) (look_run_at t) look-run.Post invariant_loop decreases_loop
 run_loop_less t c =
     let at_turned = c.before.before.before in
     let on = run_goes t at_turned.before.before.before in
     omega (arith, on.begins, on.ordered, on.within)
 
-run_loop_again : (t : ℕ) → look-run-lts.Need-loop-preserved (run_calls t) (look_run_at t) look-run.Post invariant_loop decreases_loop
+run_loop_again : (t : ℕ) → look-run-lts.Need-loop-k-preserved (run_calls t) (look_run_at t) look-run.Post invariant_loop decreases_loop
 run_loop_again t c =
     let at_turned = c.before.before.before in
     let at_kind = at_turned.before.before.before in
     let at_loop = at_kind.before.before.before in
     let a = at_loop.before.before.before.args in
-    let L = at_loop.loop in
-    let g = at_kind.kind.given.0 in
+    let L = at_loop.loop-k in
+    let g = at_kind.kind-1.given.0 in
     let on = run_goes t at_kind in
     let inside = inside_look (look_at a.version (a.depth + 1)) g.0 (slice g.1.1.0 g.1.1.1.0 a.s.now) in
-    let rest = look_at a.version a.depth (slice g.1.1.1.0 at_loop.before.least.result a.s.now) in (
+    let rest = look_at a.version a.depth (slice g.1.1.1.0 at_loop.before.least-end.result a.s.now) in (
       omega (arith, on.begins, on.ordered, L.invariant.0),
       L.invariant.1,
       L.invariant.2,
-      sym (turn_on L.odd inside g.1.0 _ rest (sym c.before.so_far.given.1 ∙ run_turned t at_turned))
+      sym (turn_on L.odd inside g.1.0 _ rest (sym c.before.so_far-1.given.1 ∙ run_turned t at_turned))
           ∙ ap (both (plain_if (not L.odd))) (sym on.same) ∙ L.invariant.3,
     )
 

@@ -17,7 +17,7 @@ use Rattle.walk.proofs.plain.look_at.Statement.{statement}
 use Rattle.walk.proofs.plain.look_at.Tie as tie
 
 -- what lay ahead, of the bytes up to the end or to that of the slice
-module _ (c : tie.After-look-ahead) where
+module _ (c : tie.After-look_ahead) where
   abbrev start : tie.Start
   start = c.before.before.before
 
@@ -27,77 +27,77 @@ module _ (c : tie.After-look-ahead) where
   same_end : slice start.args.at last start.args.s.now ≡ slice start.args.at start.args.end start.args.s.now
   same_end = slice_cut start.args.at start.args.end last start.args.s.now c.before.least.ensures
 
-  here : {x : Ahead} → c.look-ahead.result ≡ x → x ≡ ahead_of start.args.version 1 start.args.at (slice start.args.at last start.args.s.now)
-  here e = sym e ∙ c.look-ahead.ensures
+  here : {x : Ahead} → c.look_ahead.result ≡ x → x ≡ ahead_of start.args.version 1 start.args.at (slice start.args.at last start.args.s.now)
+  here e = sym e ∙ c.look_ahead.ensures
 
 -- a frame was found
-module _ (c : tie.After-kind) where
-  abbrev ahead : tie.After-look-ahead
+module _ (c : tie.In-Body-2) where
+  abbrev ahead : tie.After-look_ahead
   ahead = c.before.before
 
   abbrev met : tie.Start
   met = ahead.before.before.before
 
   abbrev kind : Kind
-  kind = c.kind.given.0.0
+  kind = c.kind-1.given.0.0
 
   abbrev first : ℕ
-  first = c.kind.given.0.1.1.0
+  first = c.kind-1.given.0.1.1.0
 
   abbrev next : ℕ
-  next = c.kind.given.0.1.1.1.0
+  next = c.kind-1.given.0.1.1.1.0
 
-  body_lies : Goes met.args.version 1 met.args.at ahead.before.least.result met.args.s.now c.kind.given.0.0 c.kind.given.0.1.0 c.kind.given.0.1.1.0 c.kind.given.0.1.1.1.0
-  body_lies = goes met.args.version 1 met.args.at ahead.before.least.result met.args.s.now (omega arith) _ _ _ _ (here ahead c.kind.given.1)
+  body_lies : Goes met.args.version 1 met.args.at ahead.before.least.result met.args.s.now c.kind-1.given.0.0 c.kind-1.given.0.1.0 c.kind-1.given.0.1.1.0 c.kind-1.given.0.1.1.1.0
+  body_lies = goes met.args.version 1 met.args.at ahead.before.least.result met.args.s.now (omega arith) _ _ _ _ (here ahead c.kind-1.given.1)
 
   body_seen : let a = met.args in
-      let odd = c.kind.given.0.1.0 in
+      let odd = c.kind-1.given.0.1.0 in
       let b = slice first next a.s.now in
       seen_as (both (inside_look (look_at a.version 2) kind b) (plain_if (not odd))) kind first next b
       ≡ seen_of a.version a.at (slice a.at a.end a.s.now)
   body_seen =
       let a = met.args in
-      sym (seen_body a.version a.at ahead.before.least.result a.s.now (omega arith) _ _ _ _ (here ahead c.kind.given.1))
+      sym (seen_body a.version a.at ahead.before.least.result a.s.now (omega arith) _ _ _ _ (here ahead c.kind-1.given.1))
       ∙ ap (seen_of a.version a.at) (same_end ahead)
 
-look_body_requires : tie.Need-look-body-requires
+look_body_requires : tie.Need-look_body-requires
 look_body_requires c κs =
     let on = body_lies c.before.before in
     (on.ordered, omega (arith, on.within), omega arith, omega arith)
 
-returns : tie.Need-returns
+returns : tie.Need-returns-in-Stop
 returns c =
     let at_ahead = c.before.before.before in
     let a = at_ahead.before.before.before.args in
-    seen_stopped a.version a.at _ _ (here at_ahead c.before.k.given.1) ∙ ap (seen_of a.version a.at) (same_end at_ahead)
+    seen_stopped a.version a.at _ _ (here at_ahead c.before.k-1.given.1) ∙ ap (seen_of a.version a.at) (same_end at_ahead)
 
-returns_2 : tie.Need-returns-2
+returns_2 : tie.Need-returns-in-End
 returns_2 c =
     let at_ahead = c.before.before in
     let a = at_ahead.before.before.before.args in
-    seen_ended a.version a.at _ (here at_ahead c.enum_told.given.1) ∙ ap (seen_of a.version a.at) (same_end at_ahead)
+    seen_ended a.version a.at _ (here at_ahead c.enum_told-1.given.1) ∙ ap (seen_of a.version a.at) (same_end at_ahead)
 
-returns_3 : tie.Need-returns-3
+returns_3 : tie.Need-returns-in-Popularimeter
 returns_3 c =
     let at_kind = c.before.before.before.before.before in
     let a = (met at_kind).args in
-    let odd = at_kind.kind.given.0.1.0 in
+    let odd = at_kind.kind-1.given.0.1.0 in
     let b = slice (first at_kind) (next at_kind) a.s.now in
     c.counted.ensures
     ∙ ap (λ (p : Parsed). counted_as p (next at_kind) odd) (c.before.parse.ensures a.version)
     ∙ counted_seen a.version (first at_kind) (next at_kind) b odd
-    ∙ ap (λ (k : Kind). seen_as (both (inside_look (look_at a.version 2) k b) (plain_if (not odd))) k (first at_kind) (next at_kind) b) (sym c.before.before.enum-told2.given.1)
+    ∙ ap (λ (k : Kind). seen_as (both (inside_look (look_at a.version 2) k b) (plain_if (not odd))) k (first at_kind) (next at_kind) b) (sym c.before.before.enum_told-in-Popularimeter-1.given.1)
     ∙ body_seen at_kind
 
-returns_4 : tie.Need-returns-4
+returns_4 : tie.Need-returns-in_default
 returns_4 c =
     let at_kind = c.before.before.before.before in
     let a = (met at_kind).args in
-    let odd = at_kind.kind.given.0.1.0 in
+    let odd = at_kind.kind-1.given.0.1.0 in
     let b = slice (first at_kind) (next at_kind) a.s.now in
     c.passed.ensures
-    ∙ ap (λ (x : Look). passed_as x (next at_kind) odd) c.before.look-body.ensures
-    ∙ passed_seen (kind at_kind) (first at_kind) (next at_kind) b (inside_look (look_at a.version 2) (kind at_kind) b) odd c.before.before.match2.keys2
+    ∙ ap (λ (x : Look). passed_as x (next at_kind) odd) c.before.look_body.ensures
+    ∙ passed_seen (kind at_kind) (first at_kind) (next at_kind) b (inside_look (look_at a.version 2) (kind at_kind) b) odd c.before.before.in_default.keys2
     ∙ body_seen at_kind
 
 pub look_at_spec : {M : Type 1} → statement M

@@ -8,35 +8,35 @@ use borrow.Author.Rules.{rules}
 use Rattle.walk.proofs.record.enter.Statement.{statement}
 use Rattle.walk.proofs.record.enter.Tie as tie
 
-shown_body_requires : tie.Need-shown-body-requires
+shown_body_requires : tie.Need-shown_body-requires
 shown_body_requires c κs =
     let at_lies = c.before.before in
     let at_ready = at_lies.before.before.before.before in
     let at_start = at_ready.before.before.before.before in
     let a = at_start.args in
-    let q = c.before.before.start.given.0 in
-    let e = ap {B = Lies × List ℕ} (λ (x : Lies). (x, at_ready.ready.new.0)) (sym c.before.before.start.given.1) ∙ at_ready.ready.ensures in
+    let q = c.before.before.start-1.given.0 in
+    let e = ap {B = Lies × List ℕ} (λ (x : Lies). (x, at_ready.ready.new.0)) (sym c.before.before.start-1.given.1) ∙ at_ready.ready.ensures in
     ready_within a.version a.kind a.from a.to a.tag.now a.work.now a.in_work a.resynced q.0 q.1.0 at_ready.ready.new.0 e at_start.requires.0 at_start.requires.1
 
-returns : tie.Need-returns
+returns : tie.Need-returns-in-Refused
 returns c =
     let at_k = c.before in
     let at_ready = at_k.before.before.before.before in
     let at_start = at_ready.before.before.before.before in
     let a = at_start.args in
-    let e = ap {B = Lies × List ℕ} (λ (x : Lies). (x, at_ready.ready.new.0)) (sym c.before.k.given.1) ∙ at_ready.ready.ensures in
-    ready_refused a.version a.kind a.from a.to a.tag.now a.work.now a.in_work a.resynced c.before.k.given.0.0 at_ready.ready.new.0 e
+    let e = ap {B = Lies × List ℕ} (λ (x : Lies). (x, at_ready.ready.new.0)) (sym c.before.k-1.given.1) ∙ at_ready.ready.ensures in
+    ready_refused a.version a.kind a.from a.to a.tag.now a.work.now a.in_work a.resynced c.before.k-1.given.0.0 at_ready.ready.new.0 e
 
-returns_2 : tie.Need-returns-2
+returns_2 : tie.Need-returns-in-At
 returns_2 c =
     let at_shown_body = c.before.before in
     let at_start = at_shown_body.before.before.before in
     let at_ready = at_start.before.before.before.before in
     let at_start_2 = at_ready.before.before.before.before in
     let a = at_start_2.args in
-    let q = at_start.start.given.0 in
-    let e = ap {B = Lies × List ℕ} (λ (x : Lies). (x, at_ready.ready.new.0)) (sym at_start.start.given.1) ∙ at_ready.ready.ensures in
-    c.before.before.shown-body.ensures
+    let q = at_start.start-1.given.0 in
+    let e = ap {B = Lies × List ℕ} (λ (x : Lies). (x, at_ready.ready.new.0)) (sym at_start.start-1.given.1) ∙ at_ready.ready.ensures in
+    c.before.before.shown_body.ensures
     ∙ ready_shown a.version a.kind a.from a.to a.tag.now a.work.now a.in_work a.resynced q.0 q.1.0 at_ready.ready.new.0 e
 
 pub enter_spec : {M : Type 1} → statement M

@@ -12,24 +12,24 @@ use Rattle.walk.proofs.record.frame_at.Statement.{statement}
 use Rattle.walk.proofs.record.frame_at.Tie as tie
 
 -- the frame that was found
-found : (c : tie.After-id)
+found : (c : tie.In-Found-2)
     → let at_source = c.before.before.before in
     let a = at_source.before.before.before.before.args in
-    let h = c.id.given.0 in
-    Here a.version a.at a.end at_source.source.result.now h.0 h.1.0 h.1.1.0 h.1.1.1.0 h.1.1.1.1.0 h.1.1.1.1.1.0
+    let h = c.id-1.given.0 in
+    Here a.version a.at a.end at_source.source-s.result.now h.0 h.1.0 h.1.1.0 h.1.1.1.0 h.1.1.1.1.0 h.1.1.1.1.1.0
 found c =
     let at_source = c.before.before.before in
     let a = at_source.before.before.before.before.args in
-    here a.version a.at a.end at_source.source.result.now _ _ _ _ _ _ (sym c.id.given.1 ∙ c.before.before.decode.ensures)
+    here a.version a.at a.end at_source.source-s.result.now _ _ _ _ _ _ (sym c.id-1.given.1 ∙ c.before.before.decode.ensures)
 
-add_first : tie.Need-overflow-add-first
+add_first : tie.Need-overflow_add-first
 add_first c =
     let at_found = c.before.before.before in
     let at_source = at_found.before.before.before in
     let at_start = at_source.before.before.before.before in
     omega (arith, (found at_found).within, at_start.well-formed)
 
-add_next : tie.Need-overflow-add-next
+add_next : tie.Need-overflow_add-next
 add_next c =
     let at_found = c.before.before.before in
     let at_source = at_found.before.before.before in
@@ -39,25 +39,25 @@ add_next c =
 enter_requires : tie.Need-enter-requires
 enter_requires c κs =
     let at_found = c.before.before.before.before in
-    (omega arith, omega (arith, (found at_found).within, ap length at_found.before.before.before.source.ensures))
+    (omega arith, omega (arith, (found at_found).within, ap length at_found.before.before.before.source-s.ensures))
 
-returns : tie.Need-returns
+returns : tie.Need-returns-in-Nothing
 returns c =
     let at_decode = c.before.before in
     let at_source = at_decode.before in
     let a = at_source.before.before.before.before.args in
-    no_frame a.version a.in_work a.begin a.at a.end a.tag.now a.work.now at_source.source.result.now at_source.source.ensures
-    (sym c.enum_told.given.1 ∙ at_decode.decode.ensures)
+    no_frame a.version a.in_work a.begin a.at a.end a.tag.now a.work.now at_source.source-s.result.now at_source.source-s.ensures
+    (sym c.enum_told-1.given.1 ∙ at_decode.decode.ensures)
 
-returns_2 : tie.Need-returns-2
+returns_2 : tie.Need-returns-in-Refused
 returns_2 c =
     let at_decode = c.before.before.before in
     let at_source = at_decode.before in
     let a = at_source.before.before.before.before.args in
-    head_refused a.version a.in_work a.begin a.at a.end a.tag.now a.work.now at_source.source.result.now at_source.source.ensures
-    c.before.k.given.0.0 (sym c.before.k.given.1 ∙ at_decode.decode.ensures)
+    head_refused a.version a.in_work a.begin a.at a.end a.tag.now a.work.now at_source.source-s.result.now at_source.source-s.ensures
+    c.before.k-1.given.0.0 (sym c.before.k-1.given.1 ∙ at_decode.decode.ensures)
 
-returns_3 : tie.Need-returns-3
+returns_3 : tie.Need-returns-in-Refused-enter
 returns_3 c =
     let at_k2 = c.before in
     let at_enter = at_k2.before.before.before.before in
@@ -66,13 +66,13 @@ returns_3 c =
     let at_found = at_kind.before.before in
     let at_source = at_found.before.before.before in
     let a = at_source.before.before.before.before.args in
-    let refused = c.before.k2.given in
-    frame_refused a.version a.in_work a.begin a.at a.end a.tag.now a.work.now at_source.source.result.now at_source.source.ensures
-    (found at_found) at_kind.shown-kind.result at_resynced.is-resynced.result at_kind.shown-kind.ensures at_resynced.is-resynced.ensures
+    let refused = c.before.k-in-Refused-enter-1.given in
+    frame_refused a.version a.in_work a.begin a.at a.end a.tag.now a.work.now at_source.source-s.result.now at_source.source-s.ensures
+    (found at_found) at_kind.shown_kind-kind.result at_resynced.is_resynced-resynced.result at_kind.shown_kind-kind.ensures at_resynced.is_resynced-resynced.ensures
     at_enter.enter.new.0 refused.0.0
     (ap {B = Entered × List ℕ} (λ (x : Entered). (x, at_enter.enter.new.0)) (sym refused.1) ∙ at_enter.enter.ensures)
 
-returns_4 : tie.Need-returns-4
+returns_4 : tie.Need-returns-in-Body
 returns_4 c =
     let at_body = c.before.before.before.before in
     let at_enter = at_body.before.before.before.before in
@@ -81,12 +81,12 @@ returns_4 c =
     let at_found = at_kind.before.before in
     let at_source = at_found.before.before.before in
     let a = at_source.before.before.before.before.args in
-    let body = at_body.body.given in
-    frame_shown a.version a.in_work a.begin a.at a.end a.tag.now a.work.now at_source.source.result.now at_source.source.ensures
-    (found at_found) at_kind.shown-kind.result at_resynced.is-resynced.result at_kind.shown-kind.ensures at_resynced.is-resynced.ensures
+    let body = at_body.body-1.given in
+    frame_shown a.version a.in_work a.begin a.at a.end a.tag.now a.work.now at_source.source-s.result.now at_source.source-s.ensures
+    (found at_found) at_kind.shown_kind-kind.result at_resynced.is_resynced-resynced.result at_kind.shown_kind-kind.ensures at_resynced.is_resynced-resynced.ensures
     at_enter.enter.new.0 body.0.0 body.0.1.0
     (ap {B = Entered × List ℕ} (λ (x : Entered). (x, at_enter.enter.new.0)) (sym body.1) ∙ at_enter.enter.ensures)
-    c.record_of.result c.before.beyond.result c.before.before.either.result c.before.beyond.ensures c.before.before.either.ensures c.record_of.ensures
+    c.record_of-record.result c.before.beyond.result c.before.before.either-in_room.result c.before.beyond.ensures c.before.before.either-in_room.ensures c.record_of-record.ensures
 
 pub frame_at_spec : {M : Type 1} → statement M
 frame_at_spec =

@@ -12,7 +12,7 @@ use Rattle.walk.proofs.record.shown_body.Statement.{statement}
 use Rattle.walk.proofs.record.shown_body.Tie as tie
 
 -- of a body that was read: its source, how long it is, and where it ends
-within : (d : tie.After-run-inside)
+within : (d : tie.After-run_inside-r)
     → let at_parts = d.before.before.before.before in
     let at_source = at_parts.before.before.before in
     let at_either = at_source.before.before in
@@ -33,14 +33,14 @@ within d =
     let long : length (slice a.from a.to S) ≡ a.to - a.from = length-slice a.from a.to S (omega (arith, ap length es, at_start.requires.1)) in
     (es, long, omega (arith, at_start.requires.0))
 
-returns : tie.Need-returns
+returns : tie.Need-returns-then-r-ne0
 returns c =
     let d = c.before.before.before in
     let at_parts = d.before.before.before.before in
     let k = within d in
-    shows_run _ _ _ _ _ _ _ _ _ k.0 k.2 _ (sym at_parts.parts.given.1 ∙ at_parts.before.before.parse.ensures) _ d.before.before.place.ensures _ _ d.run_Inside.ensures c.if1.true
+    shows_run _ _ _ _ _ _ _ _ _ k.0 k.2 _ (sym at_parts.parts-1.given.1 ∙ at_parts.before.before.parse.ensures) _ d.before.before.place-run.ensures _ _ d.run_inside-r.ensures c.if-r-ne0.true
 
-returns_2 : tie.Need-returns-2
+returns_2 : tie.Need-returns-in-Refused
 returns_2 c =
     let at_parse = c.before.before.before in
     let at_source = at_parse.before in
@@ -50,14 +50,14 @@ returns_2 c =
     let S = at_source.source.result.now in
     let es : S ≡ source_of (a.in_work || a.resynced) a.work.now a.tag.now =
     at_source.source.ensures ∙ ap (λ (x : Bool). source_of x a.work.now a.tag.now) at_either.either.ensures in
-    shows_refused a.in_work a.resynced a.version a.kind a.from a.to a.tag.now a.work.now S es c.before.k.given.0.0 (sym c.before.k.given.1 ∙ at_parse.parse.ensures)
+    shows_refused a.in_work a.resynced a.version a.kind a.from a.to a.tag.now a.work.now S es c.before.k-1.given.0.0 (sym c.before.k-1.given.1 ∙ at_parse.parse.ensures)
 
-returns_3 : tie.Need-returns-3
+returns_3 : tie.Need-returns-else-r-ne0
 returns_3 c =
     let d = c.before.before.before in
     let at_parts = d.before.before.before.before in
     let k = within d in
-    shows_parts _ _ _ _ _ _ _ _ _ k.0 k.2 _ (sym at_parts.parts.given.1 ∙ at_parts.before.before.parse.ensures) _ d.before.before.place.ensures _ _ d.run_Inside.ensures c.if1.false _ (sym k.1)
+    shows_parts _ _ _ _ _ _ _ _ _ k.0 k.2 _ (sym at_parts.parts-1.given.1 ∙ at_parts.before.before.parse.ensures) _ d.before.before.place-run.ensures _ _ d.run_inside-r.ensures c.if-r-ne0.false _ (sym k.1)
 
 pub shown_body_spec : {M : Type 1} → statement M
 shown_body_spec =

@@ -7,12 +7,12 @@ use Rattle.walk.proofs.steps.left_over.Statement.{statement}
 use Rattle.walk.proofs.steps.left_over.Tie as tie
 
 -- src/steps.rt:36:13
-returns : tie.Need-returns
-returns c = let a = c.before.before.args in rw (c.before.if1.true, ne_eqb (a.end - a.at) 0 (λ z. omega arith))
+returns : tie.Need-returns-then-at-end
+returns c = let a = c.before.before.args in rw (c.before.if-strict.true, ne_eqb (a.end - a.at) 0 (λ z. omega arith))
 
 -- src/steps.rt:31:1
-returns_2 : tie.Need-returns-2
-returns_2 c = let a = c.before.before.args in rw (c.before.if1.true, eq-eqb (a.end - a.at) 0 (omega arith))
+returns_2 : tie.Need-returns-else-at-end
+returns_2 c = let a = c.before.before.args in rw (c.before.if-strict.true, eq-eqb (a.end - a.at) 0 (omega arith))
 
 -- src/steps.rt:31:1
 pub left_over_spec : {M : Type 1} → statement M

@@ -11,38 +11,38 @@ use Rattle.walk.proofs.Padding.{zero_not, zero_on, cut_both}
 use Rattle.walk.proofs.zeros.all_zero.Statement.{statement}
 use Rattle.walk.proofs.zeros.all_zero.Tie as tie
 
-abbrev invariant_loop : tie.invariant-loop
+abbrev invariant_loop : tie.invariant-loop-at
 invariant_loop s from to end at₀ at = (at ≤ end) × (end ≤ length s) × (all_zero (slice at end s) ≡ all_zero (slice from to s))
 
-abbrev decreases_loop : tie.decreases-loop
+abbrev decreases_loop : tie.decreases-loop-at
 decreases_loop s from to end at₀ at = end - at
 
-loop_holds : tie.Need-loop-init invariant_loop decreases_loop
+loop_holds : tie.Need-loop-at-init invariant_loop decreases_loop
 loop_holds c =
     let a = c.before.before.before.args in
-    (omega arith, omega arith, ap all_zero (cut_both a.from a.to c.before.least.result c.least2.result a.s.now c.before.least.ensures c.least2.ensures))
+    (omega arith, omega arith, ap all_zero (cut_both a.from a.to c.before.least-end.result c.least-at.result a.s.now c.before.least-end.ensures c.least-at.ensures))
 
-returns : tie.Need-returns invariant_loop decreases_loop
+returns : tie.Need-returns-then-not-block_zero invariant_loop decreases_loop
 returns c =
     let at_loop = c.before.before.before in
     let a = at_loop.before.before.before.before.args in
-    let L = at_loop.loop in
-    sym (zero_not a.s.now L.at at_loop.before.before.least.result 64 (omega arith) (sym c.before.block-zero.ensures ∙ not-true _ c.if1.true)) ∙ L.invariant.2
+    let L = at_loop.loop-at in
+    sym (zero_not a.s.now L.at at_loop.before.before.least-end.result 64 (omega arith) (sym c.before.block_zero.ensures ∙ not-true _ c.if-not-block_zero.true)) ∙ L.invariant.2
 
-loop_again : tie.Need-loop-preserved invariant_loop decreases_loop
+loop_again : tie.Need-loop-at-preserved invariant_loop decreases_loop
 loop_again c =
     let at_loop = c.before.before.before in
     let a = at_loop.before.before.before.before.args in
-    let L = at_loop.loop in
-    (omega arith, L.invariant.1, sym (zero_on a.s.now L.at at_loop.before.before.least.result 64 (omega arith) (sym c.before.block-zero.ensures ∙ not-false _ c.if1.false)) ∙ L.invariant.2)
+    let L = at_loop.loop-at in
+    (omega arith, L.invariant.1, sym (zero_on a.s.now L.at at_loop.before.before.least-end.result 64 (omega arith) (sym c.before.block_zero.ensures ∙ not-false _ c.if-not-block_zero.false)) ∙ L.invariant.2)
 
-returns_2 : tie.Need-returns-2 invariant_loop decreases_loop
+returns_2 : tie.Need-returns invariant_loop decreases_loop
 returns_2 c =
     let at_loop = c.before.before in
     let a = at_loop.before.before.before.before.args in
-    let L = at_loop.loop in
-    let ends : L.at + (at_loop.before.before.least.result - L.at) ≡ at_loop.before.before.least.result = omega arith in
-    c.block-zero2.ensures ∙ ap (λ (n : ℕ). all_zero (slice L.at n a.s.now)) ends ∙ L.invariant.2
+    let L = at_loop.loop-at in
+    let ends : L.at + (at_loop.before.before.least-end.result - L.at) ≡ at_loop.before.before.least-end.result = omega arith in
+    c.block_zero-2.ensures ∙ ap (λ (n : ℕ). all_zero (slice L.at n a.s.now)) ends ∙ L.invariant.2
 
 pub all_zero_spec : {M : Type 1} → statement M
 all_zero_spec =

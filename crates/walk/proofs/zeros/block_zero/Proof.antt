@@ -11,29 +11,29 @@ use Rattle.walk.proofs.Padding.{zero_turn, and_all}
 use Rattle.walk.proofs.zeros.block_zero.Statement.{statement}
 use Rattle.walk.proofs.zeros.block_zero.Tie as tie
 
-abbrev invariant_loop : tie.invariant-loop
+abbrev invariant_loop : tie.invariant-loop-k
 invariant_loop s i n all₀ k₀ all k = (k ≤ n) × ((all && all_zero (slice (i + k) (i + n) s)) ≡ all_zero (slice i (i + n) s))
 
-abbrev decreases_loop : tie.decreases-loop
+abbrev decreases_loop : tie.decreases-loop-k
 decreases_loop s i n all₀ k₀ all k = n - k
 
-loop_holds : tie.Need-loop-init invariant_loop decreases_loop
+loop_holds : tie.Need-loop-k-init invariant_loop decreases_loop
 loop_holds c =
     let a = c.args in
     let here : a.i + 0 ≡ a.i = omega arith in
     (omega arith, ap (λ (j : ℕ). all_zero (slice j (a.i + a.n) a.s.now)) here)
 
-loop_again : tie.Need-loop-preserved invariant_loop decreases_loop
+loop_again : tie.Need-loop-k-preserved invariant_loop decreases_loop
 loop_again c =
     let a = c.before.before.before.args in
-    let L = c.before.before.loop in
+    let L = c.before.before.loop-k in
     (omega arith, zero_turn a.s.now a.i L.k (a.i + a.n) L.all _ (omega arith) (omega arith) L.invariant.1)
 
 returns : tie.Need-returns invariant_loop decreases_loop
 unfolding all_zero
 returns c =
     let a = c.before.before.args in
-    let L = c.before.loop in
+    let L = c.before.loop-k in
     sym (ap (λ (l : List ℕ). L.all && all_zero l) (slice_none (a.i + L.k) (a.i + a.n) a.s.now (omega arith)) ∙ and_all L.all) ∙ L.invariant.1
 
 pub block_zero_spec : {M : Type 1} → statement M

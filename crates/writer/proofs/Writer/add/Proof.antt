@@ -17,7 +17,7 @@ abbrev given : tie.Start → Rec
 given s = rec_of s.args.heading s.args.name.now s.args.names.now s.args.rest.now s.args.deviations.now
 
 -- the arguments, where its checks were made
-abbrev start : tie.After-record-check → tie.Start
+abbrev start : tie.After-record_check-k → tie.Start
 start c = let at_lost = c.before.before in let at_parts = at_lost.before.before in at_parts.before.before.before
 
 fits : (s : tie.Start) → Fits (given s).content
@@ -25,39 +25,39 @@ fits s =
     heading_fits s.args.name.now s.args.names.now s.args.rest.now s.args.deviations.now s.args.heading _ s.well-formed.1.1.0
 
 -- its checks passed
-sound : (c : tie.Else1) →
+sound : (c : tie.Else-k-ne0) →
     let s = start c.before in
     first (record_checks s.args.self.version (given s)) ≡ 0
-sound c = sym c.before.record-check.ensures ∙ c.if1.false
+sound c = sym c.before.record_check-k.ensures ∙ c.if-k-ne0.false
 
 -- it is not skipped
-kept : (c : tie.Else2) →
+kept : (c : tie.Else-lost) →
     let s = start c.before.before in
     is_lost s.args.self.version s.args.self.altered (given s).id ≡ false
-kept c = sym c.before.before.before.is_lost.ensures ∙ c.if2.false
+kept c = sym c.before.before.before.is_lost-lost.ensures ∙ c.if-lost.false
 
-returns : tie.Need-returns
+returns : tie.Need-returns-then-k-ne0
 returns c =
     let s = start c.before in
-    (unsound s.args.self (given s) s.args.buffer.now _ c.before.record-check.ensures c.if1.true, fits s)
+    (unsound s.args.self (given s) s.args.buffer.now _ c.before.record_check-k.ensures c.if-k-ne0.true, fits s)
 
-returns_2 : tie.Need-returns-2
+returns_2 : tie.Need-returns-then-lost
 returns_2 c =
     let s = start c.before.before in
-    (skipped s.args.self (given s) s.args.buffer.now (sound c.before) (sym c.before.before.before.is_lost.ensures ∙ c.if2.true), fits s)
+    (skipped s.args.self (given s) s.args.buffer.now (sound c.before) (sym c.before.before.before.is_lost-lost.ensures ∙ c.if-lost.true), fits s)
 
-measure_frame_requires : tie.Need-measure-frame-requires
+measure_frame_requires : tie.Need-measure_frame-size-requires
 measure_frame_requires c κs =
     let s = start c.before.before in
     puttable s.args.self.version (given s) (sound c.before)
 
-returns_3 : tie.Need-returns-3
+returns_3 : tie.Need-returns-then-j-ne0
 returns_3 c =
     let at_kept = c.before.before.before in
     let s = start at_kept.before.before in
     let w = s.args.self in
-    let size = c.before.size-check.ensures ∙ size_refusal_lem w.version w.mode (given s) _ c.before.before.measure-frame.ensures in
-    (too_long_lem w (given s) s.args.buffer.now (sound at_kept.before) (kept at_kept) _ size c.if3.true, fits s)
+    let size = c.before.size_check-j.ensures ∙ size_refusal_lem w.version w.mode (given s) _ c.before.before.measure_frame-size.ensures in
+    (too_long_lem w (given s) s.args.buffer.now (sound at_kept.before) (kept at_kept) _ size c.if-j-ne0.true, fits s)
 
 append_requires : tie.Need-append-requires
 append_requires c κs =
@@ -65,18 +65,18 @@ append_requires c κs =
     let at_sound = at_measure.before.before in
     let s = start at_sound.before in
     let w = s.args.self in
-    let exact = exact_size w.version _ _ at_measure.measure-frame.ensures (sym c.before.before.size-check.ensures ∙ c.before.if3.false) in
+    let exact = exact_size w.version _ _ at_measure.measure_frame-size.ensures (sym c.before.before.size_check-j.ensures ∙ c.before.if-j-ne0.false) in
     (puttable w.version (given s) (sound at_sound), exact.0, exact.1)
 
-returns_4 : tie.Need-returns-4
+returns_4 : tie.Need-returns
 returns_4 c =
     let at_append = c.before.before in
     let at_size = at_append.before.before in
     let at_kept = at_size.before.before.before in
     let s = start at_kept.before.before in
     let w = s.args.self in
-    let none = sym at_size.before.size-check.ensures ∙ at_size.if3.false in
-    let size = sym (size_refusal_lem w.version w.mode (given s) _ at_size.before.before.measure-frame.ensures) ∙ none in
+    let none = sym at_size.before.size_check-j.ensures ∙ at_size.if-j-ne0.false in
+    let size = sym (size_refusal_lem w.version w.mode (given s) _ at_size.before.before.measure_frame-size.ensures) ∙ none in
     (at_append.append.ensures ∙ appended w (given s) s.args.buffer.now (sound at_kept.before) (kept at_kept) size, fits s)
 
 pub add_spec : {M : Type 1} → statement M

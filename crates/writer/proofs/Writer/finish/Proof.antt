@@ -7,43 +7,43 @@ use Rattle.writer.proofs.Writer.finish.Statement.{statement}
 use Rattle.writer.proofs.Writer.finish.Tie as tie
 
 -- the arguments, where the length is known
-abbrev start : tie.After-is-too-long → tie.Start
+abbrev start : tie.After-is_too_long → tie.Start
 start c = c.before.before.before
 
-returns : tie.Need-returns
+returns : tie.Need-returns-then-is_too_long
 returns c =
     let a = (start c.before).args in
-    finish_long a.self a.padding a.buffer.now a.output.now (sym c.before.is-too-long.ensures ∙ c.if1.true)
+    finish_long a.self a.padding a.buffer.now a.output-1.now (sym c.before.is_too_long.ensures ∙ c.if-is_too_long.true)
 
-returns_2 : tie.Need-returns-2
+returns_2 : tie.Need-returns-then-buffer-used
 returns_2 c =
     let a = (start c.before.before).args in
-    finish_missing a.self a.padding a.buffer.now a.output.now (sym c.before.before.is-too-long.ensures ∙ c.before.if1.false) c.if2.true
+    finish_missing a.self a.padding a.buffer.now a.output-1.now (sym c.before.before.is_too_long.ensures ∙ c.before.if-is_too_long.false) c.if-buffer-used.true
 
-put_tag_requires : tie.Need-put-tag-requires
+put_tag_requires : tie.Need-put_tag-put-requires
 put_tag_requires c κs =
     let at_short = c.before.before in
-    leb-false _ _ (sym at_short.before.is-too-long.ensures ∙ at_short.if1.false)
+    leb-false _ _ (sym at_short.before.is_too_long.ensures ∙ at_short.if-is_too_long.false)
 
-returns_3 : tie.Need-returns-3
+returns_3 : tie.Need-returns-in-Bytes
 returns_3 c =
     let at_answer = c.before in
     let at_put = at_answer.before.before.before.before in
     let at_room = at_put.before.before in
     let at_length = at_room.before.before in
     let a = (start at_length).args in
-    let short = sym at_length.is-too-long.ensures ∙ at_room.before.if1.false in
-    finish_done a.self a.padding a.buffer.now a.output.now short at_room.if2.false at_put.put-tag.ensures at_answer.put.given.1
+    let short = sym at_length.is_too_long.ensures ∙ at_room.before.if-is_too_long.false in
+    finish_done a.self a.padding a.buffer.now a.output-1.now short at_room.if-buffer-used.false at_put.put_tag-put.ensures at_answer.put-1.given.1
 
-returns_4 : tie.Need-returns-4
+returns_4 : tie.Need-returns-in-Refused
 returns_4 c =
     let at_answer = c.before in
     let at_put = at_answer.before.before.before.before in
     let at_room = at_put.before.before in
     let at_length = at_room.before.before in
     let a = (start at_length).args in
-    let short = sym at_length.is-too-long.ensures ∙ at_room.before.if1.false in
-    finish_full a.self a.padding a.buffer.now a.output.now short at_room.if2.false at_put.put-tag.ensures at_answer.put2.given.1
+    let short = sym at_length.is_too_long.ensures ∙ at_room.before.if-is_too_long.false in
+    finish_full a.self a.padding a.buffer.now a.output-1.now short at_room.if-buffer-used.false at_put.put_tag-put.ensures at_answer.put-in-Refused-1.given.1
 
 pub finish_spec : {M : Type 1} → statement M
 finish_spec =

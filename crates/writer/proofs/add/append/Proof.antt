@@ -11,34 +11,34 @@ abbrev given : tie.Start → Rec
 given s = rec_of s.args.heading s.args.name.now s.args.names.now s.args.rest.now s.args.deviations.now
 
 -- the arguments
-abbrev start : tie.After-head-len → tie.Start
+abbrev start : tie.After-head_len → tie.Start
 start c = let at_slices = c.before.before in at_slices.before.before.before.before
 
-add_n : tie.Need-overflow-add-n
+add_n : tie.Need-overflow_add-n
 add_n c =
     let s = start c in
-    record { fits = omega (arith, c.head-len.ensures.1, s.pre.2) }
+    record { fits = omega (arith, c.head_len.ensures.1, s.pre.2) }
 
-returns : tie.Need-returns
+returns : tie.Need-returns-then-is_full
 returns c =
     let s = start c.before.before in
-    no_room s.args.writer (given s) s.args.buffer.now c.before.before.head-len.ensures.0 s.pre.1 c.before.is-full.ensures c.if1.true
+    no_room s.args.writer (given s) s.args.buffer.now c.before.before.head_len.ensures.0 s.pre.1 c.before.is_full.ensures c.if-is_full.true
 
-put_frame_requires : tie.Need-put-frame-requires
+put_frame_requires : tie.Need-put_frame-used-requires
 put_frame_requires c κs =
     let s = start c.before.before.before in
-    let h = c.before.before.before.head-len.ensures.0 in
-    (s.pre.0, s.pre.1, s.pre.2, room s.args.writer (given s) s.args.buffer.now h s.pre.1 c.before.before.is-full.ensures c.before.if1.false)
+    let h = c.before.before.before.head_len.ensures.0 in
+    (s.pre.0, s.pre.1, s.pre.2, room s.args.writer (given s) s.args.buffer.now h s.pre.1 c.before.before.is_full.ensures c.before.if-is_full.false)
 
-returns_2 : tie.Need-returns-2
+returns_2 : tie.Need-returns
 returns_2 c =
     let at_put = c.before.before in
     let at_room = at_put.before.before in
     let at_head = at_room.before.before in
     let s = start at_head in
-    let h = at_head.head-len.ensures.0 in
-    let e = at_put.put-frame.ensures in
-    put_behind s.args.writer (given s) s.args.buffer.now h s.pre.1 at_room.before.is-full.ensures at_room.if1.false e.0 e.1
+    let h = at_head.head_len.ensures.0 in
+    let e = at_put.put_frame-used.ensures in
+    put_behind s.args.writer (given s) s.args.buffer.now h s.pre.1 at_room.before.is_full.ensures at_room.if-is_full.false e.0 e.1
 
 pub append_spec : {M : Type 1} → statement M
 append_spec =

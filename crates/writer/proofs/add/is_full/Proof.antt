@@ -15,10 +15,10 @@ left_over_lem len used n h = by (ltb (len - used) n) refl
     by true e = sym (lt-ltb len (used + n) (omega (arith, ltb-true (len - used) n e)))
     by false e = sym (le-ltb len (used + n) (omega (arith, ltb-false (len - used) n e)))
 
-returns : tie.Need-returns
-returns c = left_over_lem c.before.args.len c.before.args.used c.before.args.n c.if1.true
+returns : tie.Need-returns-then-used-len
+returns c = left_over_lem c.before.args.len c.before.args.used c.before.args.n c.if-used-len.true
 
-returns_2 : tie.Need-returns-2
+returns_2 : tie.Need-returns-else-used-len
 returns_2 c = rw (lt-ltb c.before.args.len (c.before.args.used + c.before.args.n) (omega arith))
 
 pub is_full_spec : {M : Type 1} → statement M

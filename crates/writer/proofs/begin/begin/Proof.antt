@@ -7,19 +7,19 @@ use Rattle.writer.specs.Writer.{is_known, begin_of}
 use Rattle.writer.proofs.begin.begin.Statement.{statement}
 use Rattle.writer.proofs.begin.begin.Tie as tie
 
-returns : tie.Need-returns
+returns : tie.Need-returns-then-not-is_known
 unfolding begin_of
 returns c =
     let a = c.before.before.args in
-    let e : is_known a.version a.mode ≡ false = sym c.before.is_Known.ensures ∙ not-true _ c.if1.true in
+    let e : is_known a.version a.mode ≡ false = sym c.before.is_known.ensures ∙ not-true _ c.if-not-is_known.true in
     rw e
 
-returns_2 : tie.Need-returns-2
+returns_2 : tie.Need-returns
 unfolding begin_of
 returns_2 c =
     let a = c.before.before.before.before.args in
-    let e : is_known a.version a.mode ≡ true = sym c.before.before.before.is_Known.ensures ∙ not-false _ c.before.before.if1.false in
-    rw (e, c.before.version_of.ensures, c.Mode-of.ensures)
+    let e : is_known a.version a.mode ≡ true = sym c.before.before.before.is_known.ensures ∙ not-false _ c.before.before.if-not-is_known.false in
+    rw (e, c.before.version_of.ensures, c.mode_of.ensures)
 
 pub begin_spec : {M : Type 1} → statement M
 begin_spec =

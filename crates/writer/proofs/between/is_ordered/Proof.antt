@@ -5,29 +5,29 @@ use Rattle.writer.proofs.Gaps.{low_lost, middle_lost, high_lost, in_order}
 use Rattle.writer.proofs.between.is_ordered.Statement.{statement}
 use Rattle.writer.proofs.between.is_ordered.Tie as tie
 
-returns : tie.Need-returns
-returns c = let a = c.before.before.args in low_lost a.gap a.len c.if1.true
+returns : tie.Need-returns-then-gap
+returns c = let a = c.before.before.args in low_lost a.gap a.len c.if-gap.true
 
-returns_2 : tie.Need-returns-2
+returns_2 : tie.Need-returns-then-gap-2
 returns_2 c =
     let at_low = c.before.before in
     let a = at_low.before.before.args in
-    middle_lost a.gap a.len (omega (arith, at_low.if1.false)) c.if2.true
+    middle_lost a.gap a.len (omega (arith, at_low.if-gap.false)) c.if-gap-2.true
 
-returns_3 : tie.Need-returns-3
+returns_3 : tie.Need-returns-then-gap-3
 returns_3 c =
     let at_middle = c.before.before in
     let at_low = at_middle.before.before in
     let a = at_low.before.before.args in
-    high_lost a.gap a.len (omega (arith, at_low.if1.false)) (omega (arith, at_middle.if2.false)) c.if3.true
+    high_lost a.gap a.len (omega (arith, at_low.if-gap.false)) (omega (arith, at_middle.if-gap-2.false)) c.if-gap-3.true
 
-returns_4 : tie.Need-returns-4
+returns_4 : tie.Need-returns
 returns_4 c =
     let at_high = c.before in
     let at_middle = at_high.before.before in
     let at_low = at_middle.before.before in
     let a = at_low.before.before.args in
-    in_order a.gap a.len (omega (arith, at_low.if1.false)) (omega (arith, at_middle.if2.false)) (omega (arith, at_high.if3.false)) refl
+    in_order a.gap a.len (omega (arith, at_low.if-gap.false)) (omega (arith, at_middle.if-gap-2.false)) (omega (arith, at_high.if-gap-3.false)) refl
 
 pub is_ordered_spec : {M : Type 1} → statement M
 is_ordered_spec = tie.close (tie.spec returns returns_2 returns_3 returns_4)

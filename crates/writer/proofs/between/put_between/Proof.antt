@@ -16,29 +16,29 @@ abbrev given : tie.Start → Rec
 given s = rec_of s.args.heading s.args.name.now s.args.names.now s.args.rest.now s.args.deviations.now
 
 -- the arguments, where its checks were made
-abbrev start : tie.After-record-check → tie.Start
+abbrev start : tie.After-record_check-k → tie.Start
 start c = let at_slices = c.before.before in at_slices.before.before.before.before
 
 -- its checks passed
-sound : (c : tie.Else1) → let s = start c.before in first (record_checks s.args.version (given s)) ≡ 0
-sound c = sym c.before.record-check.ensures ∙ c.if1.false
+sound : (c : tie.Else-k-ne0) → let s = start c.before in first (record_checks s.args.version (given s)) ≡ 0
+sound c = sym c.before.record_check-k.ensures ∙ c.if-k-ne0.false
 
-returns : tie.Need-returns
+returns : tie.Need-returns-then-k-ne0
 returns c =
     let s = start c.before in
-    gap_unsound s.args.version s.args.gap (given s) s.args.buffer.now _ c.before.record-check.ensures c.if1.true
+    gap_unsound s.args.version s.args.gap (given s) s.args.buffer.now _ c.before.record_check-k.ensures c.if-k-ne0.true
 
-measure_frame_requires : tie.Need-measure-frame-requires
+measure_frame_requires : tie.Need-measure_frame-size-requires
 measure_frame_requires c κs = let s = start c.before in puttable s.args.version (given s) (sound c)
 
-returns_2 : tie.Need-returns-2
+returns_2 : tie.Need-returns-then-j-ne0
 returns_2 c =
     let at_measure = c.before.before in
     let at_sound = at_measure.before in
     let s = start at_sound.before in
     let v = s.args.version in
-    let size = c.before.size-check.ensures ∙ size_refusal_lem v Mode.Off (given s) _ at_measure.measure-frame.ensures in
-    gap_too_long v s.args.gap (given s) s.args.buffer.now (sound at_sound) _ size c.if2.true
+    let size = c.before.size_check-j.ensures ∙ size_refusal_lem v Mode.Off (given s) _ at_measure.measure_frame-size.ensures in
+    gap_too_long v s.args.gap (given s) s.args.buffer.now (sound at_sound) _ size c.if-j-ne0.true
 
 refit_requires : tie.Need-refit-requires
 refit_requires c κs =
@@ -47,10 +47,10 @@ refit_requires c κs =
     let at_sound = at_measure.before in
     let s = start at_sound.before in
     let v = s.args.version in
-    let exact = exact_size v _ _ at_measure.measure-frame.ensures (sym at_size.before.size-check.ensures ∙ at_size.if2.false) in
+    let exact = exact_size v _ _ at_measure.measure_frame-size.ensures (sym at_size.before.size_check-j.ensures ∙ at_size.if-j-ne0.false) in
     (puttable v (given s) (sound at_sound), exact.0, exact.1)
 
-returns_3 : tie.Need-returns-3
+returns_3 : tie.Need-returns
 returns_3 c =
     let at_refit = c.before.before in
     let at_size = at_refit.before.before in
@@ -58,8 +58,8 @@ returns_3 c =
     let at_sound = at_measure.before in
     let s = start at_sound.before in
     let v = s.args.version in
-    let none = sym at_size.before.size-check.ensures ∙ at_size.if2.false in
-    let size = sym (size_refusal_lem v Mode.Off (given s) _ at_measure.measure-frame.ensures) ∙ none in
+    let none = sym at_size.before.size_check-j.ensures ∙ at_size.if-j-ne0.false in
+    let size = sym (size_refusal_lem v Mode.Off (given s) _ at_measure.measure_frame-size.ensures) ∙ none in
     at_refit.refit.ensures ∙ gap_refit v s.args.gap (given s) s.args.buffer.now (sound at_sound) size
 
 pub put_between_spec : {M : Type 1} → statement M

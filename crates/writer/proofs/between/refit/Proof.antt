@@ -18,51 +18,51 @@ abbrev given : tie.Start → Rec
 given s = rec_of s.args.heading s.args.name.now s.args.names.now s.args.rest.now s.args.deviations.now
 
 -- the arguments, where the places were looked at
-abbrev start : tie.After-is-ordered → tie.Start
+abbrev start : tie.After-is_ordered → tie.Start
 start c = let at_slices = c.before.before in at_slices.before.before.before.before
 
-returns : tie.Need-returns
+returns : tie.Need-returns-then-not-is_ordered
 returns c =
     let s = start c.before in
-    disordered s.args.gap (encode s.args.version Mode.Off (given s)) s.args.buffer.now (sym c.before.is-ordered.ensures ∙ not-true _ c.if1.true)
+    disordered s.args.gap (encode s.args.version Mode.Off (given s)) s.args.buffer.now (sym c.before.is_ordered.ensures ∙ not-true _ c.if-not-is_ordered.true)
 
 -- the places are in order
-in_order : (c : tie.Else1) → let s = start c.before in is_ordered s.args.gap (length s.args.buffer.now) ≡ true
-in_order c = sym c.before.is-ordered.ensures ∙ not-false _ c.if1.false
+in_order : (c : tie.Else-not-is_ordered) → let s = start c.before in is_ordered s.args.gap (length s.args.buffer.now) ≡ true
+in_order c = sym c.before.is_ordered.ensures ∙ not-false _ c.if-not-is_ordered.false
 
-places : (c : tie.Else1) → let s = start c.before in Ordered s.args.gap (length s.args.buffer.now)
+places : (c : tie.Else-not-is_ordered) → let s = start c.before in Ordered s.args.gap (length s.args.buffer.now)
 places c = let s = start c.before in ordered s.args.gap (length s.args.buffer.now) (in_order c)
 
-sub_if2 : tie.Need-overflow-sub-if2
+sub_if2 : tie.Need-overflow_sub-gap
 sub_if2 c = let at_order = c.before.before in omega (arith, (places at_order).high)
 
-sub_if2_2 : tie.Need-overflow-sub-if2-2
+sub_if2_2 : tie.Need-overflow_sub-gap-2
 sub_if2_2 c = let at_order = c.before.before.before in omega (arith, (places at_order).low)
 
-add_if2 : tie.Need-overflow-add-if2
+add_if2 : tie.Need-overflow_add-gap
 add_if2 c =
     let at_order = c.before.before.before in
     let s = start at_order.before in
     let o = places at_order in
     omega (arith, o.low, o.middle, o.high, o.inside, s.fits)
 
-returns_2 : tie.Need-returns-2
+returns_2 : tie.Need-returns-then-gap-from
 returns_2 c =
     let at_head = c.before.before.before in
     let at_order = at_head.before in
     let s = start at_order.before in
-    gap_full s.args.version s.args.gap (given s) s.args.buffer.now at_head.head-len.ensures.0 s.pre.1 (in_order at_order) c.if2.true
+    gap_full s.args.version s.args.gap (given s) s.args.buffer.now at_head.head_len.ensures.0 s.pre.1 (in_order at_order) c.if-gap-from.true
 
 -- the place after the frame
-add_shift : tie.Need-overflow-add-shift
+add_shift : tie.Need-overflow_add-from
 add_shift c =
     let at_room = c.before in
     let at_order = at_room.before.before.before.before in
     let s = start at_order.before in
     let o = places at_order in
-    omega (arith, o.low, o.middle, o.high, o.inside, s.fits, at_room.if2.false)
+    omega (arith, o.low, o.middle, o.high, o.inside, s.fits, at_room.if-gap-from.false)
 
-put_frame_requires : tie.Need-put-frame-requires
+put_frame_requires : tie.Need-put_frame-requires
 put_frame_requires c κs =
     let at_shift = c.before.before.before in
     let at_room = at_shift.before.before in
@@ -72,10 +72,10 @@ put_frame_requires c κs =
       s.pre.0,
       s.pre.1,
       s.pre.2,
-      gap_fits s.args.version s.args.gap (given s) s.args.buffer.now at_head.head-len.ensures.0 s.pre.1 (in_order at_order) (omega (arith, at_room.if2.false)) at_shift.shift.ensures,
+      gap_fits s.args.version s.args.gap (given s) s.args.buffer.now at_head.head_len.ensures.0 s.pre.1 (in_order at_order) (omega (arith, at_room.if-gap-from.false)) at_shift.shift.ensures,
     )
 
-returns_3 : tie.Need-returns-3
+returns_3 : tie.Need-returns
 returns_3 c =
     let at_put = c.before.before in
     let at_shift = at_put.before.before.before.before in
@@ -83,7 +83,7 @@ returns_3 c =
     let at_head = at_room.before.before.before in
     let at_order = at_head.before in
     let s = start at_order.before in
-    gap_done s.args.version s.args.gap (given s) s.args.buffer.now at_head.head-len.ensures.0 s.pre.1 (in_order at_order) (omega (arith, at_room.if2.false)) at_shift.shift.ensures at_put.put-frame.ensures.1
+    gap_done s.args.version s.args.gap (given s) s.args.buffer.now at_head.head_len.ensures.0 s.pre.1 (in_order at_order) (omega (arith, at_room.if-gap-from.false)) at_shift.shift.ensures at_put.put_frame.ensures.1
 
 pub refit_spec : {M : Type 1} → statement M
 refit_spec =

@@ -12,9 +12,9 @@ returns c =
     let at_slices = at_first.before in
     let a = at_slices.before.before.before.before.args in
     let rest = a.b.now ++ (a.c.now ++ a.d.now) in
-    then_paced a.mode a.pen a.a.now rest at_first.measure-bytes.ensures
-    (then_paced a.mode at_first.measure-bytes.result a.b.now (a.c.now ++ a.d.now) at_second.measure-bytes2.ensures
-    (then_paced a.mode at_second.measure-bytes2.result a.c.now a.d.now c.before.measure-bytes3.ensures c.measure-bytes4.ensures))
+    then_paced a.mode a.pen a.a.now rest at_first.measure_bytes-first.ensures
+    (then_paced a.mode at_first.measure_bytes-first.result a.b.now (a.c.now ++ a.d.now) at_second.measure_bytes-second.ensures
+    (then_paced a.mode at_second.measure_bytes-second.result a.c.now a.d.now c.before.measure_bytes-third.ensures c.measure_bytes.ensures))
 
 pub measure_pieces_spec : {M : Type 1} → statement M
 measure_pieces_spec =

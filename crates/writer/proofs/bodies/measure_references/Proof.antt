@@ -8,16 +8,16 @@ use borrow.Author.Rules.{rules}
 use Rattle.writer.proofs.bodies.measure_references.Statement.{statement}
 use Rattle.writer.proofs.bodies.measure_references.Tie as tie
 
-measure_packed_requires : tie.Need-measure-packed-requires
-measure_packed_requires c κs = rw c.before.fields.given.1 at c.before.before.before.before.requires
+measure_packed_requires : tie.Need-measure_packed-requires
+measure_packed_requires c κs = rw c.before.fields-1.given.1 at c.before.before.before.before.requires
 
-returns : tie.Need-returns
-returns c = rw c.before.before.fields.given.1 c.measure-packed.ensures
+returns : tie.Need-returns-in-Table
+returns c = rw c.before.before.fields-1.given.1 c.measure_packed.ensures
 
-returns_2 : tie.Need-returns-2
+returns_2 : tie.Need-returns-in_default
 returns_2 c =
     let a = c.before.before.args in
-    rw (no_references a.fields a.deviations.now c.match.keys2) (inl (sym (ap (λ (z : Pen). z.at) (pen_nil a.mode a.pen))))
+    rw (no_references a.fields a.deviations.now c.in_default.keys2) (inl (sym (ap (λ (z : Pen). z.at) (pen_nil a.mode a.pen))))
 
 pub measure_references_spec : {M : Type 1} → statement M
 measure_references_spec =

@@ -14,37 +14,37 @@ use Rattle.writer.proofs.bodies.plan_of.Statement.{statement}
 use Rattle.writer.proofs.bodies.plan_of.Tie as tie
 
 -- the arguments
-abbrev start : tie.After-used-of → tie.Start
+abbrev start : tie.After-used_of-used → tie.Start
 start c = c.before.before.before.before
 
 -- the parts of the slices, whatever the deviations
-parts : (c : tie.After-used-of) (ds : List ℕ) → let a = c.before.before.before.before.args in Parts a.fields a.name.now a.names.now a.rest.now ds c.used-of.result
+parts : (c : tie.After-used_of-used) (ds : List ℕ) → let a = c.before.before.before.before.args in Parts a.fields a.name.now a.names.now a.rest.now ds c.used_of-used.result
 parts c ds =
     let a = c.before.before.before.before.args in
-    rw c.used-of.ensures (used_parts a.fields a.name.now a.names.now a.rest.now ds)
+    rw c.used_of-used.ensures (used_parts a.fields a.name.now a.names.now a.rest.now ds)
 
-lies : (c : tie.After-used-of) → let a = c.before.before.before.before.args in Lies c.used-of.result (length a.name.now) (length a.names.now) (length a.rest.now)
+lies : (c : tie.After-used_of-used) → let a = c.before.before.before.before.args in Lies c.used_of-used.result (length a.name.now) (length a.names.now) (length a.rest.now)
 lies c =
     let a = c.before.before.before.before.args in
-    rw c.used-of.ensures (used_lies a.fields (length a.name.now) (length a.names.now) (length a.rest.now))
+    rw c.used_of-used.ensures (used_lies a.fields (length a.name.now) (length a.names.now) (length a.rest.now))
 
-slice_aggregate_zeros_in : tie.Need-slice-aggregate-zeros-in
+slice_aggregate_zeros_in : tie.Need-slice_bounds-zeros_in-end
 slice_aggregate_zeros_in c = sym (length-take-le _ _ (lies c.before).names-fit)
 
 -- how many names there are, whatever the deviations
-children : (c : tie.After-zeros-in) (ds : List ℕ) → let a = (start c.before.before).args in
-    zeros_in (layout_of (content_of a.fields a.name.now a.names.now a.rest.now ds)).names ≡ c.zeros-in.result
-children c ds = sym (c.zeros-in.ensures ∙ ap zeros_in (parts c.before.before ds).names_are)
+children : (c : tie.After-zeros_in) (ds : List ℕ) → let a = (start c.before.before).args in
+    zeros_in (layout_of (content_of a.fields a.name.now a.names.now a.rest.now ds)).names ≡ c.zeros_in.result
+children c ds = sym (c.zeros_in.ensures ∙ ap zeros_in (parts c.before.before ds).names_are)
 
-small_of_requires : tie.Need-small-of-requires
+small_of_requires : tie.Need-small_of-small-requires
 small_of_requires c κs = rw (children c []) at ((start c.before.before).requires [])
 
 -- the numbers, whatever the deviations
-small : (c : tie.After-small-of) (ds : List ℕ) → let a = (start c.before.before.before).args in
-    Holds c.small_of.result (layout_of (content_of a.fields a.name.now a.names.now a.rest.now ds)).small
+small : (c : tie.After-small_of-small) (ds : List ℕ) → let a = (start c.before.before.before).args in
+    Holds c.small_of-small.result (layout_of (content_of a.fields a.name.now a.names.now a.rest.now ds)).small
 small c ds =
     let a = (start c.before.before.before).args in
-    c.small_of.ensures a.name.now a.names.now a.rest.now ds (children c.before ds)
+    c.small_of-small.ensures a.name.now a.names.now a.rest.now ds (children c.before ds)
 
 returns : tie.Need-returns
 returns c =

@@ -14,68 +14,68 @@ use Rattle.writer.proofs.bodies.put_body.Statement.{statement}
 use Rattle.writer.proofs.bodies.put_body.Tie as tie
 
 -- the arguments
-abbrev start : tie.After-plan-of → tie.Start
+abbrev start : tie.After-plan_of-plan → tie.Start
 start c = let at_slices = c.before.before in at_slices.before.before.before.before
 
 -- the whole body, and its first four pieces
 abbrev body : tie.Start → List ℕ
 body s = let a = s.args in body_bytes (content_of a.fields a.name.now a.names.now a.rest.now a.deviations.now)
 
-abbrev front : tie.After-plan-of → List ℕ
+abbrev front : tie.After-plan_of-plan → List ℕ
 front c =
     let a = (start c).args in
-    let r = c.plan-of.result in
-    take r.name a.name.now ++ (take r.len r.bytes ++ (take r.names a.names.now ++ take r.rest a.rest.now))
+    let r = c.plan_of-plan.result in
+    take r.name a.name.now ++ (take r.len r.bytes-1 ++ (take r.names a.names.now ++ take r.rest a.rest.now))
 
 -- what is left to put, before them
-all_left : (c : tie.After-plan-of) → let a = (start c).args in
+all_left : (c : tie.After-plan_of-plan) → let a = (start c).args in
     Writing a.mode a.pen (body (start c)) a.buffer.now a.pen (front c ++ packed_of a.fields a.deviations.now) a.buffer.now
 all_left c =
     let s = start c in
     let a = s.args in
-    same_list (c.plan-of.ensures.body a.deviations.now) (begin a.mode a.pen (body s) a.buffer.now s.pre.1)
+    same_list (c.plan_of-plan.ensures.body a.deviations.now) (begin a.mode a.pen (body s) a.buffer.now s.pre.1)
 
 -- and after them
-abbrev planned : tie.After-put-pieces → tie.After-plan-of
+abbrev planned : tie.After-put_pieces-next → tie.After-plan_of-plan
 planned c = let at_slices = c.before.before.before in at_slices.before.before.before.before
 
-references_left : (c : tie.After-put-pieces) → let a = (start (planned c)).args in
-    Writing a.mode a.pen (body (start (planned c))) a.buffer.now c.put-pieces.result (packed_of a.fields a.deviations.now) c.put-pieces.new.0
+references_left : (c : tie.After-put_pieces-next) → let a = (start (planned c)).args in
+    Writing a.mode a.pen (body (start (planned c))) a.buffer.now c.put_pieces-next.result (packed_of a.fields a.deviations.now) c.put_pieces-next.new.0
 references_left c =
     let a = (start (planned c)).args in
-    piece_put (front (planned c)) (packed_of a.fields a.deviations.now) (all_left (planned c)) c.put-pieces.ensures
+    piece_put (front (planned c)) (packed_of a.fields a.deviations.now) (all_left (planned c)) c.put_pieces-next.ensures
 
-plan_of_requires : tie.Need-plan-of-requires
+plan_of_requires : tie.Need-plan_of-plan-requires
 plan_of_requires c κs =
     let at_slices = c.before in
     let s = at_slices.before.before.before.before in
     let a = s.args in
     few_names a.name.now a.names.now a.rest.now a.deviations.now a.fields s.requires.0
 
-slice_aggregate_put_pieces : tie.Need-slice-aggregate-put-pieces
-slice_aggregate_put_pieces c = sym (length-take-le _ _ c.before.before.before.plan-of.ensures.name-fits)
+slice_aggregate_put_pieces : tie.Need-slice_bounds-put_pieces-end
+slice_aggregate_put_pieces c = sym (length-take-le _ _ c.before.before.before.plan_of-plan.ensures.name-fits)
 
-slice_aggregate_put_pieces_2 : tie.Need-slice-aggregate-put-pieces-2
-slice_aggregate_put_pieces_2 c = sym (length-take-le _ _ c.before.before.before.before.plan-of.ensures.small-fits)
+slice_aggregate_put_pieces_2 : tie.Need-slice_bounds-put_pieces-end-2
+slice_aggregate_put_pieces_2 c = sym (length-take-le _ _ c.before.before.before.before.plan_of-plan.ensures.small-fits)
 
-slice_aggregate_put_pieces_3 : tie.Need-slice-aggregate-put-pieces-3
+slice_aggregate_put_pieces_3 : tie.Need-slice_bounds-put_pieces-end-3
 slice_aggregate_put_pieces_3 c =
     let at_small = c.before.before in
-    sym (length-take-le _ _ at_small.before.before.before.plan-of.ensures.names-fit)
+    sym (length-take-le _ _ at_small.before.before.before.plan_of-plan.ensures.names-fit)
 
-slice_aggregate_put_pieces_4 : tie.Need-slice-aggregate-put-pieces-4
+slice_aggregate_put_pieces_4 : tie.Need-slice_bounds-put_pieces-end-4
 slice_aggregate_put_pieces_4 c =
     let at_small = c.before.before.before in
-    sym (length-take-le _ _ at_small.before.before.before.plan-of.ensures.rest-fits)
+    sym (length-take-le _ _ at_small.before.before.before.plan_of-plan.ensures.rest-fits)
 
-put_pieces_requires : tie.Need-put-pieces-requires
+put_pieces_requires : tie.Need-put_pieces-next-requires
 put_pieces_requires c κs =
     let at_small = c.before.before.before in
     let at_plan = at_small.before.before.before in
     let a = (start at_plan).args in
     piece_lies (front at_plan) (packed_of a.fields a.deviations.now) (all_left at_plan)
 
-put_references_requires : tie.Need-put-references-requires
+put_references_requires : tie.Need-put_references-requires
 put_references_requires c κs =
     let at_pieces = c.before.before.before in
     let s = start (planned at_pieces) in
@@ -85,7 +85,7 @@ put_references_requires c κs =
 returns : tie.Need-returns
 returns c =
     let at_last = c.before.before in
-    rest_put (references_left at_last.before.before.before.before) at_last.put-references.ensures
+    rest_put (references_left at_last.before.before.before.before) at_last.put_references.ensures
 
 pub put_body_spec : {M : Type 1} → statement M
 put_body_spec =

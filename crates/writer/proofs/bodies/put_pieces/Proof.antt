@@ -7,13 +7,13 @@ use Rattle.writer.proofs.bodies.put_pieces.Tie as tie
 
 -- ---- the arguments, and what is left to put after each call
 
-abbrev start : tie.After-put-bytes → tie.Start
+abbrev start : tie.After-put_bytes-first → tie.Start
 start c = let at_slices = c.before.before.before in at_slices.before.before.before.before
 
-abbrev start2 : tie.After-put-bytes2 → tie.Start
+abbrev start2 : tie.After-put_bytes-second → tie.Start
 start2 c = start c.before.before.before.before
 
-abbrev start3 : tie.After-put-bytes3 → tie.Start
+abbrev start3 : tie.After-put_bytes-third → tie.Start
 start3 c = start2 c.before.before.before.before
 
 all_left : (c : tie.Start) → let a = c.args in
@@ -21,53 +21,53 @@ all_left : (c : tie.Start) → let a = c.args in
     Writing a.mode a.pen all a.buffer.now a.pen all a.buffer.now
 all_left c = let a = c.args in begin a.mode a.pen (a.a.now ++ (a.b.now ++ (a.c.now ++ a.d.now))) a.buffer.now c.requires
 
-first_put : (c : tie.After-put-bytes) → let a = (start c).args in
+first_put : (c : tie.After-put_bytes-first) → let a = (start c).args in
     let rest = a.b.now ++ (a.c.now ++ a.d.now) in
-    Writing a.mode a.pen (a.a.now ++ rest) a.buffer.now c.put-bytes.result rest c.put-bytes.new.0
+    Writing a.mode a.pen (a.a.now ++ rest) a.buffer.now c.put_bytes-first.result rest c.put_bytes-first.new.0
 first_put c =
     let s = start c in
-    piece_put s.args.a.now (s.args.b.now ++ (s.args.c.now ++ s.args.d.now)) (all_left s) c.put-bytes.ensures
+    piece_put s.args.a.now (s.args.b.now ++ (s.args.c.now ++ s.args.d.now)) (all_left s) c.put_bytes-first.ensures
 
-second_put : (c : tie.After-put-bytes2) → let a = (start2 c).args in
+second_put : (c : tie.After-put_bytes-second) → let a = (start2 c).args in
     let rest = a.c.now ++ a.d.now in
-    Writing a.mode a.pen (a.a.now ++ (a.b.now ++ rest)) a.buffer.now c.put-bytes2.result rest c.put-bytes2.new.0
+    Writing a.mode a.pen (a.a.now ++ (a.b.now ++ rest)) a.buffer.now c.put_bytes-second.result rest c.put_bytes-second.new.0
 second_put c =
     let a = (start2 c).args in
-    piece_put a.b.now (a.c.now ++ a.d.now) (first_put c.before.before.before.before) c.put-bytes2.ensures
+    piece_put a.b.now (a.c.now ++ a.d.now) (first_put c.before.before.before.before) c.put_bytes-second.ensures
 
-third_put : (c : tie.After-put-bytes3) → let a = (start3 c).args in
-    Writing a.mode a.pen (a.a.now ++ (a.b.now ++ (a.c.now ++ a.d.now))) a.buffer.now c.put-bytes3.result a.d.now c.put-bytes3.new.0
+third_put : (c : tie.After-put_bytes-third) → let a = (start3 c).args in
+    Writing a.mode a.pen (a.a.now ++ (a.b.now ++ (a.c.now ++ a.d.now))) a.buffer.now c.put_bytes-third.result a.d.now c.put_bytes-third.new.0
 third_put c =
     let a = (start3 c).args in
-    piece_put a.c.now a.d.now (second_put c.before.before.before.before) c.put-bytes3.ensures
+    piece_put a.c.now a.d.now (second_put c.before.before.before.before) c.put_bytes-third.ensures
 
 -- ---- the needs
 
-put_bytes_requires : tie.Need-put-bytes-requires
+put_bytes_requires : tie.Need-put_bytes-first-requires
 put_bytes_requires c κs =
     let at_slices = c.before.before in
     let s = at_slices.before.before.before.before in
     piece_lies s.args.a.now (s.args.b.now ++ (s.args.c.now ++ s.args.d.now)) (all_left s)
 
-put_bytes_requires_2 : tie.Need-put-bytes-requires-2
+put_bytes_requires_2 : tie.Need-put_bytes-second-requires
 put_bytes_requires_2 c κs =
     let at_first = c.before.before.before in
     let a = (start at_first).args in
     piece_lies a.b.now (a.c.now ++ a.d.now) (first_put at_first)
 
-put_bytes_requires_3 : tie.Need-put-bytes-requires-3
+put_bytes_requires_3 : tie.Need-put_bytes-third-requires
 put_bytes_requires_3 c κs =
     let at_second = c.before.before.before in
     let a = (start2 at_second).args in
     piece_lies a.c.now a.d.now (second_put at_second)
 
-put_bytes_requires_4 : tie.Need-put-bytes-requires-4
+put_bytes_requires_4 : tie.Need-put_bytes-requires
 put_bytes_requires_4 c κs = rest_lies (third_put c.before.before.before)
 
 returns : tie.Need-returns
 returns c =
     let at_last = c.before.before in
-    rest_put (third_put at_last.before.before.before.before) at_last.put-bytes4.ensures
+    rest_put (third_put at_last.before.before.before.before) at_last.put_bytes.ensures
 
 pub put_pieces_spec : {M : Type 1} → statement M
 put_pieces_spec =

@@ -7,18 +7,18 @@ use borrow.Author.Rules.{rules}
 use Rattle.writer.proofs.counter.put_counter.Statement.{statement}
 use Rattle.writer.proofs.counter.put_counter.Tie as tie
 
-put_digits_requires : tie.Need-put-digits-requires
+put_digits_requires : tie.Need-put_digits-requires
 put_digits_requires c κs =
     let a = c.before.before.before.args in
-    omega (arith, c.before.width.ensures, counter_small a.counter c.before.before.before.ranges.counter.fits)
+    omega (arith, c.before.width-count.ensures, counter_small a.counter c.before.before.before.ranges.counter.fits)
 
 returns : tie.Need-returns
 returns c =
     let at_width = c.before.before.before.before in
     let s = at_width.before.before in
-    let w = at_width.width in
+    let w = at_width.width-count in
     let e = counter_bytes_lem s.args.counter s.ranges.counter.fits w.result w.ensures in
-    (w.ensures, c.before.before.put-digits.ensures ∙ ap (sets s.args.buffer.now s.args.at) (sym e))
+    (w.ensures, c.before.before.put_digits.ensures ∙ ap (sets s.args.buffer.now s.args.at) (sym e))
 
 pub put_counter_spec : {M : Type 1} → statement M
 put_counter_spec = tie.close (tie.spec (λ c κs. search rules) put_digits_requires (λ c. search rules) returns)

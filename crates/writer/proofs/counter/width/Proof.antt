@@ -5,7 +5,7 @@ use borrow.Author.Rules.{rules}
 use Rattle.writer.proofs.counter.width.Statement.{statement}
 use Rattle.writer.proofs.counter.width.Tie as tie
 
-sub_result : tie.Need-overflow-sub-result
+sub_result : tie.Need-overflow_sub-result
 sub_result c = leading_le 64 c.args.counter
 
 returns : tie.Need-returns

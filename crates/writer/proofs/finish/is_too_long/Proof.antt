@@ -4,21 +4,21 @@ use borrow.Author.Rules.{rules}
 use Rattle.writer.proofs.finish.is_too_long.Statement.{statement}
 use Rattle.writer.proofs.finish.is_too_long.Tie as tie
 
-returns : tie.Need-returns
+returns : tie.Need-returns-then-padding-ge-LIMIT
 returns c =
     let a = c.before.before.args in
-    long_padding a.version a.mode a.padding a.used a.buffer.now c.if1.true
+    long_padding a.version a.mode a.padding a.used a.buffer.now c.if-padding-ge-LIMIT.true
 
-returns_2 : tie.Need-returns-2
+returns_2 : tie.Need-returns-then-used-left
 returns_2 c =
     let a = c.before.before.before.args in
-    short_frames a.version a.mode a.padding a.used a.buffer.now c.before.if1.false c.if2.true
+    short_frames a.version a.mode a.padding a.used a.buffer.now c.before.if-padding-ge-LIMIT.false c.if-used-left.true
 
-returns_3 : tie.Need-returns-3
+returns_3 : tie.Need-returns
 returns_3 c =
     let at_mode = c.before in
     let a = at_mode.before.before.before.before.args in
-    by_count a.version a.mode a.padding a.used a.buffer.now at_mode.before.before.if1.false at_mode.whole-mode.ensures c.unsync-len.ensures
+    by_count a.version a.mode a.padding a.used a.buffer.now at_mode.before.before.if-padding-ge-LIMIT.false at_mode.whole_mode.ensures c.unsync_len.ensures
 
 pub is_too_long_spec : {M : Type 1} → statement M
 is_too_long_spec =

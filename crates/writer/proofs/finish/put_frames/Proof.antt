@@ -12,25 +12,25 @@ use borrow.Author.Rules.{rules}
 use Rattle.writer.proofs.finish.put_frames.Statement.{statement}
 use Rattle.writer.proofs.finish.put_frames.Tie as tie
 
-returns : tie.Need-returns
+returns : tie.Need-returns-then-output-padding
 returns c =
     let a = c.before.before.before.args in
-    no_padding (whole_of a.version a.mode (take a.used a.buffer.now)) a.output.now a.padding c.if1.true
+    no_padding (whole_of a.version a.mode (take a.used a.buffer.now)) a.output.now a.padding c.if-output-padding.true
 
-slice_aggregate_unsync_into : tie.Need-slice-aggregate-unsync-into
+slice_aggregate_unsync_into : tie.Need-slice_bounds-unsync_into-end-2
 slice_aggregate_unsync_into c =
     let at_mode = c.before in
     sym (length-take-le _ at_mode.before.before.before.before.args.output.now (omega arith))
 
-returns_2 : tie.Need-returns-2
+returns_2 : tie.Need-returns
 returns_2 c =
     let at_into = c.before.before in
     let at_mode = at_into.before.before in
     let a = at_mode.before.before.before.before.args in
     let frames = take a.used a.buffer.now in
-    let whole = whole_is a.version a.mode at_mode.whole-mode.ensures frames in
-    let puts = at_into.unsync-into.ensures ∙ ap (λ (u : List ℕ). placed_of u 10 (take (length a.output.now - a.padding) a.output.now)) whole in
-    in_front (whole_of a.version a.mode frames) a.output.now a.padding at_mode.before.if1.false refl puts
+    let whole = whole_is a.version a.mode at_mode.whole_mode-by.ensures frames in
+    let puts = at_into.unsync_into.ensures ∙ ap (λ (u : List ℕ). placed_of u 10 (take (length a.output.now - a.padding) a.output.now)) whole in
+    in_front (whole_of a.version a.mode frames) a.output.now a.padding at_mode.before.if-output-padding.false refl puts
 
 pub put_frames_spec : {M : Type 1} → statement M
 put_frames_spec =

@@ -19,15 +19,15 @@ returns c =
     let numbered = number_put.before in
     let letters_put = numbered.before.before.before.before in
     let a = letters_put.before.before.before.args in
-    let number = numbered.version-number in
-    let flags = flagged.flags-byte in
-    let size = bytes_of 4 sized.synchsafe-word.result in
-    bytes_put a.output.now 0 3 0x494433 (bytes_of 1 number.result ++ (bytes_of 2 flags.result ++ size)) letters_put.put-digits.ensures
-    (bytes_put _ 3 1 number.result (bytes_of 2 flags.result ++ size) number_put.put-digits2.ensures
-    (bytes_put _ 4 2 flags.result size flags_put.put-digits3.ensures size_put.put-digits4.ensures refl)
+    let number = numbered.version_number in
+    let flags = flagged.flags_byte in
+    let size = bytes_of 4 sized.synchsafe_word.result in
+    bytes_put a.output.now 0 3 0x494433 (bytes_of 1 number.result ++ (bytes_of 2 flags.result ++ size)) letters_put.put_digits.ensures
+    (bytes_put _ 3 1 number.result (bytes_of 2 flags.result ++ size) number_put.put_digits-2.ensures
+    (bytes_put _ 4 2 flags.result size flags_put.put_digits-3.ensures size_put.put_digits-4.ensures refl)
     refl)
     refl
-    ∙ rw (number.ensures, flags.ensures, sized.synchsafe-word.ensures) (ap (sets a.output.now 0) (header_is a.version a.mode a.size))
+    ∙ rw (number.ensures, flags.ensures, sized.synchsafe_word.ensures) (ap (sets a.output.now 0) (header_is a.version a.mode a.size))
 
 pub put_header_spec : {M : Type 1} → statement M
 put_header_spec =

@@ -7,30 +7,30 @@ use Rattle.writer.proofs.finish.put_tag.Statement.{statement}
 use Rattle.writer.proofs.finish.put_tag.Tie as tie
 
 -- the arguments, and that the frames were put
-abbrev start : tie.After-put-frames → tie.Start
+abbrev start : tie.After-put_frames-put → tie.Start
 start c = c.before.before.before.before
 
-frames_put_lem : (c : tie.After-put-zeros-arg) →
+frames_put_lem : (c : tie.After-put_zeros-arg-1) →
     let at_put = c.before.before in
     let at_frames = at_put.before.before.before.before in
     let a = (start at_frames).args in
-    Frames a.version a.mode a.padding (take a.used a.buffer.now) a.output.now at_frames.put-frames.ensures at_put.put.given.0.0
+    Frames a.version a.mode a.padding (take a.used a.buffer.now) a.output.now at_frames.put_frames-put.ensures at_put.put-1.given.0.0
 frames_put_lem c =
     let at_put = c.before.before in
     let at_frames = at_put.before.before.before.before in
     let a = (start at_frames).args in
-    tag_frames a.version a.mode a.padding (take a.used a.buffer.now) a.output.now at_frames.put-frames.ensures at_put.put.given.1
+    tag_frames a.version a.mode a.padding (take a.used a.buffer.now) a.output.now at_frames.put_frames-put.ensures at_put.put-1.given.1
 
-add_put_zeros : tie.Need-overflow-add-put-zeros
+add_put_zeros : tie.Need-overflow_add-n
 add_put_zeros c = omega (arith, frames_put_lem c)
 
-put_zeros_requires : tie.Need-put-zeros-requires
+put_zeros_requires : tie.Need-put_zeros-requires
 put_zeros_requires c κs = omega (arith, frames_put_lem c)
 
-add_put_header : tie.Need-overflow-add-put-header
+add_put_header : tie.Need-overflow_add-n-in-Bytes
 add_put_header c = omega (arith, frames_put_lem c.before.before.before.before)
 
-put_header_requires : tie.Need-put-header-requires
+put_header_requires : tie.Need-put_header-requires
 put_header_requires c κs =
     let at_zeros = c.before.before.before.before in
     let at_put = at_zeros.before.before in
@@ -38,31 +38,31 @@ put_header_requires c κs =
     let a = at_start.args in
     omega (arith, frames_put_lem at_zeros, region_length a.version a.mode a.padding (take a.used a.buffer.now), at_start.pre)
 
-add_t16 : tie.Need-overflow-add-t16
+add_t16 : tie.Need-overflow_add-result
 add_t16 c =
     let at_header = c.before.before.before in
     omega (arith, frames_put_lem at_header.before.before.before.before)
 
-add_t19 : tie.Need-overflow-add-t19
+add_t19 : tie.Need-overflow_add-result-in-Bytes
 add_t19 c =
     let at_header = c.before.before.before in
     omega (arith, frames_put_lem at_header.before.before.before.before)
 
-returns : tie.Need-returns
+returns : tie.Need-returns-in-Bytes
 returns c =
     let at_header = c.before.before in
     let at_zeros = at_header.before.before.before.before in
     let at_put = at_zeros.before.before.before in
     let at_frames = at_put.before.before.before.before in
     let a = (start at_frames).args in
-    tag_put a.version a.mode a.padding (take a.used a.buffer.now) a.output.now at_frames.put-frames.ensures (frames_put_lem at_zeros.before) at_zeros.put-zeros.ensures at_header.put-header.ensures
+    tag_put a.version a.mode a.padding (take a.used a.buffer.now) a.output.now at_frames.put_frames-put.ensures (frames_put_lem at_zeros.before) at_zeros.put_zeros.ensures at_header.put_header.ensures
 
-returns_2 : tie.Need-returns-2
+returns_2 : tie.Need-returns-in-Refused
 returns_2 c =
     let at_put = c.before in
     let at_frames = at_put.before.before.before.before in
     let a = (start at_frames).args in
-    tag_refused a.version a.mode a.padding (take a.used a.buffer.now) a.output.now at_frames.put-frames.ensures at_put.put2.given.1
+    tag_refused a.version a.mode a.padding (take a.used a.buffer.now) a.output.now at_frames.put_frames-put.ensures at_put.put-in-Refused-1.given.1
 
 pub put_tag_spec : {M : Type 1} → statement M
 put_tag_spec =

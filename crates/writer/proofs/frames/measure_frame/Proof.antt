@@ -11,7 +11,7 @@ returns c =
     let at_slices = c.before.before in
     let a = at_slices.before.before.before.before.args in
     let body = body_bytes (content_of a.heading.fields a.name.now a.names.now a.rest.now a.deviations.now) in
-    rw (← stored_length a.version a.mode body c.before.body-mode.ensures) c.measure-body.ensures
+    rw (← stored_length a.version a.mode body c.before.body_mode.ensures) c.measure_body.ensures
 
 pub measure_frame_spec : {M : Type 1} → statement M
 measure_frame_spec = tie.close (tie.spec (λ c κs. search rules) (λ c κs. search rules) returns)

@@ -6,25 +6,25 @@ use Rattle.writer.proofs.frames.put_frame.Statement.{statement}
 use Rattle.writer.proofs.frames.put_frame.Tie as tie
 
 -- the arguments, and the record that they make
-abbrev start : tie.After-put-head-arg → tie.Start
+abbrev start : tie.After-put_head-arg-1 → tie.Start
 start c = let at_slices = c.before in let at_Names = at_slices.before.before in at_Names.before.before.before
 
 abbrev given : tie.Start → Rec
 given s = rec_of s.args.heading s.args.name.now s.args.names.now s.args.rest.now s.args.deviations.now
 
-put_head_requires : tie.Need-put-head-requires
+put_head_requires : tie.Need-put_head-behind-requires
 put_head_requires c κs =
     let s = start c in
     let a = s.args in
     (head_lies a.version a.mode (given s) a.buffer.now a.at s.pre.3, s.pre.2)
 
-put_body_requires : tie.Need-put-body-requires
+put_body_requires : tie.Need-put_body-end-requires
 put_body_requires c κs =
     let at_head = c.before.before.before.before in
     let s = start at_head.before in
     let a = s.args in
-    let h = at_head.put-head in
-    (s.pre.0, body_lies a.version a.mode (given s) a.buffer.now a.at s.pre.1 h.ensures.0 h.ensures.1 c.body-mode.ensures s.pre.3)
+    let h = at_head.put_head-behind in
+    (s.pre.0, body_lies a.version a.mode (given s) a.buffer.now a.at s.pre.1 h.ensures.0 h.ensures.1 c.body_mode.ensures s.pre.3)
 
 returns : tie.Need-returns
 returns c =
@@ -33,8 +33,8 @@ returns c =
     let at_head = at_mode.before.before.before.before in
     let s = start at_head.before in
     let a = s.args in
-    let h = at_head.put-head in
-    frame_put a.version a.mode (given s) a.buffer.now a.at s.pre.1 h.ensures.0 h.ensures.1 at_mode.body-mode.ensures at_body.put-body.ensures
+    let h = at_head.put_head-behind in
+    frame_put a.version a.mode (given s) a.buffer.now a.at s.pre.1 h.ensures.0 h.ensures.1 at_mode.body_mode.ensures at_body.put_body-end.ensures
 
 pub put_frame_spec : {M : Type 1} → statement M
 put_frame_spec =

@@ -6,37 +6,37 @@ use borrow.Author.Rules.{rules}
 use Rattle.writer.proofs.frames.put_head.Statement.{statement}
 use Rattle.writer.proofs.frames.put_head.Tie as tie
 
-put_short_requires : tie.Need-put-short-requires
-put_short_requires c κs = rw c.before.enum_told.given.1 at c.before.before.before.before.requires.0
+put_short_requires : tie.Need-put_short-requires
+put_short_requires c κs = rw c.before.enum_told-1.given.1 at c.before.before.before.before.requires.0
 
-put_long_requires : tie.Need-put-long-requires
-put_long_requires c κs = rw c.before.enum-told2.given.1 at c.before.before.before.before.requires.0
+put_long_requires : tie.Need-put_long-requires
+put_long_requires c κs = rw c.before.enum_told-in-Id3v23-1.given.1 at c.before.before.before.before.requires.0
 
-put_long_requires_2 : tie.Need-put-long-requires-2
+put_long_requires_2 : tie.Need-put_long-requires-in-Id3v24
 put_long_requires_2 c κs =
     let at_edition = c.before.before.before in
-    rw at_edition.enum-told3.given.1 at at_edition.before.before.before.requires.0
+    rw at_edition.enum_told-in-Id3v24-1.given.1 at at_edition.before.before.before.requires.0
 
-returns : tie.Need-returns
+returns : tie.Need-returns-in-Id3v22
 returns c =
     let at_put = c.before.before in
-    rw at_put.before.before.enum_told.given.1 (refl, at_put.put-short.ensures)
+    rw at_put.before.before.enum_told-1.given.1 (refl, at_put.put_short.ensures)
 
-returns_2 : tie.Need-returns-2
+returns_2 : tie.Need-returns-in-Id3v23
 returns_2 c =
     let at_put = c.before.before in
     let at_edition = at_put.before.before in
     let a = at_edition.before.before.before.args in
-    rw at_edition.enum-told2.given.1 (refl, at_put.put-long.ensures ∙ ap (sets a.buffer.now a.at) (plain_head a.mode a.id a.size))
+    rw at_edition.enum_told-in-Id3v23-1.given.1 (refl, at_put.put_long.ensures ∙ ap (sets a.buffer.now a.at) (plain_head a.mode a.id a.size))
 
-returns_3 : tie.Need-returns-3
+returns_3 : tie.Need-returns-in-Id3v24
 returns_3 c =
     let at_put = c.before.before in
     let at_size = at_put.before.before in
     let at_edition = at_size.before.before in
     let a = at_edition.before.before.before.args in
-    rw at_edition.enum-told3.given.1
-    (refl, at_put.put-long2.ensures ∙ rw (at_size.synchsafe-word.ensures, at_put.before.frame-flags.ensures) (ap (sets a.buffer.now a.at) (long_head a.mode a.id a.size)))
+    rw at_edition.enum_told-in-Id3v24-1.given.1
+    (refl, at_put.put_long-in-Id3v24.ensures ∙ rw (at_size.synchsafe_word.ensures, at_put.before.frame_flags.ensures) (ap (sets a.buffer.now a.at) (long_head a.mode a.id a.size)))
 
 pub put_head_spec : {M : Type 1} → statement M
 put_head_spec =

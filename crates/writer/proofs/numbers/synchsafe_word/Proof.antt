@@ -4,17 +4,17 @@ use borrow.Author.Rules.{rules}
 use Rattle.writer.proofs.numbers.synchsafe_word.Statement.{statement}
 use Rattle.writer.proofs.numbers.synchsafe_word.Tie as tie
 
-returns : tie.Need-returns
+returns : tie.Need-returns-in-Word
 returns c =
     let at_encode = c.before.before.before in
     let at_start = at_encode.before in
-    word_bytes at_start.args.size at_start.requires at_encode.encode-u32.ensures c.before.encoded.given.1
+    word_bytes at_start.args.size at_start.requires at_encode.encode_u32-encoded.ensures c.before.encoded-1.given.1
 
-returns_2 : tie.Need-returns-2
+returns_2 : tie.Need-returns-in-Refused
 returns_2 c =
     let at_encode = c.before.before in
     let at_start = at_encode.before in
-    absurd (word_given at_start.args.size at_start.requires at_encode.encode-u32.ensures c.enum_told.given.1)
+    absurd (word_given at_start.args.size at_start.requires at_encode.encode_u32-encoded.ensures c.enum_told-1.given.1)
 
 pub synchsafe_word_spec : {M : Type 1} → statement M
 synchsafe_word_spec =

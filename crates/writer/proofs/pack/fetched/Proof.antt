@@ -9,40 +9,40 @@ use Rattle.writer.proofs.Packs.{bits_at, taken_ready, taken_left, filled_ready, 
 use Rattle.writer.proofs.pack.fetched.Statement.{statement}
 use Rattle.writer.proofs.pack.fetched.Tie as tie
 
-abbrev invariant_loop : tie.invariant-loop
+abbrev invariant_loop : tie.invariant-loop-have
 invariant_loop ds acc₀ have₀ i₀ a₀ b₀ acc have i a b =
     Ready ds (bits_at acc have i a b) × (left (bits_at acc have i a b) ds ≡ left (bits_at acc₀ have₀ i₀ a₀ b₀) ds)
 
-abbrev decreases_loop : tie.decreases-loop
+abbrev decreases_loop : tie.decreases-loop-have
 decreases_loop ds acc₀ have₀ i₀ a₀ b₀ acc have i a b = length ds - i
 
-loop_holds : tie.Need-loop-init invariant_loop decreases_loop
+loop_holds : tie.Need-loop-have-init invariant_loop decreases_loop
 loop_holds c = (c.before.requires.0, refl)
 
-returns : tie.Need-returns invariant_loop decreases_loop
+returns : tie.Need-returns-then-ds-i invariant_loop decreases_loop
 returns c =
     let s = c.before.before.before.before in
-    let L = c.before.before.loop in
-    let none = c.if1.true in
-    let few = c.before.loop-test.true in (
+    let L = c.before.before.loop-have in
+    let none = c.if-ds-i.true in
+    let few = c.before.loop-have-test.true in (
       filled_ready s.args.ds.now L.acc L.have L.i L.a L.b none few L.invariant.0,
       omega arith,
       filled_left s.args.ds.now L.acc L.have L.i L.a L.b none few L.invariant.0 (rw L.invariant.1 s.requires.1) ∙ L.invariant.1,
     )
 
-loop_again : tie.Need-loop-preserved invariant_loop decreases_loop
+loop_again : tie.Need-loop-have-preserved invariant_loop decreases_loop
 loop_again c =
     let at_loop = c.before.before.before.before in
     let ds = at_loop.before.before.args.ds.now in
-    let L = at_loop.loop in
-    let there = c.before.before.if1.false in
-    let few = c.before.before.before.loop-test.true in (
+    let L = at_loop.loop-have in
+    let there = c.before.before.if-ds-i.false in
+    let few = c.before.before.before.loop-have-test.true in (
       taken_ready ds L.acc L.have L.i L.a L.b c.half.result there c.half.ensures.0 few L.invariant.0,
       taken_left ds L.acc L.have L.i L.a L.b c.half.result there c.half.ensures.0 few L.invariant.0 ∙ L.invariant.1,
     )
 
-returns_2 : tie.Need-returns-2 invariant_loop decreases_loop
-returns_2 c = (c.before.loop.invariant.0, c.loop-test.false, c.before.loop.invariant.1)
+returns_2 : tie.Need-returns invariant_loop decreases_loop
+returns_2 c = (c.before.loop-have.invariant.0, c.loop-have-test.false, c.before.loop-have.invariant.1)
 
 pub fetched_spec : {M : Type 1} → statement M
 fetched_spec =

@@ -11,25 +11,25 @@ use borrow.Author.Rules.{rules}
 use Rattle.writer.proofs.pack.measure_packed.Statement.{statement}
 use Rattle.writer.proofs.pack.measure_packed.Tie as tie
 
-returns : tie.Need-returns
+returns : tie.Need-returns-then-n-ge-LIMIT
 returns c =
     let a = c.before.before.before.args in
-    inr (omega (arith, c.before.packed-len.ensures, unsync_longer (guards a.mode) a.pen.prev (pack a.v a.w a.ds.now)))
+    inr (omega (arith, c.before.packed_len-n.ensures, unsync_longer (guards a.mode) a.pen.prev (pack a.v a.w a.ds.now)))
 
-returns_2 : tie.Need-returns-2
+returns_2 : tie.Need-returns-then-at-ge-LIMIT
 returns_2 c = inr (omega arith)
 
-returns_3 : tie.Need-returns-3
+returns_3 : tie.Need-returns-in-Off
 returns_3 c =
     let at_len = c.before.before.before.before in
     let a = at_len.before.before.args in
-    inl (omega (arith, at_len.packed-len.ensures, ap length (off_bytes c.enum_told.given.1 a.pen.prev (pack a.v a.w a.ds.now))))
+    inl (omega (arith, at_len.packed_len-n.ensures, ap length (off_bytes c.enum_told-1.given.1 a.pen.prev (pack a.v a.w a.ds.now))))
 
-returns_4 : tie.Need-returns-4
-returns_4 c = paced_sized c.pace-packed.ensures
+returns_4 : tie.Need-returns-in-Crate
+returns_4 c = paced_sized c.pace_packed.ensures
 
-returns_5 : tie.Need-returns-5
-returns_5 c = paced_sized c.pace-packed2.ensures
+returns_5 : tie.Need-returns-in-Standard
+returns_5 c = paced_sized c.pace_packed-in-Standard.ensures
 
 pub measure_packed_spec : {M : Type 1} → statement M
 measure_packed_spec =

@@ -10,7 +10,7 @@ use Rattle.writer.proofs.pack.next_byte.Tie as tie
 returns : tie.Need-returns
 returns c =
     let ds = c.before.before.before.before.args.ds.now in
-    let f = c.before.before.fetched in
+    let f = c.before.before.fetched-full in
     let full = f.result in
     let e = f.ensures in
     (out_ready ds full e.1 e.0, sym e.2 ∙ byte full.have full.acc (spread full.a full.b (drop full.i ds)) e.1)

@@ -12,14 +12,14 @@ use Rattle.writer.proofs.Packs.{start_ready, start_left}
 use Rattle.writer.proofs.pack.pace_packed.Statement.{statement}
 use Rattle.writer.proofs.pack.pace_packed.Tie as tie
 
-abbrev invariant_loop : tie.invariant-loop
+abbrev invariant_loop : tie.invariant-loop-k
 invariant_loop mode ds v w n bits₀ next₀ k₀ bits next k =
     Ready ds bits × (k + length (left bits ds) ≡ n) × Measuring mode next₀ (pack v w ds) next (left bits ds)
 
-abbrev decreases_loop : tie.decreases-loop
+abbrev decreases_loop : tie.decreases-loop-k
 decreases_loop mode ds v w n bits₀ next₀ k₀ bits next k = n - k
 
-loop_holds : tie.Need-loop-init invariant_loop decreases_loop
+loop_holds : tie.Need-loop-k-init invariant_loop decreases_loop
 loop_holds c =
     let s = c.before in
     let a = s.args in
@@ -29,27 +29,27 @@ loop_holds c =
       rw e (λ r p. p),
     )
 
-next_byte_requires : tie.Need-next-byte-requires invariant_loop decreases_loop
-next_byte_requires c κs = (c.before.loop.invariant.0, omega (arith, c.before.loop.invariant.1))
+next_byte_requires : tie.Need-next_byte-step-requires invariant_loop decreases_loop
+next_byte_requires c κs = (c.before.loop-k.invariant.0, omega (arith, c.before.loop-k.invariant.1))
 
-loop_again : tie.Need-loop-preserved invariant_loop decreases_loop
+loop_again : tie.Need-loop-k-preserved invariant_loop decreases_loop
 loop_again c =
     let at_loop = c.before.before.before.before in
     let a = at_loop.before.before.args in
-    let L = at_loop.loop in
-    let n = c.before.before.next-byte in
+    let L = at_loop.loop-k in
+    let n = c.before.before.next_byte-step in
     let e = n.ensures in (
       e.0,
       omega (arith, L.invariant.1, ap length e.1),
       measured a.mode a.pen (pack a.v a.w a.ds.now) L.next n.result.byte (left n.result.bits a.ds.now)
           (rw e.1 at L.invariant.2)
-          c.before.measure-byte.ensures,
+          c.before.measure_byte-next.ensures,
     )
 
 returns : tie.Need-returns invariant_loop decreases_loop
 returns c =
     let a = c.before.before.before.args in
-    let L = c.before.loop in
+    let L = c.before.loop-k in
     let e = drop_none (left L.bits a.ds.now) 0 (omega (arith, L.invariant.1)) in
     measured_all a.mode a.pen (pack a.v a.w a.ds.now) L.next (rw e at L.invariant.2)
 

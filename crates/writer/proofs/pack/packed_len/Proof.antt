@@ -20,16 +20,16 @@ high c = part_small (length c.args.ds.now / 2 / 8) (c.args.v + c.args.w) (sum c)
 low : (c : tie.Start) → length c.args.ds.now / 2 % 8 * (c.args.v + c.args.w) ≤ length c.args.ds.now / 2 % 8 * 64
 low c = part_small (length c.args.ds.now / 2 % 8) (c.args.v + c.args.w) (sum c)
 
-mul_result : tie.Need-overflow-mul-result
+mul_result : tie.Need-overflow_mul-result
 mul_result c = omega (arith, high c)
 
-mul_result_2 : tie.Need-overflow-mul-result-2
+mul_result_2 : tie.Need-overflow_mul-result-2
 mul_result_2 c = omega (arith, low c)
 
-add_result : tie.Need-overflow-add-result
+add_result : tie.Need-overflow_add-result
 add_result c = omega (arith, low c)
 
-add_result_2 : tie.Need-overflow-add-result-2
+add_result_2 : tie.Need-overflow_add-result-2
 add_result_2 c = omega (arith, high c, low c)
 
 returns : tie.Need-returns

@@ -12,44 +12,44 @@ use Rattle.writer.proofs.Packs.{start_ready, start_left}
 use Rattle.writer.proofs.pack.put_packed.Statement.{statement}
 use Rattle.writer.proofs.pack.put_packed.Tie as tie
 
-abbrev invariant_loop : tie.invariant-loop
+abbrev invariant_loop : tie.invariant-loop-k
 invariant_loop buffer₀ mode ds v w n bits₀ next₀ k₀ buffer bits next k =
     Ready ds bits × (k + length (left bits ds) ≡ n) × Writing mode next₀ (pack v w ds) buffer₀ next (left bits ds) buffer
 
-abbrev decreases_loop : tie.decreases-loop
+abbrev decreases_loop : tie.decreases-loop-k
 decreases_loop buffer₀ mode ds v w n bits₀ next₀ k₀ buffer bits next k = n - k
 
-loop_holds : tie.Need-loop-init invariant_loop decreases_loop
+loop_holds : tie.Need-loop-k-init invariant_loop decreases_loop
 loop_holds c =
     let s = c.before.before.before in
     let a = s.args in
     let e = start_left a.v a.w a.ds.now in (
       start_ready a.v a.w a.ds.now s.requires.0,
-      omega (arith, ap length e, c.packed-len.ensures),
+      omega (arith, ap length e, c.packed_len-n.ensures),
       same_list (sym e) (begin a.mode a.pen (pack a.v a.w a.ds.now) a.buffer.now s.requires.1),
     )
 
-next_byte_requires : tie.Need-next-byte-requires invariant_loop decreases_loop
-next_byte_requires c κs = (c.before.loop.invariant.0, omega (arith, c.before.loop.invariant.1))
+next_byte_requires : tie.Need-next_byte-step-requires invariant_loop decreases_loop
+next_byte_requires c κs = (c.before.loop-k.invariant.0, omega (arith, c.before.loop-k.invariant.1))
 
-put_byte_requires : tie.Need-put-byte-requires invariant_loop decreases_loop
-put_byte_requires c κs = lies (same_list c.before.next-byte.ensures.1 c.before.before.before.loop.invariant.2)
+put_byte_requires : tie.Need-put_byte-next-requires invariant_loop decreases_loop
+put_byte_requires c κs = lies (same_list c.before.next_byte-step.ensures.1 c.before.before.before.loop-k.invariant.2)
 
-loop_again : tie.Need-loop-preserved invariant_loop decreases_loop
+loop_again : tie.Need-loop-k-preserved invariant_loop decreases_loop
 loop_again c =
     let at_put = c.before.before.before in
     let at_byte = at_put.before.before in
-    let L = at_byte.before.before.loop in
-    let e = at_byte.next-byte.ensures in
-    (e.0, omega (arith, L.invariant.1, ap length e.1), put (same_list e.1 L.invariant.2) at_put.put_byte.ensures)
+    let L = at_byte.before.before.loop-k in
+    let e = at_byte.next_byte-step.ensures in
+    (e.0, omega (arith, L.invariant.1, ap length e.1), put (same_list e.1 L.invariant.2) at_put.put_byte-next.ensures)
 
-same_length : tie.Need-same-length invariant_loop decreases_loop
-same_length c = c.before.loop.invariant.2.long
+same_length : tie.Need-shape_of-buffer invariant_loop decreases_loop
+same_length c = c.before.loop-k.invariant.2.long
 
 returns : tie.Need-returns invariant_loop decreases_loop
 returns c =
     let at_loop = c.before in
-    let L = at_loop.loop in
+    let L = at_loop.loop-k in
     done (same_list (drop_none (left L.bits at_loop.before.before.before.before.args.ds.now) 0 (omega (arith, L.invariant.1))) L.invariant.2)
 
 pub put_packed_spec : {M : Type 1} → statement M

@@ -8,18 +8,18 @@ use borrow.Author.Rules.{rules}
 use Rattle.writer.proofs.pens.measure_byte.Statement.{statement}
 use Rattle.writer.proofs.pens.measure_byte.Tie as tie
 
-returns : tie.Need-returns
+returns : tie.Need-returns-then-at-ge-LIMIT
 returns c = inr (omega arith)
 
-returns_2 : tie.Need-returns-2
+returns_2 : tie.Need-returns-then-is_guarded
 returns_2 c =
     let a = c.before.before.before.args in
-    inl (sym (byte_pen a.mode a.pen a.b true (sym c.if2.true ∙ c.before.is-guarded.ensures)))
+    inl (sym (byte_pen a.mode a.pen a.b true (sym c.if-is_guarded.true ∙ c.before.is_guarded.ensures)))
 
-returns_3 : tie.Need-returns-3
+returns_3 : tie.Need-returns-else-is_guarded
 returns_3 c =
     let a = c.before.before.before.args in
-    inl (sym (byte_pen a.mode a.pen a.b false (sym c.if2.false ∙ c.before.is-guarded.ensures)))
+    inl (sym (byte_pen a.mode a.pen a.b false (sym c.if-is_guarded.false ∙ c.before.is_guarded.ensures)))
 
 pub measure_byte_spec : {M : Type 1} → statement M
 measure_byte_spec =

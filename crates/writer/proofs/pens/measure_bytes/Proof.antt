@@ -10,24 +10,24 @@ use borrow.Author.Rules.{rules}
 use Rattle.writer.proofs.pens.measure_bytes.Statement.{statement}
 use Rattle.writer.proofs.pens.measure_bytes.Tie as tie
 
-returns : tie.Need-returns
+returns : tie.Need-returns-then-at-ge-LIMIT
 returns c = inr (omega arith)
 
-returns_2 : tie.Need-returns-2
+returns_2 : tie.Need-returns-then-n-ge-LIMIT
 returns_2 c =
     let a = c.before.before.before.args in
     inr (omega (arith, unsync_longer (guards a.mode) a.pen.prev a.s.now))
 
-add_t9 : tie.Need-overflow-add-t9
+add_t9 : tie.Need-overflow_add-result
 add_t9 c =
     let a = c.before.before.before.before.args in
-    omega (arith, (count_all a.mode a.pen.prev a.s.now c.unsync-len.ensures).1)
+    omega (arith, (count_all a.mode a.pen.prev a.s.now c.unsync_len.ensures).1)
 
-returns_3 : tie.Need-returns-3
+returns_3 : tie.Need-returns
 returns_3 c =
     let at_len = c.before in
     let a = at_len.before.before.before.before.args in
-    inl (pen_is (ap (λ (n : ℕ). a.pen.at + n) (count_all a.mode a.pen.prev a.s.now at_len.unsync-len.ensures).0) c.ends-ff.ensures)
+    inl (pen_is (ap (λ (n : ℕ). a.pen.at + n) (count_all a.mode a.pen.prev a.s.now at_len.unsync_len.ensures).0) c.ends_ff.ensures)
 
 pub measure_bytes_spec : {M : Type 1} → statement M
 measure_bytes_spec =

@@ -15,36 +15,36 @@ abbrev Left : tie.Start → List ℕ → Type 0
 Left s l = let a = s.args in Storing a.buffer.now a.pen.at (unsync (guards a.mode) a.pen.prev (a.b ∷ [])) a.buffer.now a.pen.at l
 
 -- a 00 and the byte, or the byte alone
-guarded : (c : tie.Then1) → let s = c.before.before.before in Left s (0 ∷ s.args.b ∷ [])
+guarded : (c : tie.Then-is_guarded) → let s = c.before.before.before in Left s (0 ∷ s.args.b ∷ [])
 guarded c =
     let at_test = c.before in
     let at_start = at_test.before.before in
     let a = at_start.args in
-    same_list (byte_bytes a.mode a.pen a.b true (sym c.if1.true ∙ at_test.is-guarded.ensures)) (begin _ _ _ at_start.requires)
+    same_list (byte_bytes a.mode a.pen a.b true (sym c.if-is_guarded.true ∙ at_test.is_guarded.ensures)) (begin _ _ _ at_start.requires)
 
-plain : (c : tie.Else1) → let s = c.before.before.before in Left s (s.args.b ∷ [])
+plain : (c : tie.Else-is_guarded) → let s = c.before.before.before in Left s (s.args.b ∷ [])
 plain c =
     let at_test = c.before in
     let at_start = at_test.before.before in
     let a = at_start.args in
-    same_list (byte_bytes a.mode a.pen a.b false (sym c.if1.false ∙ at_test.is-guarded.ensures)) (begin _ _ _ at_start.requires)
+    same_list (byte_bytes a.mode a.pen a.b false (sym c.if-is_guarded.false ∙ at_test.is_guarded.ensures)) (begin _ _ _ at_start.requires)
 
-slice_write_buffer : tie.Need-slice-write-buffer
+slice_write_buffer : tie.Need-bounds-buffer-at
 slice_write_buffer c = next_lies (guarded c)
 
-slice_write_buffer_2 : tie.Need-slice-write-buffer-2
+slice_write_buffer_2 : tie.Need-bounds-buffer-next
 slice_write_buffer_2 c = next_lies (put (guarded c))
 
-returns : tie.Need-returns
+returns : tie.Need-returns-then-is_guarded
 unfolding ends_ff
 returns c =
     let a = c.before.before.before.args in
     pen_put a.mode a.pen (a.b ∷ []) a.buffer.now (done refl (put (put (guarded c)))) refl
 
-slice_write_buffer_3 : tie.Need-slice-write-buffer-3
+slice_write_buffer_3 : tie.Need-bounds-buffer-at-2
 slice_write_buffer_3 c = next_lies (plain c)
 
-returns_2 : tie.Need-returns-2
+returns_2 : tie.Need-returns
 unfolding ends_ff
 returns_2 c =
     let a = c.before.before.before.args in

@@ -5,28 +5,28 @@ use borrow.Author.Rules.{rules}
 use Rattle.writer.proofs.pens.put_bytes.Statement.{statement}
 use Rattle.writer.proofs.pens.put_bytes.Tie as tie
 
-add_t13 : tie.Need-overflow-add-t13
+add_t13 : tie.Need-overflow_add-result
 add_t13 c =
     let at_put = c.before in
     let at_into = at_put.before.before.before.before in
     let at_start = at_into.before.before.before.before in
     let a = at_start.args in
-    omega (arith, count_put a.mode a.pen a.s.now a.buffer.now at_start.requires at_into.unsync-into.ensures at_put.put.given.1, at_start.requires)
+    omega (arith, count_put a.mode a.pen a.s.now a.buffer.now at_start.requires at_into.unsync_into-put.ensures at_put.put-1.given.1, at_start.requires)
 
-returns : tie.Need-returns
+returns : tie.Need-returns-in-Bytes
 returns c =
     let at_put = c.before.before in
     let at_into = at_put.before.before.before.before in
     let at_start = at_into.before.before.before.before in
     let a = at_start.args in
-    bytes_put a.mode a.pen a.s.now a.buffer.now at_start.requires at_into.unsync-into.ensures at_put.put.given.1 c.ends-ff.ensures
+    bytes_put a.mode a.pen a.s.now a.buffer.now at_start.requires at_into.unsync_into-put.ensures at_put.put-1.given.1 c.ends_ff.ensures
 
-returns_2 : tie.Need-returns-2
+returns_2 : tie.Need-returns-in-Refused
 returns_2 c =
     let at_into = c.before.before.before.before in
     let at_start = at_into.before.before.before.before in
     let a = at_start.args in
-    absurd (not_refused a.mode a.pen a.s.now a.buffer.now at_start.requires at_into.unsync-into.ensures c.enum_told.given.1)
+    absurd (not_refused a.mode a.pen a.s.now a.buffer.now at_start.requires at_into.unsync_into-put.ensures c.enum_told-1.given.1)
 
 pub put_bytes_spec : {M : Type 1} → statement M
 put_bytes_spec =

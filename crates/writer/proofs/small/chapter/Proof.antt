@@ -13,7 +13,7 @@ returns c =
     let third = fourth.before.before.before in
     let second = third.before.before.before in
     let first = second.before.before.before in
-    rw (fourth.put-digits4.ensures, third.put-digits3.ensures, second.put-digits2.ensures, first.put-digits.ensures) (record { is = refl; fits = omega arith })
+    rw (fourth.put_digits-4.ensures, third.put_digits-3.ensures, second.put_digits-2.ensures, first.put_digits.ensures) (record { is = refl; fits = omega arith })
 
 pub chapter_spec : {M : Type 1} → statement M
 chapter_spec =

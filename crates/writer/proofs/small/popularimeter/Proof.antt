@@ -8,15 +8,15 @@ use borrow.Author.Rules.{rules}
 use Rattle.writer.proofs.small.popularimeter.Statement.{statement}
 use Rattle.writer.proofs.small.popularimeter.Tie as tie
 
-add_t10 : tie.Need-overflow-add-t10
+add_t10 : tie.Need-overflow_add-result
 add_t10 c =
     let s = c.before.before.before in
-    omega (arith, c.before.put-counter.ensures.0, counter_small s.args.counter s.ranges.counter.fits)
+    omega (arith, c.before.put_counter-count.ensures.0, counter_small s.args.counter s.ranges.counter.fits)
 
 returns : tie.Need-returns
 returns c =
     let s = c.before.before.before in
-    let e = c.before.put-counter.ensures in
+    let e = c.before.put_counter-count.ensures in
     let h = counter_small s.args.counter s.ranges.counter.fits in
     holds (0 ∷ s.args.rating ∷ counter_bytes s.args.counter) e.1 (omega (arith, e.0)) (omega arith)
 

@@ -12,7 +12,7 @@ returns c =
     let third = c.before in
     let second = third.before.before.before in
     let first = second.before.before.before in
-    rw (third.put-digits3.ensures, second.put-digits2.ensures, first.put-digits.ensures) (record { is = refl; fits = omega arith })
+    rw (third.put_digits-3.ensures, second.put_digits-2.ensures, first.put_digits.ensures) (record { is = refl; fits = omega arith })
 
 pub table_spec : {M : Type 1} → statement M
 table_spec =
