@@ -19,6 +19,7 @@ use Rattle.format.proofs.Numbers.{Digits, onto_sum, onto_digits, digits_onto}
 pub onto_next : (k i to a : ℕ) (s : List ℕ) → 0 < k → i < to → i < length s
     → onto 256 a (take k (slice i to s)) ≡ onto 256 (a * 256 + get_or s i 0) (take (k - 1) (slice (i + 1) to s))
 unfolding onto
+onto_next zero i to a s pos h l = elim pos [ ]
 onto_next (suc k) i to a s pos h l =
     let within : i < length (take to s) = rw length-take (omega arith) in
     let e : suc k - 1 ≡ k = omega arith in
