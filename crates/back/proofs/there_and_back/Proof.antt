@@ -25,7 +25,7 @@ slice_reshare_prefix_read_one c =
     let at_write_one = at_output.before.before.before in
     let a = (at_start at_write_one).args in
     let w = at_write_one.write_one-wrote.ensures in
-    tag_within a.version a.mode a.padding (given at_write_one) a.buffer-1.now a.output-1.now a.work-1.now w.0 at_wrote.wrote-1.given.1
+    tag_within a.version a.mode a.padding (given at_write_one) a.buffer-1.now a.output-1.now a.work-1.now w.0 at_wrote.in-Tag.is
 
 slice_aggregate_read_one : tie.Need-slice_bounds-read_one-end-in-Tag
 slice_aggregate_read_one c =
@@ -33,7 +33,7 @@ slice_aggregate_read_one c =
     let at_output = at_wrote.before.before.before in
     let at_write_one = at_output.before.before.before in
     let a = (at_start at_write_one).args in
-    sym (length-take-le _ at_write_one.write_one-wrote.new.1.0 (tag_within a.version a.mode a.padding (given at_write_one) a.buffer-1.now a.output-1.now a.work-1.now at_write_one.write_one-wrote.ensures.0 at_wrote.wrote-1.given.1))
+    sym (length-take-le _ at_write_one.write_one-wrote.new.1.0 (tag_within a.version a.mode a.padding (given at_write_one) a.buffer-1.now a.output-1.now a.work-1.now at_write_one.write_one-wrote.ensures.0 at_wrote.in-Tag.is))
 
 returns : tie.Need-returns-in-One
 returns c =
@@ -43,7 +43,7 @@ returns c =
     let at_write_one = at_output.before.before.before in
     let a = (at_start at_write_one).args in
     let w = at_write_one.write_one-wrote.ensures in
-    back_read a.version a.mode a.padding (given at_write_one) a.buffer-1.now a.output-1.now a.work-1.now w.0 w.1 behind_wrote.before.wrote-1.given.1 c.before.only-1.given.1 behind_read_one.before.read_one-only.ensures
+    back_read a.version a.mode a.padding (given at_write_one) a.buffer-1.now a.output-1.now a.work-1.now w.0 w.1 behind_wrote.before.in-Tag.is c.before.in-One.is behind_read_one.before.read_one-only.ensures
 
 returns_2 : tie.Need-returns-in-Other
 returns_2 c =
@@ -53,7 +53,7 @@ returns_2 c =
     let at_write_one = at_output.before.before.before in
     let a = (at_start at_write_one).args in
     let w = at_write_one.write_one-wrote.ensures in
-    back_read a.version a.mode a.padding (given at_write_one) a.buffer-1.now a.output-1.now a.work-1.now w.0 w.1 at_wrote.wrote-1.given.1 c.enum_told-1.given.1 at_read_one.read_one-only.ensures
+    back_read a.version a.mode a.padding (given at_write_one) a.buffer-1.now a.output-1.now a.work-1.now w.0 w.1 at_wrote.in-Tag.is c.in-Other.is at_read_one.read_one-only.ensures
 
 returns_3 : tie.Need-returns-in-Refused
 returns_3 c =
@@ -61,7 +61,7 @@ returns_3 c =
     let at_write_one = at_output.before.before.before in
     let a = (at_start at_write_one).args in
     let w = at_write_one.write_one-wrote.ensures in
-    back_refused a.version a.mode a.padding (given at_write_one) a.buffer-1.now a.output-1.now a.work-1.now w.0 c.before.wrote-in-Refused-1.given.1
+    back_refused a.version a.mode a.padding (given at_write_one) a.buffer-1.now a.output-1.now a.work-1.now w.0 c.before.in-Refused.is
 
 pub there_and_back_spec : {M : Type 1} → statement M
 there_and_back_spec =

@@ -13,12 +13,12 @@ returns_2 c =
     let at_stored = c.before.before in
     let at_found = at_stored.before.before.before in
     let at_header = at_found.before.before in
-    rw at_stored.store_header.ensures (sym (header_then _ _ at_header.before.if-header-lt-HEADER_WORDS.false (sym at_header.header-headed.ensures ∙ at_found.headed-1.given.1)))
+    rw at_stored.store_header.ensures (sym (header_then _ _ at_header.before.if-header-lt-HEADER_WORDS.false (sym at_header.header-headed.ensures ∙ at_found.in-Found.is)))
 
 returns_3 : tie.Need-returns-in-Refused
 returns_3 c =
     let at_header = c.before.before.before in
-    sym (header_then _ _ at_header.before.if-header-lt-HEADER_WORDS.false (sym at_header.header-headed.ensures ∙ c.before.headed-in-Refused-1.given.1))
+    sym (header_then _ _ at_header.before.if-header-lt-HEADER_WORDS.false (sym at_header.header-headed.ensures ∙ c.before.in-Refused.is))
 
 pub sv_header_spec : {M : Type 1} → statement M
 sv_header_spec =

@@ -15,7 +15,7 @@ start c = let known = c.before.before.before in known.before.before.before.befor
 
 -- the numbers that were given are of their types
 fits : (s : tie.Start) → let a = s.args in Fits (content_of a.heading.fields a.name.now a.names.now a.rest.now a.deviations.now)
-fits s = let a = s.args in heading_fits a.name.now a.names.now a.rest.now a.deviations.now a.heading _ s.well-formed.1.0
+fits s = let a = s.args in heading_fits a.name.now a.names.now a.rest.now a.deviations.now a.heading _ s.well_formed.1.0
 
 -- what was found
 found : (c : tie.After-locate-located) {x : Located} → c.locate-located.result ≡ x → x ≡ located_of (start c).args.tag.now 0
@@ -26,7 +26,7 @@ unfolding appended_of
 returns c =
     let at_locate = c.before.before.before in
     let a = (start at_locate).args in
-    (located_refused a.tag.now 0 (found at_locate c.before.located-1.given.1) _, fits (start at_locate))
+    (located_refused a.tag.now 0 (found at_locate c.before.in-Refused.is) _, fits (start at_locate))
 
 returns_2 : tie.Need-returns-in-Frames
 returns_2 c =
@@ -34,7 +34,7 @@ returns_2 c =
     let at_located = at_put.before.before.before in
     let at_locate = at_located.before.before in
     let a = (start at_locate).args in
-    (at_put.put_between.ensures ∙ appended_found a.tag.now (known a.tag.now 0 (found at_locate at_located.located-in-Frames-1.given.1)) _, fits (start at_locate))
+    (at_put.put_between.ensures ∙ appended_found a.tag.now (known a.tag.now 0 (found at_locate at_located.in-Frames.is)) _, fits (start at_locate))
 
 pub append_spec : {M : Type 1} → statement M
 append_spec =

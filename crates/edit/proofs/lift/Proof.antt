@@ -18,7 +18,7 @@ returns c =
     let at_seek = c.before.before.before in
     let a = at_seek.before.before.before.before.args in
     sym (lifted_sought a.tag.now a.user.now a.amount
-    ∙ ap (λ (x : Sought). lifted_by x a.user.now a.amount a.tag.now) (sym (sought at_seek c.before.sought-1.given.1)))
+    ∙ ap (λ (x : Sought). lifted_by x a.user.now a.amount a.tag.now) (sym (sought at_seek c.before.in-Refused.is)))
 
 returns_2 : tie.Need-returns-in-Counter
 returns_2 c =
@@ -28,7 +28,7 @@ returns_2 c =
     let a = at_seek.before.before.before.before.args in
     at_lifted.lift_found.ensures
     ∙ sym (lifted_sought a.tag.now a.user.now a.amount
-    ∙ ap (λ (x : Sought). lifted_by x a.user.now a.amount a.tag.now) (sym (sought at_seek at_sought.sought-in-Counter-1.given.1)))
+    ∙ ap (λ (x : Sought). lifted_by x a.user.now a.amount a.tag.now) (sym (sought at_seek at_sought.in-Counter.is)))
 
 pub lift_spec : {M : Type 1} → statement M
 lift_spec =

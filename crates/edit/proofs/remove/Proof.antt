@@ -21,21 +21,21 @@ found c e = sym e ∙ c.locate-located.ensures
 frames : (c : tie.In-Frames-2) → let a = (start c.before.before).args in
     let g = c.located-in-Frames-1.given.0 in
     Known a.tag-1.now a.number g.0 g.1.0 g.1.1.0 g.1.1.1.0
-frames c = let a = (start c.before.before).args in known a.tag-1.now a.number (found c.before.before c.located-in-Frames-1.given.1)
+frames c = let a = (start c.before.before).args in known a.tag-1.now a.number (found c.before.before c.in-Frames.is)
 
 returns : tie.Need-returns-in-Refused
 unfolding removed_of
 returns c =
     let at_locate = c.before.before.before in
     let a = (start at_locate).args in
-    located_refused a.tag-1.now a.number (found at_locate c.before.located-1.given.1) _
+    located_refused a.tag-1.now a.number (found at_locate c.before.in-Refused.is) _
 
 returns_2 : tie.Need-returns-in-Before
 unfolding removed_of
 returns_2 c =
     let at_located = c.before.before.before in
     let a = (start at_located.before.before).args in
-    no_number a.tag-1.now a.number (frames at_located) c.enum_told-1.given.1 _
+    no_number a.tag-1.now a.number (frames at_located) c.in-Before.is _
 
 returns_3 : tie.Need-returns-in-Frame
 returns_3 c =
@@ -43,7 +43,7 @@ returns_3 c =
     let at_aim = at_shift.before.before.before in
     let at_located = at_aim.before.before.before in
     let a = (start at_located.before.before).args in
-    ap {B = Edit} (λ (l : List ℕ). (Edited.Done, l)) at_shift.shift.ensures ∙ removed_found a.tag-1.now a.number (frames at_located) at_aim.aim-1.given.1
+    ap {B = Edit} (λ (l : List ℕ). (Edited.Done, l)) at_shift.shift.ensures ∙ removed_found a.tag-1.now a.number (frames at_located) at_aim.in-Frame.is
 
 pub remove_spec : {M : Type 1} → statement M
 remove_spec =

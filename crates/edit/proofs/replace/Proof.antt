@@ -15,7 +15,7 @@ start c = let known = c.before.before.before in known.before.before.before.befor
 
 -- the numbers that were given are of their types
 fits : (s : tie.Start) → let a = s.args in Fits (content_of a.heading.fields a.name.now a.names.now a.rest.now a.deviations.now)
-fits s = let a = s.args in heading_fits a.name.now a.names.now a.rest.now a.deviations.now a.heading _ s.well-formed.1.1.0
+fits s = let a = s.args in heading_fits a.name.now a.names.now a.rest.now a.deviations.now a.heading _ s.well_formed.1.1.0
 
 -- what was found
 found : (c : tie.After-locate-located) {x : Located} → c.locate-located.result ≡ x → x ≡ located_of (start c).args.tag.now (start c).args.number
@@ -24,21 +24,21 @@ found c e = sym e ∙ c.locate-located.ensures
 frames : (c : tie.In-Frames-2) → let a = (start c.before.before).args in
     let g = c.located-in-Frames-1.given.0 in
     Known a.tag.now a.number g.0 g.1.0 g.1.1.0 g.1.1.1.0
-frames c = let a = (start c.before.before).args in known a.tag.now a.number (found c.before.before c.located-in-Frames-1.given.1)
+frames c = let a = (start c.before.before).args in known a.tag.now a.number (found c.before.before c.in-Frames.is)
 
 returns : tie.Need-returns-in-Refused
 unfolding replaced_of
 returns c =
     let at_locate = c.before.before.before in
     let a = (start at_locate).args in
-    (located_refused a.tag.now a.number (found at_locate c.before.located-1.given.1) _, fits (start at_locate))
+    (located_refused a.tag.now a.number (found at_locate c.before.in-Refused.is) _, fits (start at_locate))
 
 returns_2 : tie.Need-returns-in-Before
 unfolding replaced_of
 returns_2 c =
     let at_located = c.before.before.before in
     let a = (start at_located.before.before).args in
-    (no_number a.tag.now a.number (frames at_located) c.enum_told-1.given.1 _, fits (start at_located.before.before))
+    (no_number a.tag.now a.number (frames at_located) c.in-Before.is _, fits (start at_located.before.before))
 
 returns_3 : tie.Need-returns-in-Frame
 returns_3 c =
@@ -46,7 +46,7 @@ returns_3 c =
     let at_aim = at_put.before.before.before in
     let at_located = at_aim.before.before.before in
     let a = (start at_located.before.before).args in
-    (at_put.put_between.ensures ∙ replaced_found a.tag.now a.number (frames at_located) at_aim.aim-1.given.1 _, fits (start at_located.before.before))
+    (at_put.put_between.ensures ∙ replaced_found a.tag.now a.number (frames at_located) at_aim.in-Frame.is _, fits (start at_located.before.before))
 
 pub replace_spec : {M : Type 1} → statement M
 replace_spec =

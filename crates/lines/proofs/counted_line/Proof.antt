@@ -17,20 +17,20 @@ put_counted_requires_2 c κs =
     let f = c.before.before in
     let k1 = f.before.before.before in
     let s = k1.before.before.before.before in
-    has _ _ s.args.out.now k1.put_counted-len.ensures f.fits2.ensures c.before.if-fits.true s.well-formed.0.0
+    has _ _ s.args.out.now k1.put_counted-len.ensures f.fits.ensures c.before.if-fits.true s.well_formed.0.0
 
 returns : tie.Need-returns-then-fits
 returns c =
     let k2 = c.before.before in
     let f = k2.before.before.before in
     let k1 = f.before.before.before in
-    whole _ _ _ k1.put_counted-len.ensures f.fits2.ensures c.before.before.before.before.if-fits.true k2.put_counted.ensures
+    whole _ _ _ k1.put_counted-len.ensures f.fits.ensures c.before.before.before.before.if-fits.true k2.put_counted.ensures
 
 returns_2 : tie.Need-returns-else-fits
 returns_2 c =
     let f = c.before in
     let k1 = f.before.before.before in
-    full _ _ _ k1.put_counted-len.ensures f.fits2.ensures c.if-fits.false
+    full _ _ _ k1.put_counted-len.ensures f.fits.ensures c.if-fits.false
 
 pub counted_line_spec : {M : Type 1} → statement M
 counted_line_spec =

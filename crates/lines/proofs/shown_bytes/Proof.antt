@@ -7,10 +7,10 @@ use Rattle.lines.proofs.shown_bytes.Statement.{statement}
 use Rattle.lines.proofs.shown_bytes.Tie as tie
 
 returns : tie.Need-returns-in-Popularimeter
-returns c = rw c.enum_told-1.given.1
+returns c = rw c.in-Popularimeter.is
 
 returns_2 : tie.Need-returns-in_default
-returns_2 c = let a = c.before.args in (no_detail a.fields c.in_default.keys2 (length a.user.now) []).0
+returns_2 c = let a = c.before.args in (no_detail a.fields c.in_default.in_default-own.keys2 (length a.user.now) []).0
 
 pub shown_bytes_spec : {M : Type 1} → statement M
 shown_bytes_spec = tie.close (tie.spec (λ c. search rules) returns returns_2)

@@ -23,7 +23,7 @@ put_tag_requires_2 c κs =
     let f = c.before.before in
     let k1 = f.before.before.before in
     let s = k1.before.before.before in
-    has (line s) s.args.at s.args.out.now k1.put_tag-len.ensures f.fits2.ensures c.before.if-fits.true s.well-formed.0.0
+    has (line s) s.args.at s.args.out.now k1.put_tag-len.ensures f.fits.ensures c.before.if-fits.true s.well_formed.0.0
 
 returns : tie.Need-returns-then-fits
 returns c =
@@ -31,14 +31,14 @@ returns c =
     let f = k2.before.before.before in
     let k1 = f.before.before.before in
     let s = k1.before.before.before in
-    whole (line s) s.args.at s.args.out.now k1.put_tag-len.ensures f.fits2.ensures c.before.before.before.before.if-fits.true k2.put_tag.ensures
+    whole (line s) s.args.at s.args.out.now k1.put_tag-len.ensures f.fits.ensures c.before.before.before.before.if-fits.true k2.put_tag.ensures
 
 returns_2 : tie.Need-returns-else-fits
 returns_2 c =
     let f = c.before in
     let k1 = f.before.before.before in
     let s = k1.before.before.before in
-    full (line s) s.args.at s.args.out.now k1.put_tag-len.ensures f.fits2.ensures c.if-fits.false
+    full (line s) s.args.at s.args.out.now k1.put_tag-len.ensures f.fits.ensures c.if-fits.false
 
 pub tag_line_spec : {M : Type 1} → statement M
 tag_line_spec =

@@ -36,7 +36,7 @@ returns c =
     let at_out = c.before.before.before.before in
     let at_put_step = at_out.before.before.before in
     let at_loop_test = at_put_step.before.before.before in
-    last at_loop_test.before.loop-number.invariant at_loop_test.loop-number-test.true at_put_step.put_step.ensures c.before.placed-1.given.1
+    last at_loop_test.before.loop-number.invariant at_loop_test.loop-number-test.true at_put_step.put_step.ensures c.before.in-Done.is
 
 loop_again : tie.Need-loop-number-preserved invariant_loop decreases_loop
 loop_again c =
@@ -44,7 +44,7 @@ loop_again c =
     let at_put_step = at_out.before.before.before in
     let at_loop_test = at_put_step.before.before.before in
     let p = at_put_step.put_step in
-    again at_loop_test.before.loop-number.invariant at_loop_test.loop-number-test.true p.ensures p.auto.0 p.auto.1.0 c.before.next-1.given.1
+    again at_loop_test.before.loop-number.invariant at_loop_test.loop-number-test.true p.ensures p.auto.0 p.auto.1.0 c.before.in-On.is
 
 same_length_3 : tie.Need-shape_of-work invariant_loop decreases_loop
 same_length_3 c = c.before.loop-number.invariant.works

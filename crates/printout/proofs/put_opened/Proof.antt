@@ -12,7 +12,7 @@ returns c =
     let at_known = at_open.before.before.before.before in
     let at_start = at_known.before in
     let a = at_start.args in
-    ready a.tag.now a.work.now a.at a.out.now at_open.«open».ensures at_start.requires at_r.r-1.given.1 at_put_frames.put_frames.ensures
+    ready a.tag.now a.work.now a.at a.out.now at_open.«open».ensures at_start.requires at_r.in-Ready.is at_put_frames.put_frames.ensures
 
 returns_2 : tie.Need-returns-in-Refused
 returns_2 c =
@@ -21,7 +21,7 @@ returns_2 c =
     let at_open = at_k.before.before.before.before in
     let at_known = at_open.before.before.before.before in
     let a = at_known.before.args in
-    not_opened a.tag.now a.work.now a.at a.out.now at_open.«open».ensures at_k.k-1.given.1 at_refused_line.refused_line.ensures
+    not_opened a.tag.now a.work.now a.at a.out.now at_open.«open».ensures at_k.in-Refused.is at_refused_line.refused_line.ensures
 
 pub put_opened_spec : {M : Type 1} → statement M
 put_opened_spec =

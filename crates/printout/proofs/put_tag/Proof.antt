@@ -22,7 +22,7 @@ returns c =
     let at_known = at_tag_line.before.before.before.before in
     let at_start = at_known.before.before in
     let a = at_start.args in
-    tag_put a.tag.now a.work.now a.out.now (sym at_start.requires) refl at_tag_line.before.version_number.ensures at_tag_line.tag_line.ensures at_at.at-1.given.1 at_put_opened.put_opened.ensures
+    tag_put a.tag.now a.work.now a.out.now (sym at_start.requires) refl at_tag_line.before.version_number.ensures at_tag_line.tag_line.ensures at_at.in-Upto.is at_put_opened.put_opened.ensures
 
 returns_2 : tie.Need-returns-in-Full
 returns_2 c =
@@ -30,7 +30,7 @@ returns_2 c =
     let at_known = at_tag_line.before.before.before.before in
     let at_start = at_known.before.before in
     let a = at_start.args in
-    tag_full a.tag.now a.work.now a.out.now (sym at_start.requires) refl at_tag_line.before.version_number.ensures at_tag_line.tag_line.ensures c.enum_told-1.given.1
+    tag_full a.tag.now a.work.now a.out.now (sym at_start.requires) refl at_tag_line.before.version_number.ensures at_tag_line.tag_line.ensures c.in-Full.is
 
 pub put_tag_spec : {M : Type 1} → statement M
 put_tag_spec =

@@ -17,7 +17,7 @@ returns c =
     let at_seek = c.before.before.before in
     let a = at_seek.before.before.before.before.args in
     sym (raised_sought a.tag.now a.user.now a.amount
-    ∙ ap (λ (x : Sought). raised_by x a.amount a.tag.now) (sym (sought at_seek c.before.sought-1.given.1)))
+    ∙ ap (λ (x : Sought). raised_by x a.amount a.tag.now) (sym (sought at_seek c.before.in-Refused.is)))
 
 returns_2 : tie.Need-returns-in-Counter
 returns_2 c =
@@ -27,7 +27,7 @@ returns_2 c =
     let a = at_seek.before.before.before.before.args in
     at_raised.raise_at.ensures
     ∙ sym (raised_sought a.tag.now a.user.now a.amount
-    ∙ ap (λ (x : Sought). raised_by x a.amount a.tag.now) (sym (sought at_seek at_sought.sought-in-Counter-1.given.1)))
+    ∙ ap (λ (x : Sought). raised_by x a.amount a.tag.now) (sym (sought at_seek at_sought.in-Counter.is)))
 
 pub raise_spec : {M : Type 1} → statement M
 raise_spec =

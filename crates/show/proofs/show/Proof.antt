@@ -14,14 +14,14 @@ at_listed c = let at_lent = c.before.before.before in at_lent.before.before.befo
 slice_reshare_prefix_write_all : tie.Need-slice_bounds-write_all-end
 slice_reshare_prefix_write_all c =
     let at_upto = c.before in
-    lines_within _ _ _ (at_listed at_upto).list.ensures at_upto.n-1.given.1
+    lines_within _ _ _ (at_listed at_upto).list.ensures at_upto.in-Upto.is
 
 slice_aggregate_write_all : tie.Need-slice_bounds-write_all-end-in-Upto
 slice_aggregate_write_all c =
     let at_upto = c.before.before in
     let at_list = at_listed at_upto in
-    let h = lines_within _ _ _ at_list.list.ensures at_upto.n-1.given.1 in
-    omega (arith, length-take at_upto.n-1.given.0.0 at_list.list.last.1.0)
+    let h = lines_within _ _ _ at_list.list.ensures at_upto.in-Upto.is in
+    omega (arith, length-take at_upto.in-Upto.n at_list.list.last.1.0)
 
 returns : tie.Need-returns-in-Upto
 returns c =

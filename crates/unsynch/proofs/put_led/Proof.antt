@@ -30,14 +30,14 @@ returns_2 c =
     let at_match = c.before.before in
     let at_put = at_match.before.before.before in
     let a = (start at_put).args in
-    led_refused 20 (whole (start at_put)) a.at a.out.now _ at_put.put_part.new.0 (rw c.before.k-1.given.1 at at_put.put_part.ensures)
+    led_refused 20 (whole (start at_put)) a.at a.out.now _ at_put.put_part.new.0 (rw c.before.in-Refused.is at at_put.put_part.ensures)
 
 add_t16 : tie.Need-overflow_add-result
 add_t16 c =
     let at_match = c.before.before in
     let at_put = at_match.before.before.before in
     let a = (start at_put).args in
-    let led = led_put 20 (whole (start at_put)) a.at a.out.now _ at_put.put_part.new.0 (rw c.before.n-1.given.1 at at_put.put_part.ensures) in
+    let led = led_put 20 (whole (start at_put)) a.at a.out.now _ at_put.put_part.new.0 (rw c.before.in-Bytes.is at at_put.put_part.ensures) in
     omega (arith, led.0, led.1)
 
 returns_3 : tie.Need-returns-in-Bytes
@@ -45,7 +45,7 @@ returns_3 c =
     let at_match = c.before.before in
     let at_put = at_match.before.before.before in
     let a = (start at_put).args in
-    (led_put 20 (whole (start at_put)) a.at a.out.now _ at_put.put_part.new.0 (rw c.before.n-1.given.1 at at_put.put_part.ensures)).2
+    (led_put 20 (whole (start at_put)) a.at a.out.now _ at_put.put_part.new.0 (rw c.before.in-Bytes.is at at_put.put_part.ensures)).2
 
 pub put_led_spec : {M : Type 1} → statement M
 put_led_spec =

@@ -47,7 +47,7 @@ edit_requires c κs =
     let at_end = at_fits.before.before in
     let at_start = start at_end in
     let a = at_start.args in
-    (omega arith, (put_fits a.k (whole at_start) a.at a.buf.now (omega arith) _ (cut at_end) at_fits.fits2.result at_fits.fits2.ensures c.before.if-fits.true, at_start.pre))
+    (omega arith, (put_fits a.k (whole at_start) a.at a.buf.now (omega arith) _ (cut at_end) at_fits.fits.result at_fits.fits.ensures c.before.if-fits.true, at_start.requires))
 
 -- all is stored
 stored_all : (c : tie.After-slice_known-then-fits-1) →
@@ -62,7 +62,7 @@ stored_all c =
     let at_fits = at_edit.before.before.before in
     let at_end = at_fits.before.before in
     let a = (start at_end).args in
-    put_all a.k (whole (start at_end)) a.at a.buf.now (omega arith) _ (cut at_end) at_fits.fits2.result at_fits.fits2.ensures
+    put_all a.k (whole (start at_end)) a.at a.buf.now (omega arith) _ (cut at_end) at_fits.fits.result at_fits.fits.ensures
     at_edit.before.before.if-fits.true at_edit.edit.result at_edit.edit.new.0 at_edit.edit.ensures
 
 sub_t16 : tie.Need-overflow_sub-result
@@ -77,7 +77,7 @@ returns_4 c =
     let at_end = at_fits.before.before in
     let at_start = start at_end in
     let a = at_start.args in
-    put_refused a.k (whole at_start) a.at a.buf.now (omega arith) _ (cut at_end) at_fits.fits2.result at_fits.fits2.ensures c.if-fits.false
+    put_refused a.k (whole at_start) a.at a.buf.now (omega arith) _ (cut at_end) at_fits.fits.result at_fits.fits.ensures c.if-fits.false
 
 pub put_part_spec : {M : Type 1} → statement M
 put_part_spec =

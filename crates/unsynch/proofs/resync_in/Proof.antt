@@ -62,7 +62,7 @@ edit_in_requires c κs =
     let at_how = at_fits.before.before in
     let at_start = start at_how.before in
     let mid = at_how.before.before.before.least-mid in
-    let room = put_fits 14 (whole at_start) mid.result at_start.args.area.now (omega arith) _ (cut at_how) at_fits.fits2.result at_fits.fits2.ensures c.before.if-fits.true in
+    let room = put_fits 14 (whole at_start) mid.result at_start.args.area.now (omega arith) _ (cut at_how) at_fits.fits.result at_fits.fits.ensures c.before.if-fits.true in
     (omega arith, (room, known_resync _ at_how.resync_by-how.ensures))
 
 -- all is stored
@@ -79,7 +79,7 @@ stored_all c =
     let at_how = at_fits.before.before in
     let at_start = start at_how.before in
     let mid = at_how.before.before.before.least-mid in
-    put_all 14 (whole at_start) mid.result at_start.args.area.now (omega arith) _ (cut at_how) at_fits.fits2.result at_fits.fits2.ensures
+    put_all 14 (whole at_start) mid.result at_start.args.area.now (omega arith) _ (cut at_how) at_fits.fits.result at_fits.fits.ensures
     at_edit.before.before.if-fits.true at_edit.edit_in.result at_edit.edit_in.new.0 at_edit.edit_in.ensures
 
 sub_t17 : tie.Need-overflow_sub-result
@@ -97,7 +97,7 @@ returns_3 c =
     let at_how = at_fits.before.before in
     let at_start = start at_how.before in
     let mid = at_how.before.before.before.least-mid in
-    put_refused 14 (whole at_start) mid.result at_start.args.area.now (omega arith) _ (cut at_how) at_fits.fits2.result at_fits.fits2.ensures c.if-fits.false
+    put_refused 14 (whole at_start) mid.result at_start.args.area.now (omega arith) _ (cut at_how) at_fits.fits.result at_fits.fits.ensures c.if-fits.false
     ∙ in_split at_how.before
 
 pub resync_in_spec : {M : Type 1} → statement M

@@ -54,7 +54,7 @@ add_result c =
     let at_how = at_some.before.before in
     let a = at_how.before.before.args in
     let inserts = ap (λ (how : How). how.insert) at_how.unsync_by-how.ensures in
-    omega (arith, longer at_how.unsync_by-how.result inserts false (part at_some), hits_at_most at_how.unsync_by-how.result false (part at_some), length-slice a.from at_some.before.least-end.result a.s.now (omega arith), at_how.before.before.well-formed)
+    omega (arith, longer at_how.unsync_by-how.result inserts false (part at_some), hits_at_most at_how.unsync_by-how.result false (part at_some), length-slice a.from at_some.before.least-end.result a.s.now (omega arith), at_how.before.before.well_formed)
 
 returns_3 : tie.Need-returns
 returns_3 c =

@@ -34,8 +34,8 @@ returns c =
     let at_Added = at_finish.before.before.before.before in
     let at_add = at_Added.before.before.before.before in
     let b = at_add.add-added.new.1.0 in
-    let finishes = answered {C = Writing} (λ (f : Finished) (o : List ℕ). (wrote_as f, (b, o))) at_finished.finished-1.given.1 at_finish.finish-finished.ensures in
-    (finishes ∙ adds at_add at_Added.added-1.given.1, at_add.add-added.ensures.1)
+    let finishes = answered {C = Writing} (λ (f : Finished) (o : List ℕ). (wrote_as f, (b, o))) at_finished.in-Done.is at_finish.finish-finished.ensures in
+    (finishes ∙ adds at_add at_Added.in-Accepted.is, at_add.add-added.ensures.1)
 
 returns_2 : tie.Need-returns-in-Refused-finished
 returns_2 c =
@@ -44,13 +44,13 @@ returns_2 c =
     let at_Added = at_finish.before.before.before.before in
     let at_add = at_Added.before.before.before.before in
     let b = at_add.add-added.new.1.0 in
-    let finishes = answered {C = Writing} (λ (f : Finished) (o : List ℕ). (wrote_as f, (b, o))) at_finished.finished-in-Refused-1.given.1 at_finish.finish-finished.ensures in
-    (finishes ∙ adds at_add at_Added.added-1.given.1, tt)
+    let finishes = answered {C = Writing} (λ (f : Finished) (o : List ℕ). (wrote_as f, (b, o))) at_finished.in-Refused-finished.is at_finish.finish-finished.ensures in
+    (finishes ∙ adds at_add at_Added.in-Accepted.is, tt)
 
 returns_3 : tie.Need-returns-in-Refused
 returns_3 c =
     let at_Added = c.before in
-    (adds at_Added.before.before.before.before at_Added.added-in-Refused-added-1.given.1, tt)
+    (adds at_Added.before.before.before.before at_Added.in-Refused.is, tt)
 
 pub add_one_spec : {M : Type 1} → statement M
 add_one_spec =

@@ -18,7 +18,7 @@ returns c =
     let r = rec_of a.heading a.name.now a.names.now a.rest.now a.deviations.now in
     let adds = at_add_one.add_one.ensures in
     let whole : Begun → Writing = on_begun a.padding r a.buffer.now a.output.now in
-    (◌∙◌ {b = whole (Begun.Ready at_begun.begun-1.given.0.0)} adds.0 (ap whole (sym at_begun.begun-1.given.1 ∙ at_begin.begin-begun.ensures)), adds.1)
+    (◌∙◌ {b = whole (Begun.Ready at_begun.in-Ready.writer)} adds.0 (ap whole (sym at_begun.in-Ready.is ∙ at_begin.begin-begun.ensures)), adds.1)
 
 returns_2 : tie.Need-returns-in-Refused
 unfolding write_of
@@ -27,7 +27,7 @@ returns_2 c =
     let at_bytes = at_begin.before.before.before.before in
     let a = at_bytes.before.before.before.args in
     let r = rec_of a.heading a.name.now a.names.now a.rest.now a.deviations.now in
-    (ap (on_begun a.padding r a.buffer.now a.output.now) (sym c.before.begun-in-Refused-1.given.1 ∙ at_begin.begin-begun.ensures), tt)
+    (ap (on_begun a.padding r a.buffer.now a.output.now) (sym c.before.in-Refused.is ∙ at_begin.begin-begun.ensures), tt)
 
 pub write_one_spec : {M : Type 1} → statement M
 write_one_spec =

@@ -10,19 +10,19 @@ returns c =
     let at_metered = c.before.before in
     let at_moved = at_metered.before.before.before.before in
     let at_found = at_moved.before.before.before in
-    rw (at_found.next-1.given.1, at_moved.store_moved.ensures, at_metered.store_metered.ensures)
+    rw (at_found.in-Found.is, at_moved.store_moved.ensures, at_metered.store_metered.ensures)
 
 returns_2 : tie.Need-returns-in-End
 returns_2 c =
     let at_moved = c.before.before in
     let at_end = at_moved.before.before.before in
-    rw (at_end.next-in-End-1.given.1, at_moved.store_moved-in-End.ensures)
+    rw (at_end.in-End.is, at_moved.store_moved-in-End.ensures)
 
 returns_3 : tie.Need-returns-in-Refused
 returns_3 c =
     let at_moved = c.before.before in
     let at_refused = at_moved.before.before.before in
-    rw (at_refused.next-in-Refused-1.given.1, at_moved.store_moved-in-Refused.ensures)
+    rw (at_refused.in-Refused.is, at_moved.store_moved-in-Refused.ensures)
 
 pub answered_spec : {M : Type 1} → statement M
 answered_spec =

@@ -19,16 +19,16 @@ no_version n h2 h3 h4 = by_bounds (leb 2 n) (leb n 4) refl refl
     by_bounds true true ea eb = let l = leb-true 2 n ea in let h = leb-true n 4 eb in absurd (omega (arith, h2, h3, h4))
 
 returns : tie.Need-returns-in-2
-returns c = rw c.in_default.keys1
+returns c = rw c.in-2.is
 
 returns_2 : tie.Need-returns-in-3
-returns_2 c = rw c.in_default.keys2
+returns_2 c = rw c.in-3.is
 
 returns_3 : tie.Need-returns-in-4
-returns_3 c = rw c.in_default.keys3
+returns_3 c = rw c.in-4.is
 
 returns_4 : tie.Need-returns-in_default
-returns_4 c = rw (no_version c.before.args.n c.in_default.rest.0.0.1 c.in_default.rest.0.1 c.in_default.rest.1)
+returns_4 c = rw (no_version c.before.args.n c.in_default.in_default-own.rest.0.0.1 c.in_default.in_default-own.rest.0.1 c.in_default.in_default-own.rest.1)
 
 pub version_in_spec : {M : Type 1} → statement M
 version_in_spec = tie.close (tie.spec returns returns_2 returns_3 returns_4)

@@ -8,41 +8,41 @@ use Rattle.capi.proofs.records.load_fields.Tie as tie
 
 returns : tie.Need-returns-in-0
 unfolding fields_of
-returns c = rw c.before.before.in_default.keys1 c.text_fields.ensures
+returns c = rw c.before.before.in-0.is c.text_fields.ensures
 
 returns_2 : tie.Need-returns-in-1
 unfolding fields_of
 returns_2 c =
     let at_match = c.before.before.before in
-    rw at_match.in_default.keys2 c.popularimeter_fields.ensures
+    rw at_match.in-1.is c.popularimeter_fields.ensures
 
 returns_3 : tie.Need-returns-in-2
 unfolding fields_of
 returns_3 c =
     let at_three = c.before.before.before in
     let at_match = at_three.before.before.before in
-    rw at_match.in_default.keys3 c.table_fields.ensures
+    rw at_match.in-2.is c.table_fields.ensures
 
 returns_4 : tie.Need-returns-in-3
 unfolding fields_of
 returns_4 c =
     let at_two = c.before.before in
     let at_match = at_two.before.before.before in
-    rw at_match.in_default.keys4 c.chapter_fields.ensures
+    rw at_match.in-3.is c.chapter_fields.ensures
 
 returns_5 : tie.Need-returns-in-4
 unfolding fields_of
 returns_5 c =
     let at_match = c.before.before.before in
-    rw at_match.in_default.keys5 c.contents_fields.ensures
+    rw at_match.in-4.is c.contents_fields.ensures
 
 returns_6 : tie.Need-returns-in-5
 unfolding fields_of
-returns_6 c = rw c.in_default.keys6
+returns_6 c = rw c.in-5.is
 
 returns_7 : tie.Need-returns-in_default
 returns_7 c =
-    let no = c.in_default.rest in
+    let no = c.in_default.in_default-own.rest in
     sym (no_kind _ _ _ _ _ _ no.0.0.0.0.0.1 no.0.0.0.0.1 no.0.0.0.1 no.0.0.1 no.0.1 no.1)
 
 pub load_fields_spec : {M : Type 1} → statement M

@@ -4,24 +4,24 @@ use Rattle.capi.proofs.records.numbers_of.Statement.{statement}
 use Rattle.capi.proofs.records.numbers_of.Tie as tie
 
 returns : tie.Need-returns-in-Text
-returns c = rw c.before.fields-1.given.1
+returns c = rw c.before.in-Text.is
 
 returns_2 : tie.Need-returns-in-Popularimeter
-returns_2 c = rw c.before.fields-in-Popularimeter-1.given.1
+returns_2 c = rw c.before.in-Popularimeter.is
 
 returns_3 : tie.Need-returns-in-Table
-returns_3 c = rw c.before.fields-in-Table-1.given.1
+returns_3 c = rw c.before.in-Table.is
 
 returns_4 : tie.Need-returns-in-Chapter
-returns_4 c = rw c.before.fields-in-Chapter-1.given.1
+returns_4 c = rw c.before.in-Chapter.is
 
 returns_5 : tie.Need-returns-in-Contents
 returns_5 c =
     let at_fields5 = c.before.before.before in
-    rw (at_fields5.fields-in-Contents-1.given.1, c.before.flag.ensures, c.flag-in-Contents.ensures)
+    rw (at_fields5.in-Contents.is, c.before.flag.ensures, c.flag-in-Contents.ensures)
 
 returns_6 : tie.Need-returns-in-Raw
-returns_6 c = rw c.enum_told-1.given.1
+returns_6 c = rw c.in-Raw.is
 
 pub numbers_of_spec : {M : Type 1} → statement M
 numbers_of_spec =

@@ -8,7 +8,7 @@ use Rattle.capi.proofs.words.load_writer.Tie as tie
 
 returns : tie.Need-returns-then-not-is_writer
 unfolding writer_of
-returns c = rw (sym c.before.is_writer.ensures ∙ not-true _ c.if-not-is_writer.true)
+returns c = rw (sym c.before.is_writer.ensures ∙ not-true _ c.if-not-is_writer.true-raw)
 
 returns_2 : tie.Need-returns
 unfolding writer_of
@@ -16,7 +16,7 @@ returns_2 c =
     let at_version_of = c.before.before.before.before in
     let at_if1 = at_version_of.before.before in
     let at_is_writer = at_if1.before in
-    rw (sym at_is_writer.is_writer.ensures ∙ not-false _ at_if1.if-not-is_writer.false, at_version_of.version_of.ensures, c.before.before.mode_of.ensures)
+    rw (sym at_is_writer.is_writer.ensures ∙ not-false _ at_if1.if-not-is_writer.false-raw, at_version_of.version_of.ensures, c.before.before.mode_of.ensures)
 
 pub load_writer_spec : {M : Type 1} → statement M
 load_writer_spec =

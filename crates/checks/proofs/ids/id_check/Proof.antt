@@ -25,7 +25,7 @@ kinds c name names rest deviations =
     let at_is_id = at_if1.before in
     let at_start = at_is_id.before in
     let a = at_start.args in
-    let is = sym at_is_id.is_id.ensures ∙ not-false _ at_if1.if-not-is_id.false in
+    let is = sym at_is_id.is_id.ensures ∙ not-false _ at_if1.if-not-is_id.false-raw in
     let own = at_fields_number.fields_number.ensures name names rest deviations in
     let said = c.before.kind_number.ensures ∙ ap kind_number c.before.before.kind_of.ensures in
     from_kinds a.version a.heading name names rest deviations is _ _ c.kinds_refusal-k.result own said c.kinds_refusal-k.ensures
@@ -33,7 +33,7 @@ kinds c name names rest deviations =
 returns : tie.Need-returns-then-not-is_id
 returns c name names rest deviations =
     let a = c.before.before.args in
-    no_id a.version a.heading name names rest deviations (sym c.before.is_id.ensures ∙ not-true _ c.if-not-is_id.true)
+    no_id a.version a.heading name names rest deviations (sym c.before.is_id.ensures ∙ not-true _ c.if-not-is_id.true-raw)
 
 returns_2 : tie.Need-returns-then-k-ne0
 returns_2 c name names rest deviations = sym (kinds c.before name names rest deviations ∙ refused _ _ c.if-k-ne0.true)

@@ -5,28 +5,28 @@ use Rattle.checks.proofs.ids.is_lost.Statement.{statement}
 use Rattle.checks.proofs.ids.is_lost.Tie as tie
 
 returns : tie.Need-returns-then-not-altered
-returns c = rw (not-true c.before.args.altered c.if-not-altered.true)
+returns c = rw (not-true c.before.args.altered c.if-not-altered.true-raw)
 
 returns_2 : tie.Need-returns-in-Id3v22
 returns_2 c =
     let at_if1 = c.before.before.before.before in
     let at_start = at_if1.before in
-    let altered = not-false at_start.args.altered at_if1.if-not-altered.false in
-    rw (altered, c.before.before.enum_told-1.given.1) c.is_among.ensures
+    let altered = not-false at_start.args.altered at_if1.if-not-altered.false-raw in
+    rw (altered, c.before.before.in-Id3v22.is) c.is_among.ensures
 
 returns_3 : tie.Need-returns-in-Id3v23
 returns_3 c =
     let at_if1 = c.before.before.before.before in
     let at_start = at_if1.before in
-    let altered = not-false at_start.args.altered at_if1.if-not-altered.false in
-    rw (altered, c.before.before.enum_told-in-Id3v23-1.given.1) c.is_among-in-Id3v23.ensures
+    let altered = not-false at_start.args.altered at_if1.if-not-altered.false-raw in
+    rw (altered, c.before.before.in-Id3v23.is) c.is_among-in-Id3v23.ensures
 
 returns_4 : tie.Need-returns-in-Id3v24
 returns_4 c =
     let at_if1 = c.before.before.before.before in
     let at_start = at_if1.before in
-    let altered = not-false at_start.args.altered at_if1.if-not-altered.false in
-    rw (altered, c.before.before.enum_told-in-Id3v24-1.given.1) c.is_among-in-Id3v24.ensures
+    let altered = not-false at_start.args.altered at_if1.if-not-altered.false-raw in
+    rw (altered, c.before.before.in-Id3v24.is) c.is_among-in-Id3v24.ensures
 
 pub is_lost_spec : {M : Type 1} → statement M
 is_lost_spec =

@@ -8,27 +8,27 @@ use Rattle.checks.proofs.record.late_check.Tie as tie
 
 returns : tie.Need-returns-in-Text
 unfolding first
-returns c name names = rw c.before.before.fields-1.given.1 (c.text_check.ensures ∙ sym (only _))
+returns c name names = rw c.before.before.in-Text.is (c.text_check.ensures ∙ sym (only _))
 
 returns_2 : tie.Need-returns-in-Popularimeter
 unfolding first
-returns_2 c name names = rw c.enum_told-1.given.1
+returns_2 c name names = rw c.in-Popularimeter.is
 
 returns_3 : tie.Need-returns-in-Table
 unfolding first
-returns_3 c name names = rw c.before.before.fields-in-Table-1.given.1 c.table_check.ensures
+returns_3 c name names = rw c.before.before.in-Table.is c.table_check.ensures
 
 returns_4 : tie.Need-returns-in-Chapter
 unfolding first
-returns_4 c name names = rw c.before.enum_told-in-Chapter-1.given.1 (c.run_check.ensures ∙ sym (only _))
+returns_4 c name names = rw c.before.in-Chapter.is (c.run_check.ensures ∙ sym (only _))
 
 returns_5 : tie.Need-returns-in-Contents
 unfolding first
-returns_5 c name names = rw c.before.enum_told-in-Contents-1.given.1 (c.run_check-in-Contents.ensures ∙ sym (only _))
+returns_5 c name names = rw c.before.in-Contents.is (c.run_check-in-Contents.ensures ∙ sym (only _))
 
 returns_6 : tie.Need-returns-in-Raw
 unfolding first
-returns_6 c name names = rw c.enum_told-in-Raw-1.given.1
+returns_6 c name names = rw c.in-Raw.is
 
 pub late_check_spec : {M : Type 1} → statement M
 late_check_spec =

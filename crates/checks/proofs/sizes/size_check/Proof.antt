@@ -6,15 +6,15 @@ use Rattle.checks.proofs.sizes.size_check.Tie as tie
 
 returns : tie.Need-returns-in-Id3v22
 unfolding size_refusal
-returns c = rw c.before.enum_told-1.given.1 c.short_size_check.ensures
+returns c = rw c.before.in-Id3v22.is c.short_size_check.ensures
 
 returns_2 : tie.Need-returns-in-Id3v23
 unfolding size_refusal
-returns_2 c = rw c.before.enum_told-in-Id3v23-1.given.1 c.long_size_check.ensures
+returns_2 c = rw c.before.in-Id3v23.is c.long_size_check.ensures
 
 returns_3 : tie.Need-returns-in-Id3v24
 unfolding size_refusal
-returns_3 c = rw c.before.enum_told-in-Id3v24-1.given.1 c.long_size_check-in-Id3v24.ensures
+returns_3 c = rw c.before.in-Id3v24.is c.long_size_check-in-Id3v24.ensures
 
 pub size_check_spec : {M : Type 1} → statement M
 size_check_spec =

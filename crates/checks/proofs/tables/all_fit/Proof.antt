@@ -26,7 +26,7 @@ returns c =
     let at_start = at_loop.before.before in
     let ds = at_start.args.deviations.now in
     let L = at_loop.loop-i in
-    sym (one_over ds L.i L.a L.b at_loop_test.loop-i-test.true (sym c.before.fits2.ensures ∙ not-true _ c.if-not-fits.true)) ∙ L.invariant.1
+    sym (one_over ds L.i L.a L.b at_loop_test.loop-i-test.true (sym c.before.fits.ensures ∙ not-true _ c.if-not-fits.true-raw)) ∙ L.invariant.1
 
 loop_again : tie.Need-loop-i-preserved invariant_loop decreases_loop
 loop_again c =
@@ -35,7 +35,7 @@ loop_again c =
     let at_start = at_loop.before.before in
     let ds = at_start.args.deviations.now in
     let L = at_loop.loop-i in
-    (omega arith, sym (one_fits ds L.i L.a L.b at_loop_test.loop-i-test.true (sym c.before.fits2.ensures ∙ not-false _ c.if-not-fits.false)) ∙ L.invariant.1)
+    (omega arith, sym (one_fits ds L.i L.a L.b at_loop_test.loop-i-test.true (sym c.before.fits.ensures ∙ not-false _ c.if-not-fits.false-raw)) ∙ L.invariant.1)
 
 returns_2 : tie.Need-returns invariant_loop decreases_loop
 returns_2 c =

@@ -16,10 +16,10 @@ even : (c : tie.Else-deviations-ne0) → eqb (length c.before.before.args.deviat
 even c = eq-eqb _ _ c.if-deviations-ne0.false
 
 fitting : (c : tie.Else-not-all_fit) → let a = c.before.before.before.before.args in (eqb (length a.deviations.now % 2) 0 && fit a.v a.w a.deviations.now) ≡ true
-fitting c = rw (even c.before.before) (sym c.before.all_fit.ensures ∙ not-false _ c.if-not-all_fit.false)
+fitting c = rw (even c.before.before) (sym c.before.all_fit.ensures ∙ not-false _ c.if-not-all_fit.false-raw)
 
 short : (c : tie.Else-not-fits) → let at_fitting = c.before.before in let a = at_fitting.before.before.before.before.args in ltb a.bytes (2 ^ 24) ≡ true
-short c = sym c.before.fits-2.ensures ∙ not-false _ c.if-not-fits.false
+short c = sym c.before.fits-2.ensures ∙ not-false _ c.if-not-fits.false-raw
 
 returns : tie.Need-returns-then-deviations-ne0
 unfolding first
@@ -28,20 +28,20 @@ returns c = rw (ne_eqb _ _ c.if-deviations-ne0.true)
 returns_2 : tie.Need-returns-then-not-all_fit
 unfolding first
 returns_2 c =
-    let over = sym c.before.all_fit.ensures ∙ not-true _ c.if-not-all_fit.true in
+    let over = sym c.before.all_fit.ensures ∙ not-true _ c.if-not-all_fit.true-raw in
     rw (even c.before.before, over)
 
 returns_3 : tie.Need-returns-then-not-fits
 unfolding first
 returns_3 c =
-    let over = sym c.before.fits-2.ensures ∙ not-true _ c.if-not-fits.true in
+    let over = sym c.before.fits-2.ensures ∙ not-true _ c.if-not-fits.true-raw in
     rw (fitting c.before.before, over)
 
 returns_4 : tie.Need-returns-then-not-fits-2
 unfolding first
 returns_4 c =
     let at_fits2 = c.before.before.before in
-    let over = sym c.before.fits3.ensures ∙ not-true _ c.if-not-fits-2.true in
+    let over = sym c.before.fits.ensures ∙ not-true _ c.if-not-fits-2.true-raw in
     rw (fitting at_fits2.before, short c.before.before, over)
 
 returns_5 : tie.Need-returns
@@ -49,7 +49,7 @@ unfolding first
 returns_5 c =
     let at_brief = c.before in
     let at_short = at_brief.before.before in
-    let brief = sym at_brief.before.fits3.ensures ∙ not-false _ at_brief.if-not-fits-2.false in
+    let brief = sym at_brief.before.fits.ensures ∙ not-false _ at_brief.if-not-fits-2.false-raw in
     rw (fitting at_short.before.before, short at_short, brief) (c.odd_check.ensures ∙ sym (only _))
 
 pub deviations_check_spec : {M : Type 1} → statement M

@@ -19,10 +19,10 @@ returns c =
     let at_raised = c.before.before in
     let at_raise = at_raised.before.before.before.before in
     let a = (start at_raise).args in
-    lift_refused a.begin a.start a.stop a.counter a.last a.user.now a.amount a.tag-1.now at_raise.raise_at-raised.ensures at_raised.raised-in-Refused-1.given.1 c.if-k-ne-COUNTER_TOO_SHORT.true
+    lift_refused a.begin a.start a.stop a.counter a.last a.user.now a.amount a.tag-1.now at_raise.raise_at-raised.ensures at_raised.in-Refused.is c.if-k-ne-COUNTER_TOO_SHORT.true
 
 short : (c : tie.Else-k-ne-COUNTER_TOO_SHORT) → (raised c).raise-at.result ≡ Raised.Refused 44
-short c = c.before.before.raised-in-Refused-1.given.1 ∙ ap Raised.Refused c.if-k-ne-COUNTER_TOO_SHORT.false
+short c = c.before.before.in-Refused.is ∙ ap Raised.Refused c.if-k-ne-COUNTER_TOO_SHORT.false
 
 add_outgrow : tie.Need-overflow_add-counter
 add_outgrow c =
@@ -37,7 +37,7 @@ returns_2 c =
     let at_raised = c.before in
     let at_raise = at_raised.before.before.before.before in
     let a = (start at_raise).args in
-    lift_counts a.begin a.start a.stop a.counter a.last a.user.now a.amount a.tag-1.now at_raise.raise_at-raised.ensures at_raised.raised-1.given.1
+    lift_counts a.begin a.start a.stop a.counter a.last a.user.now a.amount a.tag-1.now at_raise.raise_at-raised.ensures at_raised.in-Counts.is
 
 returns_3 : tie.Need-returns-else-k-ne-COUNTER_TOO_SHORT
 returns_3 c =

@@ -9,7 +9,7 @@ returns : tie.Need-returns-in-Refused
 returns c =
     let at_frames = c.before.before.before in
     let a = at_frames.before.before.before.before.args in
-    grow_refused a.begin a.start a.stop a.last a.user.now a.counter a.tag.now at_frames.frames-framed.ensures c.before.framed-1.given.1
+    grow_refused a.begin a.start a.stop a.last a.user.now a.counter a.tag.now at_frames.frames-framed.ensures c.before.in-Refused.is
 
 returns_2 : tie.Need-returns-in-Frames
 returns_2 c =
@@ -19,7 +19,7 @@ returns_2 c =
     let at_frames = at_framed.before.before in
     let a = at_frames.before.before.before.before.args in
     at_recount.recount.ensures
-    ∙ grow_put a.begin a.start a.stop a.last a.user.now a.counter a.tag.now at_frames.frames-framed.ensures at_framed.framed-in-Frames-1.given.1 at_byte.byte_before-rating.ensures
+    ∙ grow_put a.begin a.start a.stop a.last a.user.now a.counter a.tag.now at_frames.frames-framed.ensures at_framed.in-Frames.is at_byte.byte_before-rating.ensures
 
 pub outgrow_spec : {M : Type 1} → statement M
 outgrow_spec =

@@ -27,13 +27,13 @@ placed c =
 returns : tie.Need-returns-in-Done
 returns c =
     let at_put = c.before.before.before.before in
-    put_done (start at_put).args.counter (placed at_put) c.enum_told-1.given.1
+    put_done (start at_put).args.counter (placed at_put) c.in-Done.is
 
 returns_2 : tie.Need-returns-in-Refused
 returns_2 c =
     let at_edited = c.before in
     let at_put = at_edited.before.before.before.before in
-    put_refused (start at_put).args.counter (placed at_put) at_edited.edited-1.given.1
+    put_refused (start at_put).args.counter (placed at_put) at_edited.in-Refused.is
 
 pub recount_spec : {M : Type 1} → statement M
 recount_spec =

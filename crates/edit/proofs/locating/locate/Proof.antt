@@ -12,10 +12,10 @@ told : (c : tie.After-scan-scanned) {x : Scanned} → c.scan-scanned.result ≡ 
 told c e = let a = c.before.before.before.args in located_scanned a.tag.now _ a.number (sym e ∙ c.scan-scanned.ensures)
 
 returns : tie.Need-returns-in-Refused
-returns c = told c.before.before.before c.before.scanned-1.given.1
+returns c = told c.before.before.before c.before.in-Refused.is
 
 returns_2 : tie.Need-returns-in-Frames
-returns_2 c = told c.before.before.before c.before.scanned-in-Frames-1.given.1
+returns_2 c = told c.before.before.before c.before.in-Frames.is
 
 pub locate_spec : {M : Type 1} → statement M
 locate_spec =

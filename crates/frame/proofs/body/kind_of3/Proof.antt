@@ -10,16 +10,16 @@ returns : tie.Need-returns-then-is_text
 returns c = rw (sym c.before.is_text.ensures ∙ c.if-is_text.true)
 
 returns_2 : tie.Need-returns-in-5263184
-returns_2 c = rw c.in_default.keys1
+returns_2 c = rw c.in-5263184.is
 
 returns_3 : tie.Need-returns-in-5065804
-returns_3 c = rw c.in_default.keys2
+returns_3 c = rw c.in-5065804.is
 
 returns_4 : tie.Need-returns-in_default
 returns_4 c =
     let at_start = c.before.before.before in
     let id = at_start.args.id in
-    let no = c.in_default.rest in
+    let no = c.in_default.in_default-own.rest in
     rw (
       sym c.before.before.is_text.ensures ∙ c.before.if-is_text.false,
       ne_eqb id (named "POP") no.0.1,

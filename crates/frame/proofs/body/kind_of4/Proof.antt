@@ -10,22 +10,22 @@ returns : tie.Need-returns-then-is_text
 returns c = rw (sym c.before.is_text.ensures ∙ c.if-is_text.true)
 
 returns_2 : tie.Need-returns-in-1347375181
-returns_2 c = rw c.in_default.keys1
+returns_2 c = rw c.in-1347375181.is
 
 returns_3 : tie.Need-returns-in-1296845908
-returns_3 c = rw c.in_default.keys2
+returns_3 c = rw c.in-1296845908.is
 
 returns_4 : tie.Need-returns-in-1128808784
-returns_4 c = rw c.in_default.keys3
+returns_4 c = rw c.in-1128808784.is
 
 returns_5 : tie.Need-returns-in-1129598787
-returns_5 c = rw c.in_default.keys4
+returns_5 c = rw c.in-1129598787.is
 
 returns_6 : tie.Need-returns-in_default
 returns_6 c =
     let at_start = c.before.before.before in
     let id = at_start.args.id in
-    let no = c.in_default.rest in
+    let no = c.in_default.in_default-own.rest in
     rw (
       sym c.before.before.is_text.ensures ∙ c.before.if-is_text.false,
       ne_eqb id (named "POPM") no.0.0.0.1,

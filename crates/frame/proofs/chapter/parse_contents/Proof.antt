@@ -39,7 +39,7 @@ returns_2 c v =
     let b = at_part.part-b in
     let z = at_zero_at.zero_at-len in
     let names = at_part2.part in
-    let missing = names_cut _ _ (sym c.enum_told-1.given.1 ∙ c.before.before.names_len.ensures) in
+    let missing = names_cut _ _ (sym c.in_default.is ∙ c.before.before.names_len.ensures) in
     refused v Kind.Contents a.from b.result.now _ b.ensures 10
     (contents_missing b.result.now z.result z.ensures names.result.now names.ensures at_if1.if-b-at.false missing)
 
@@ -58,10 +58,10 @@ module _ (c : tie.In-Whole) where
   names = c.before.before.before.before.part.result.now
 
   abbrev n : ℕ
-  n = c.before.n-1.given.0.0
+  n = c.before.in-Whole.n
 
   answer : (leb (get_or b (len + 2) 0) (zeros_in names) ≡ true) × (n ≡ names_len (get_or b (len + 2) 0) names)
-  answer = names_whole (get_or b (len + 2) 0) names n (sym c.before.n-1.given.1 ∙ c.before.before.before.names_len.ensures)
+  answer = names_whole (get_or b (len + 2) 0) names n (sym c.before.in-Whole.is ∙ c.before.before.before.names_len.ensures)
 
   within : len + 3 + n ≤ length b
   within =

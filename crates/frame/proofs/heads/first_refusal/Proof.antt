@@ -18,11 +18,11 @@ is_id_3_requires c κs =
 
 id_refusal_requires : tie.Need-id_refusal-requires
 id_refusal_requires c κs =
-    let at_start = c.before.before.before.before in rw c.enum_told-in-Id3v23-1.given.1 at at_start.requires
+    let at_start = c.before.before.before.before in rw c.in-Id3v23.is at at_start.requires
 
 id_refusal_requires_2 : tie.Need-id_refusal-requires-in-Id3v24
 id_refusal_requires_2 c κs =
-    let at_start = c.before.before.before.before in rw c.enum_told-in-Id3v24-1.given.1 at at_start.requires
+    let at_start = c.before.before.before.before in rw c.in-Id3v24.is at at_start.requires
 
 returns_2 : tie.Need-returns-then-is_id_3
 unfolding first
@@ -30,7 +30,7 @@ returns_2 c =
     let at_match = c.before.before in
     let a = at_match.before.before.before.before.args in
     let utf8 = sym c.before.is_id_3.ensures ∙ c.if-is_id_3.true in
-    rw (at_match.enum_told-1.given.1, le-ltb 8 a.depth at_match.before.before.if-depth-gt-DEEPEST.false, utf8)
+    rw (at_match.in-Id3v22.is, le-ltb 8 a.depth at_match.before.before.if-depth-gt-DEEPEST.false, utf8)
 
 returns_3 : tie.Need-returns-else-is_id_3
 unfolding first
@@ -38,19 +38,19 @@ returns_3 c =
     let at_match = c.before.before in
     let a = at_match.before.before.before.before.args in
     let utf8 = sym c.before.is_id_3.ensures ∙ c.if-is_id_3.false in
-    rw (at_match.enum_told-1.given.1, le-ltb 8 a.depth at_match.before.before.if-depth-gt-DEEPEST.false, utf8)
+    rw (at_match.in-Id3v22.is, le-ltb 8 a.depth at_match.before.before.if-depth-gt-DEEPEST.false, utf8)
 
 returns_4 : tie.Need-returns-in-Id3v23
 returns_4 c =
     let at_match = c.before in
     let a = at_match.before.before.before.before.args in
-    rw at_match.enum_told-in-Id3v23-1.given.1 (c.id_refusal.ensures ∙ not_deep Id3v23 a.depth a.b.now at_match.before.before.if-depth-gt-DEEPEST.false)
+    rw at_match.in-Id3v23.is (c.id_refusal.ensures ∙ not_deep Id3v23 a.depth a.b.now at_match.before.before.if-depth-gt-DEEPEST.false)
 
 returns_5 : tie.Need-returns-in-Id3v24
 returns_5 c =
     let at_match = c.before in
     let a = at_match.before.before.before.before.args in
-    rw at_match.enum_told-in-Id3v24-1.given.1 (c.id_refusal-in-Id3v24.ensures ∙ not_deep Id3v24 a.depth a.b.now at_match.before.before.if-depth-gt-DEEPEST.false)
+    rw at_match.in-Id3v24.is (c.id_refusal-in-Id3v24.ensures ∙ not_deep Id3v24 a.depth a.b.now at_match.before.before.if-depth-gt-DEEPEST.false)
 
 pub first_refusal_spec : {M : Type 1} → statement M
 first_refusal_spec =

@@ -8,13 +8,13 @@ use Rattle.frame.proofs.heads.id_refusal.Tie as tie
 
 returns : tie.Need-returns-then-not-is_id_4
 unfolding first
-returns c = rw (sym c.before.is_id_4.ensures ∙ not-true _ c.if-not-is_id_4.true)
+returns c = rw (sym c.before.is_id_4.ensures ∙ not-true _ c.if-not-is_id_4.true-raw)
 
 returns_2 : tie.Need-returns-then-has
 unfolding first
 returns_2 c =
     let at_id = c.before.before.before in
-    rw (sym at_id.before.is_id_4.ensures ∙ not-false _ at_id.if-not-is_id_4.false, sym c.before.has.ensures ∙ c.if-has.true)
+    rw (sym at_id.before.is_id_4.ensures ∙ not-false _ at_id.if-not-is_id_4.false-raw, sym c.before.has.ensures ∙ c.if-has.true)
 
 returns_3 : tie.Need-returns-then-has-2
 unfolding first
@@ -22,7 +22,7 @@ returns_3 c =
     let at_encrypted = c.before.before.before in
     let at_id = at_encrypted.before.before.before in
     rw (
-      sym at_id.before.is_id_4.ensures ∙ not-false _ at_id.if-not-is_id_4.false,
+      sym at_id.before.is_id_4.ensures ∙ not-false _ at_id.if-not-is_id_4.false-raw,
       sym at_encrypted.before.has.ensures ∙ at_encrypted.if-has.false,
       sym c.before.has-2.ensures ∙ c.if-has-2.true,
     )
@@ -33,7 +33,7 @@ returns_4 c =
     let at_encrypted = c.before.before.before in
     let at_id = at_encrypted.before.before.before in
     rw (
-      sym at_id.before.is_id_4.ensures ∙ not-false _ at_id.if-not-is_id_4.false,
+      sym at_id.before.is_id_4.ensures ∙ not-false _ at_id.if-not-is_id_4.false-raw,
       sym at_encrypted.before.has.ensures ∙ at_encrypted.if-has.false,
       sym c.before.has-2.ensures ∙ c.if-has-2.false,
     )

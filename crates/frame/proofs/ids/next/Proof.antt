@@ -6,7 +6,7 @@ use Rattle.frame.proofs.ids.next.Statement.{statement}
 use Rattle.frame.proofs.ids.next.Tie as tie
 
 returns : tie.Need-returns-in_default
-returns c s = rw c.enum_told-1.given.1
+returns c s = rw c.in_default.is
 
 returns_2 : tie.Need-returns-then-count-eq0
 returns_2 c s =

@@ -31,7 +31,7 @@ returns c =
     let L = at_loop.loop-i in
     let z = c.before.zero_pair in
     let p = at_loop_test.loop-i-test.true in
-    sym (closing_pairs_kept L.i s p L.invariant.1 L.invariant.0 L.invariant.3 (sym (not-true _ c.if-not-zero_pair.true) ∙ z.ensures))
+    sym (closing_pairs_kept L.i s p L.invariant.1 L.invariant.0 L.invariant.3 (sym (not-true _ c.if-not-zero_pair.true-raw) ∙ z.ensures))
 
 loop_again : tie.Need-loop-i-preserved invariant_loop decreases_loop
 loop_again c =
@@ -44,7 +44,7 @@ loop_again c =
       omega arith,
       omega arith,
       omega arith,
-      pairs_zero L.i s (omega arith) L.invariant.0 L.invariant.3 (sym (not-false _ c.if-not-zero_pair.false) ∙ z.ensures),
+      pairs_zero L.i s (omega arith) L.invariant.0 L.invariant.3 (sym (not-false _ c.if-not-zero_pair.false-raw) ∙ z.ensures),
     )
 
 returns_2 : tie.Need-returns invariant_loop decreases_loop

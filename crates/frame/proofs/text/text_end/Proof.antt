@@ -9,7 +9,7 @@ returns c =
     let at_part = at_is_paired.before in
     let text = at_part.part-text.ensures in
     let paired = at_is_paired.is_paired-paired.ensures in
-    rw (c.before.enum_told-1.given.1, ← text, ← paired) c.first_end.ensures
+    rw (c.before.in-Id3v22.is, ← text, ← paired) c.first_end.ensures
 
 returns_2 : tie.Need-returns-in-Id3v23
 returns_2 c =
@@ -17,7 +17,7 @@ returns_2 c =
     let at_part = at_is_paired.before in
     let text = at_part.part-text.ensures in
     let paired = at_is_paired.is_paired-paired.ensures in
-    rw (c.before.enum_told-in-Id3v23-1.given.1, ← text, ← paired) c.first_end-in-Id3v23.ensures
+    rw (c.before.in-Id3v23.is, ← text, ← paired) c.first_end-in-Id3v23.ensures
 
 returns_3 : tie.Need-returns-in-Id3v24
 returns_3 c =
@@ -25,7 +25,7 @@ returns_3 c =
     let at_part = at_is_paired.before in
     let text = at_part.part-text.ensures in
     let paired = at_is_paired.is_paired-paired.ensures in
-    rw (c.before.enum_told-in-Id3v24-1.given.1, ← text, ← paired) c.closing_end.ensures
+    rw (c.before.in-Id3v24.is, ← text, ← paired) c.closing_end.ensures
 
 pub text_end_spec : {M : Type 1} → statement M
 text_end_spec =

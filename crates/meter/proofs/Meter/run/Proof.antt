@@ -44,17 +44,17 @@ module _ (c : tie.After-meet invariant_loop decreases_loop) {met : Met} (is : c.
   rest_is =
       let a = (at_start c).args in
       let L = (at_loop c).loop in
-      goes_on_lem a.self a.tag.now a.work-1.now L.work-1 c.meet.new.0 L.at L.frames L.short L.compressed L.inv.1 met met_here
+      goes_on_lem a.self a.tag.now a.work-1.now L.work-1 c.meet.new.0 L.at L.frames L.short L.compressed L.invariant.1 met met_here
 
 returns : tie.Need-returns-in-Nothing invariant_loop decreases_loop
 returns c =
     let at_ended = c.before in
-    rw c.moved.ensures (rest_is at_ended.before.before.before.before at_ended.enum_told-1.given.1)
+    rw c.moved.ensures (rest_is at_ended.before.before.before.before at_ended.in-Nothing.is)
 
 returns_2 : tie.Need-returns-in-Refused invariant_loop decreases_loop
 returns_2 c =
     let at_refused = c.before.before in
-    rw c.moved-in-Refused.ensures (rest_is at_refused.before.before.before.before at_refused.k-1.given.1)
+    rw c.moved-in-Refused.ensures (rest_is at_refused.before.before.before.before at_refused.in-Refused.is)
 
 loop_less : tie.Need-loop-k-smaller invariant_loop decreases_loop
 loop_less c =
@@ -62,18 +62,18 @@ loop_less c =
     let at_meet = at_passed.before.before.before.before in
     let r = (at_start at_meet).args.self.reader in
     let L = (at_loop at_meet).loop in
-    passed_less r.version r.in_work 0 L.at r.end _ L.work-1 _ _ _ (met_here at_meet at_passed.next-1.given.1 0)
+    passed_less r.version r.in_work 0 L.at r.end _ L.work-1 _ _ _ (met_here at_meet at_passed.in-Passed.is 0)
 
 loop_again : tie.Need-loop-k-preserved invariant_loop decreases_loop
 loop_again c =
     let at_passed = c.before.before in
     let at_meet = at_passed.before.before.before.before in
-    (at_meet.meet.auto.0 ∙ (at_loop at_meet).loop.invariant.0, rw c.one_more-frames.ensures (rest_is at_meet at_passed.next-1.given.1))
+    (at_meet.meet.auto.0 ∙ (at_loop at_meet).loop.invariant.0, rw c.one_more-frames.ensures (rest_is at_meet at_passed.in-Passed.is))
 
 returns_3 : tie.Need-returns-in-Popularimeter invariant_loop decreases_loop
 returns_3 c =
     let at_found = c.before.before.before in
-    rw (c.moved-in-Popularimeter.ensures, c.before.one_more.ensures) (rest_is at_found.before.before.before.before at_found.next-in-Popularimeter-1.given.1)
+    rw (c.moved-in-Popularimeter.ensures, c.before.one_more.ensures) (rest_is at_found.before.before.before.before at_found.in-Popularimeter.is)
 
 pub run_spec : {M : Type 1} → statement M
 run_spec =

@@ -9,11 +9,11 @@ returns_3 c =
     let at_enum_told = c.before.before.before in
     let start = at_enum_told.before.before in
     let a = start.args in
-    rw at_enum_told.enum_told-1.given.1
+    rw at_enum_told.in-Text.is
     (refl, text_at a.first a.size a.s.now start.requires c.before.before.if-size-eq0.false c.if-s-first-gt3.false)
 
 returns_5 : tie.Need-returns-in-Raw
-returns_5 c = rw c.enum_told-in-Raw-1.given.1 (refl, tt {0})
+returns_5 c = rw c.in-Raw.is (refl, tt {0})
 
 pub by_kind_spec : {M : Type 1} → statement M
 by_kind_spec =

@@ -11,7 +11,7 @@ returns c =
     let at_work = c.before.before.before.before in
     let at_put = at_work.before in
     let a = at_put.before.before.before.before.args in
-    rw c.before.k-1.given.1 at (flagged_put (resynchronised (slice a.first a.next a.tag.now)) a.next a.work.now at_put.resync_into.ensures)
+    rw c.before.in-Refused.is at (flagged_put (resynchronised (slice a.first a.next a.tag.now)) a.next a.work.now at_put.resync_into.ensures)
 
 returns_2 : tie.Need-returns-in-Bytes
 returns_2 c =
@@ -19,7 +19,7 @@ returns_2 c =
     let at_put = at_work.before in
     let a = at_put.before.before.before.before.args in
     rw c.passed.ensures
-    (rw c.before.enum_told-1.given.1 at (flagged_put (resynchronised (slice a.first a.next a.tag.now)) a.next a.work.now at_put.resync_into.ensures))
+    (rw c.before.in-Bytes.is at (flagged_put (resynchronised (slice a.first a.next a.tag.now)) a.next a.work.now at_put.resync_into.ensures))
 
 pub flagged_spec : {M : Type 1} → statement M
 flagged_spec =

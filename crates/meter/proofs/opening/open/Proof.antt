@@ -12,7 +12,7 @@ returns_2 c =
     let a = at_read32.before.before.before.before.args in
     rw (c.metered.ensures, c.before.is_missing.ensures, c.before.before.plain_reader.ensures)
     (opens a.tag.now (λ i. omega (arith, at_read32.before.before.shared_slice_known-1.given i)) at_read32.before.if-tag-lt10.false at_read32.read32.result _ at_read32.read32.ensures refl
-    at_front.front-1.given.0.0 (sym at_front_of.front_of-front.ensures ∙ at_front.front-1.given.1) a.work.now)
+    at_front.in-Plain.version (sym at_front_of.front_of-front.ensures ∙ at_front.in-Plain.is) a.work.now)
 
 pub open_spec : {M : Type 1} → statement M
 open_spec =

@@ -12,9 +12,9 @@ returns c =
     let at_open = at_opened.before.before.before.before in
     let a = at_open.before.before.before.before.args in
     let made = at_open.«open» in
-    opens_any a.tag.now a.work.now made.new.0 at_opened.opened-1.given.0.0 c.metered.result
-    (c.metered.ensures ∙ ap (λ (t : Bool). meter_at t at_opened.opened-1.given.0.0) c.before.is_missing.ensures)
-    (ap {B = Opened × List ℕ} (λ (x : Opened). (x, made.new.0)) (sym at_opened.opened-1.given.1) ∙ made.ensures)
+    opens_any a.tag.now a.work.now made.new.0 at_opened.in-Ready.reader c.metered.result
+    (c.metered.ensures ∙ ap (λ (t : Bool). meter_at t at_opened.in-Ready.reader) c.before.is_missing.ensures)
+    (ap {B = Opened × List ℕ} (λ (x : Opened). (x, made.new.0)) (sym at_opened.in-Ready.is) ∙ made.ensures)
 
 returns_2 : tie.Need-returns-in-Refused
 returns_2 c =
@@ -22,8 +22,8 @@ returns_2 c =
     let at_open = at_opened2.before.before.before.before in
     let a = at_open.before.before.before.before.args in
     let made = at_open.«open» in
-    opens_refused a.tag.now a.work.now made.new.0 at_opened2.opened-in-Refused-1.given.0.0
-    (ap {B = Opened × List ℕ} (λ (x : Opened). (x, made.new.0)) (sym at_opened2.opened-in-Refused-1.given.1) ∙ made.ensures)
+    opens_refused a.tag.now a.work.now made.new.0 at_opened2.in-Refused.k
+    (ap {B = Opened × List ℕ} (λ (x : Opened). (x, made.new.0)) (sym at_opened2.in-Refused.is) ∙ made.ensures)
 
 pub open_any_spec : {M : Type 1} → statement M
 open_any_spec =

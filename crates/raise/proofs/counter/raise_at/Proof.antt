@@ -34,7 +34,7 @@ returns_4 : tie.Need-returns-then-not-fits
 returns_4 c =
     let at_sum = c.before.before.before.before in
     let a = at_sum.before.before.args in
-    sum_wide a.start a.stop a.counter a.amount a.tag.now (small at_sum) (sym c.before.fits2.ensures ∙ not-true _ c.if-not-fits.true)
+    sum_wide a.start a.stop a.counter a.amount a.tag.now (small at_sum) (sym c.before.fits.ensures ∙ not-true _ c.if-not-fits.true-raw)
 
 returns_5 : tie.Need-returns
 returns_5 c =
@@ -46,7 +46,7 @@ returns_5 c =
     let a = at_sum.before.before.args in
     sum_stored a.start a.stop a.counter a.amount a.tag.now (small at_sum)
     (field_there a.start a.stop a.tag.now (omega (arith, at_order.if-stop-start.false)) (omega (arith, at_there.if-tag-stop.false)))
-    (sym at_if4.before.fits2.ensures ∙ not-false _ at_if4.if-not-fits.false) _ at_put.put_value.ensures
+    (sym at_if4.before.fits.ensures ∙ not-false _ at_if4.if-not-fits.false-raw) _ at_put.put_value.ensures
 
 pub raise_at_spec : {M : Type 1} → statement M
 raise_at_spec =

@@ -8,12 +8,12 @@ use Rattle.raise.proofs.frames.frames.Tie as tie
 frames_found_requires : tie.Need-frames_found-requires
 frames_found_requires c κs =
     let at_header = c.before.before.before in
-    sym at_header.header-headed.ensures ∙ c.before.headed-in-Found-1.given.1
+    sym at_header.header-headed.ensures ∙ c.before.in-Found.is
 
 returns : tie.Need-returns-in-Refused
 returns c =
     let at_header = c.before.before.before in
-    header_refuses at_header.before.before.args.tag.now _ (sym at_header.header-headed.ensures ∙ c.before.headed-1.given.1)
+    header_refuses at_header.before.before.args.tag.now _ (sym at_header.header-headed.ensures ∙ c.before.in-Refused.is)
 
 pub frames_spec : {M : Type 1} → statement M
 frames_spec = tie.close (tie.spec (λ c κs. search rules) (λ c. search rules) (λ c. search rules) frames_found_requires returns (λ c. search rules))

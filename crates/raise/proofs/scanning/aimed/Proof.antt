@@ -8,19 +8,19 @@ returns : tie.Need-returns-then-n-eq0
 returns c =
     let at_aim = c.before.before in
     let a = at_aim.before.before.args in
-    aimed_first a.aim _ a.at a.next at_aim.aim-1.given.1 c.if-n-eq0.true
+    aimed_first a.aim _ a.at a.next at_aim.in-Before.is c.if-n-eq0.true
 
 returns_2 : tie.Need-returns-else-n-eq0
 returns_2 c =
     let at_aim = c.before.before in
     let a = at_aim.before.before.args in
-    aimed_before a.aim _ a.at a.next at_aim.aim-1.given.1 c.if-n-eq0.false
+    aimed_before a.aim _ a.at a.next at_aim.in-Before.is c.if-n-eq0.false
 
 returns_3 : tie.Need-returns-in-Frame
 returns_3 c =
     let at_aim = c.before in
     let a = at_aim.before.before.args in
-    aimed_found a.aim _ _ a.at a.next at_aim.aim-in-Frame-1.given.1
+    aimed_found a.aim _ _ a.at a.next at_aim.in-Frame.is
 
 pub aimed_spec : {M : Type 1} → statement M
 aimed_spec =

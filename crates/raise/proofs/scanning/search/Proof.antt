@@ -53,8 +53,8 @@ returns c =
     let at_seen = c.before.before.before in
     let a = (start at_seen).args in
     let L = (at_loop at_seen).loop in
-    look_stops Scanned.Refused a.version (slice a.begin a.end a.tag.now) a.oddly (slice L.at a.end a.tag.now) L.odd L.inv.0 _
-    _ (says_stops (says a.version L.at a.end a.tag.now (seen at_seen c.before.k-1.given.1)))
+    look_stops Scanned.Refused a.version (slice a.begin a.end a.tag.now) a.oddly (slice L.at a.end a.tag.now) L.odd L.invariant.0 _
+    _ (says_stops (says a.version L.at a.end a.tag.now (seen at_seen c.before.in-Stops.is)))
 
 returns_2 : tie.Need-returns-in-End invariant_loop decreases_loop
 unfolding scanned_in scanned_on
@@ -63,20 +63,20 @@ returns_2 c =
     let a = (start at_seen).args in
     let L = (at_loop at_seen).loop in
     let rest = slice L.at a.end a.tag.now in
-    let ends = says_end (says a.version L.at a.end a.tag.now (seen at_seen c.before.enum_told-1.given.1)) in
+    let ends = says_end (says a.version L.at a.end a.tag.now (seen at_seen c.before.in-End.is)) in
     c.after_last.ensures
-    ∙ look_ends Scanned.Refused a.version (slice a.begin a.end a.tag.now) a.oddly rest L.odd L.inv.0 _ ends _
-    (λ even. all_scanned a.user.now L.at rest L.found L.aim ends (L.inv.1 even))
+    ∙ look_ends Scanned.Refused a.version (slice a.begin a.end a.tag.now) a.oddly rest L.odd L.invariant.0 _ ends _
+    (λ even. all_scanned a.user.now L.at rest L.found L.aim ends (L.invariant.1 even))
 
 -- a frame of another kind
 other : (c : tie.In-Frame-2 invariant_loop decreases_loop)
     → let at_seen = c.before.before in
     let a = (start at_seen).args in
-    MetOther a.version (at_loop at_seen).loop.at a.end a.tag.now c.next-1.given.0.0 c.next-1.given.0.1.0
+    MetOther a.version (at_loop at_seen).loop.at a.end a.tag.now c.in-Frame.next c.in-Frame.itself
 other c =
     let at_seen = c.before.before in
     let a = (start at_seen).args in
-    says_other (says a.version (at_loop at_seen).loop.at a.end a.tag.now (seen at_seen c.next-1.given.1))
+    says_other (says a.version (at_loop at_seen).loop.at a.end a.tag.now (seen at_seen c.in-Frame.is))
 
 loop_less : tie.Need-loop-k-smaller-in-Frame invariant_loop decreases_loop
 loop_less c =
@@ -95,9 +95,9 @@ loop_again c =
     let m = other at_next in
     let g = at_next.next-1.given.0 in
     let rest = blocks_in a.version (slice g.0 a.end a.tag.now) in (
-      look_again le m.met L.odd L.inv.0,
+      look_again le m.met L.odd L.invariant.0,
       λ even. let p = or_false L.odd g.1.0 even in
-          let before = L.inv.1 p.0 in (
+          let before = L.invariant.1 p.0 in (
             other_turn a.version a.user.now L.found le m p.1 ∙ before.0,
             (
               ap (λ (x : Aim). aimed_on x g.0 rest) c.aimed-aim.ensures ∙ aim_turn le m.met L.aim p.1 ∙ before.1.0,
@@ -115,10 +115,10 @@ meter : (c : tie.In-Popularimeter-2 invariant_loop decreases_loop)
 meter c =
     let at_seen = c.before.before in
     let a = (start at_seen).args in
-    says_meter (says a.version (at_loop at_seen).loop.at a.end a.tag.now (seen at_seen c.next-in-Popularimeter-1.given.1))
+    says_meter (says a.version (at_loop at_seen).loop.at a.end a.tag.now (seen at_seen c.in-Popularimeter.is))
 
 user_in_lem : (c : tie.After-struct_known-1 invariant_loop decreases_loop) → let at_next = c.before.before in
-    let name = at_next.next-in-Popularimeter-1.given.0.1.1.0 in
+    let name = at_next.in-Popularimeter.name in
     name.start + name.len ≤ (start at_next.before.before).args.end
 user_in_lem c =
     let at_next = c.before.before in
@@ -127,13 +127,13 @@ user_in_lem c =
     omega (arith, user_fits le m, within le m.met)
 
 add_start : tie.Need-overflow_add-start invariant_loop decreases_loop
-add_start c = let s = start c.before.before.before.before in omega (arith, user_in_lem c, s.pre, s.fits)
+add_start c = let s = start c.before.before.before.before in omega (arith, user_in_lem c, s.requires, s.fits)
 
 add_start_2 : tie.Need-overflow_add-start-in-Popularimeter invariant_loop decreases_loop
-add_start_2 c = let s = start c.before.before.before.before in omega (arith, user_in_lem c, s.pre, s.fits)
+add_start_2 c = let s = start c.before.before.before.before in omega (arith, user_in_lem c, s.requires, s.fits)
 
 is_user_requires : tie.Need-is_user-mine-requires invariant_loop decreases_loop
-is_user_requires c κs = let s = start c.before.before.before.before in omega (arith, user_in_lem c, s.pre)
+is_user_requires c κs = let s = start c.before.before.before.before in omega (arith, user_in_lem c, s.requires)
 
 loop_less_2 : tie.Need-loop-k-smaller invariant_loop decreases_loop
 loop_less_2 c =
@@ -155,9 +155,9 @@ loop_again_2 c =
     let g = at_next.next-in-Popularimeter-1.given.0 in
     let v = a.version in
     let rest = blocks_in v (slice g.0 a.end a.tag.now) in (
-      look_again le m.met L.odd L.inv.0,
+      look_again le m.met L.odd L.invariant.0,
       λ even. let p = or_false L.odd g.1.0 even in
-          let before = L.inv.1 p.0 in (
+          let before = L.invariant.1 p.0 in (
             ap (λ (f : Found). found_on v a.user.now f g.0 rest) at_also.also-found.ensures
                 ∙ meter_turn v a.user.now L.found le m at_also.before.is_user-mine.result _ p.1 at_also.before.is_user-mine.ensures refl
                 ∙ before.0,

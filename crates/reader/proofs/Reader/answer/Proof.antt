@@ -4,13 +4,13 @@ use Rattle.reader.proofs.Reader.answer.Statement.{statement}
 use Rattle.reader.proofs.Reader.answer.Tie as tie
 
 returns : tie.Need-returns-in-Nothing
-returns c = rw (c.before.enum_told-1.given.1, c.stopped.ensures)
+returns c = rw (c.before.in-Nothing.is, c.stopped.ensures)
 
 returns_2 : tie.Need-returns-in-Refused
-returns_2 c = rw (c.before.before.shown-1.given.1, c.stopped-in-Refused.ensures)
+returns_2 c = rw (c.before.before.in-Refused.is, c.stopped-in-Refused.ensures)
 
 returns_3 : tie.Need-returns-in-Frame
-returns_3 c = rw (c.before.before.shown-in-Frame-1.given.1, c.moved.ensures)
+returns_3 c = rw (c.before.before.in-Frame.is, c.moved.ensures)
 
 pub answer_spec : {M : Type 1} → statement M
 answer_spec =

@@ -8,18 +8,18 @@ returns : tie.Need-returns-in-Running
 returns c =
     let at_enum_told = c.before.before.before.before in
     let a = at_enum_told.before.before.before.before.args in
-    running a.self a.tag.now a.work.now at_enum_told.enum_told-1.given.1 c.before.before.go.ensures
+    running a.self a.tag.now a.work.now at_enum_told.in-Running.is c.before.before.go.ensures
 
 returns_2 : tie.Need-returns-in-Ended
 returns_2 c =
     let a = c.before.before.before.before.args in
-    ended a.self a.tag.now a.work.now c.enum_told-in-Ended-1.given.1
+    ended a.self a.tag.now a.work.now c.in-Ended.is
 
 returns_3 : tie.Need-returns-in-Failed
 returns_3 c =
     let at_known = c.before.before.before.before in
     let a = at_known.before.args in
-    failed a.self a.tag.now a.work.now c.before.stop-1.given.1
+    failed a.self a.tag.now a.work.now c.before.in-Failed.is
 
 pub step_spec : {M : Type 1} → statement M
 step_spec =

@@ -18,7 +18,7 @@ abbrev tag : tie.Else-not-begins → List ℕ
 tag c = c.before.before.before.args.tag.now
 
 is_tag_lem : (c : tie.Else-not-begins) → is_tag (tag c) ≡ true
-is_tag_lem c = sym c.before.begins.ensures ∙ not-false _ c.if-not-begins.false
+is_tag_lem c = sym c.before.begins.ensures ∙ not-false _ c.if-not-begins.false-raw
 
 is_long : (c : tie.Else-not-begins) → 10 ≤ length (tag c)
 is_long c = long (tag c) (is_tag_lem c)
@@ -34,13 +34,13 @@ abbrev tag_there : tie.After-end_of → List ℕ
 tag_there c = tag (at_tag (at_clear c).before.before)
 
 known : (c : tie.Else-not-known) → is_version (edition_of (tag (at_tag c.before))) ≡ true
-known c = sym c.before.is_version-known.ensures ∙ not-false _ c.if-not-known.false
+known c = sym c.before.is_version-known.ensures ∙ not-false _ c.if-not-known.false-raw
 
 begun : (c : tie.Else-not-clear) → Begun (tag (at_tag c.before.before)) c.before.before.before.has-extended.result
 begun c = record {
   is = is_tag_lem (at_tag c.before.before);
   known = known c.before;
-  clear = not-false _ c.if-not-clear.false;
+  clear = not-false _ c.if-not-clear.false-raw;
   says = c.before.before.before.has-extended.ensures;
 }
 
@@ -48,7 +48,7 @@ ends : (c : tie.After-end_of) → c.end_of_lem.result ≡ length (cut_of (tag_th
 ends c = cut_end (tag_there c) c.before.synchsafe.ensures c.end_of_lem.ensures
 
 is_there : (c : tie.Else-not-extended) → let at_clear = c.before.before in at_clear.before.before.before.has-extended.result ≡ true
-is_there c = not-false _ c.if-not-extended.false
+is_there c = not-false _ c.if-not-extended.false-raw
 
 sized : (c : tie.After-synchsafe-2)
     → (c.synchsafe-2.result < 6 → 6 ≡ header_refusal (tag_there c.before.before)) × (6 ≤ c.synchsafe-2.result → 0 ≡ header_refusal (tag_there c.before.before))
@@ -58,7 +58,7 @@ sized c =
     by_size (begun (at_clear at_end)) at_there.before.if-compressed.false (is_there at_there) (ends at_end) c.before.if-end_of-lt16.false c.synchsafe-2.ensures
 
 returns : tie.Need-returns-then-not-begins
-returns c = no_tag _ (sym c.before.begins.ensures ∙ not-true _ c.if-not-begins.true)
+returns c = no_tag _ (sym c.before.begins.ensures ∙ not-true _ c.if-not-begins.true-raw)
 
 shared_slice_read_edition : tie.Need-bounds-tag-3
 shared_slice_read_edition c = omega (arith, is_long c.before)
@@ -70,16 +70,16 @@ cast_is_version : tie.Need-overflow_cast-edition
 cast_is_version c = omega (arith, c.before.before.shared_slice_known-2-1.given 3)
 
 returns_2 : tie.Need-returns-then-not-known
-returns_2 c = unknown_version _ (is_tag_lem (at_tag c.before)) (sym c.before.is_version-known.ensures ∙ not-true _ c.if-not-known.true)
+returns_2 c = unknown_version _ (is_tag_lem (at_tag c.before)) (sym c.before.is_version-known.ensures ∙ not-true _ c.if-not-known.true-raw)
 
 returns_3 : tie.Need-returns-then-not-clear
-returns_3 c = unknown_flags _ (is_tag_lem (at_tag c.before.before)) (known c.before) (not-true _ c.if-not-clear.true)
+returns_3 c = unknown_flags _ (is_tag_lem (at_tag c.before.before)) (known c.before) (not-true _ c.if-not-clear.true-raw)
 
 returns_4 : tie.Need-returns-then-compressed
 returns_4 c = compressed (begun c.before) c.if-compressed.true
 
 returns_5 : tie.Need-returns-then-not-extended
-returns_5 c = no_extended (begun c.before.before) c.before.if-compressed.false (not-true _ c.if-not-extended.true)
+returns_5 c = no_extended (begun c.before.before) c.before.if-compressed.false (not-true _ c.if-not-extended.true-raw)
 
 synchsafe_requires : tie.Need-synchsafe-requires
 synchsafe_requires c κs = let at_clear = c.before.before in is_long (at_tag at_clear.before.before)

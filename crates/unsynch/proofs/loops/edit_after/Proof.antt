@@ -47,7 +47,7 @@ edit_by_byte_requires c κs =
     let a = at_start.args in
     let L = at_loop.loop-i in
     let last = L.i + at_least_lem.least.result in
-    (omega arith, ((piece a.how a.s.now L.i last a.to (omega arith) (omega arith) (omega arith) L.invariant.4).0, at_start.requires.1.1))
+    (omega arith, ((piece a.how a.s.now L.i last a.to (omega arith) (omega arith) (omega arith) L.invariant.4).0, at_start.requires.to_in_bounds.1))
 
 loop_again_2 : tie.Need-loop-i-preserved invariant_loop decreases_loop
 loop_again_2 c =
@@ -64,7 +64,7 @@ loop_again_2 c =
 edit_by_byte_requires_2 : tie.Need-edit_by_byte-requires invariant_loop decreases_loop
 edit_by_byte_requires_2 c κs =
     let at_loop = c.before.before in
-    (omega arith, (lies at_loop.loop-i.invariant.4, at_loop.before.before.before.requires.1.1))
+    (omega arith, (lies at_loop.loop-i.invariant.4, at_loop.before.before.before.requires.to_in_bounds.1))
 
 same_length : tie.Need-shape_of-buf invariant_loop decreases_loop
 same_length c =

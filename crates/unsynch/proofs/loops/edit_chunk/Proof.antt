@@ -16,7 +16,7 @@ edit_after_requires c κs =
     let at_start = at_copy.before.before.before.before in
     let a = at_start.args in
     let e = in_copy a.how a.area.now (replicate 1025 0) at_copy.copy.new.0 a.from a.to (omega arith) (omega arith) (omega arith) at_copy.copy.ensures in
-    (omega arith, (omega (arith, ap length e.1), at_start.requires.1.1))
+    (omega arith, (omega (arith, ap length e.1), at_start.requires.to_in_bounds.1))
 
 returns : tie.Need-returns
 returns c =

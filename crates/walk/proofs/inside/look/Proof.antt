@@ -28,7 +28,7 @@ use Rattle.walk.proofs.inside.look.Tie as tie
 -- src/inside.rt:72:22
 -- src/inside.rt:62:1
 returns : tie.Need-returns-in-Text
-returns c = rw c.before.enum_told-1.given.1 c.text.ensures
+returns c = rw c.before.in-Text.is c.text.ensures
 
 -- src/inside.rt:62:1
 returns_2 : tie.Need-returns-in-Popularimeter
@@ -39,7 +39,7 @@ returns_2 c =
     let b = slice a.from a.to a.s.now in
     let l = length-slice a.from a.to a.s.now at_start.requires.1 in
     let ends : a.from + length b ≡ a.to = omega arith in
-    c.after.ensures ∙ after_as Id3v24 a.from a.to b ends a.kind Kind.Popularimeter c.before.parse.result c.before.before.enum_told-in-Popularimeter-1.given.1 (c.before.parse.ensures Id3v24)
+    c.after.ensures ∙ after_as Id3v24 a.from a.to b ends a.kind Kind.Popularimeter c.before.parse.result c.before.before.in-Popularimeter.is (c.before.parse.ensures Id3v24)
 
 -- src/inside.rt:62:1
 returns_3 : tie.Need-returns-in-Table
@@ -50,7 +50,7 @@ returns_3 c =
     let b = slice a.from a.to a.s.now in
     let l = length-slice a.from a.to a.s.now at_start.requires.1 in
     let ends : a.from + length b ≡ a.to = omega arith in
-    c.after-in-Table.ensures ∙ after_as Id3v24 a.from a.to b ends a.kind Kind.Table c.before.parse-in-Table.result c.before.before.enum_told-in-Table-1.given.1 (c.before.parse-in-Table.ensures Id3v24)
+    c.after-in-Table.ensures ∙ after_as Id3v24 a.from a.to b ends a.kind Kind.Table c.before.parse-in-Table.result c.before.before.in-Table.is (c.before.parse-in-Table.ensures Id3v24)
 
 -- src/inside.rt:62:1
 returns_4 : tie.Need-returns-in-Chapter
@@ -61,7 +61,7 @@ returns_4 c =
     let b = slice a.from a.to a.s.now in
     let l = length-slice a.from a.to a.s.now at_start.requires.1 in
     let ends : a.from + length b ≡ a.to = omega arith in
-    c.after-in-Chapter.ensures ∙ after_as Id3v24 a.from a.to b ends a.kind Kind.Chapter c.before.parse_chapter.result c.before.before.enum_told-in-Chapter-1.given.1 (c.before.parse_chapter.ensures Id3v24)
+    c.after-in-Chapter.ensures ∙ after_as Id3v24 a.from a.to b ends a.kind Kind.Chapter c.before.parse_chapter.result c.before.before.in-Chapter.is (c.before.parse_chapter.ensures Id3v24)
 
 -- src/inside.rt:62:1
 returns_5 : tie.Need-returns-in-Contents
@@ -72,7 +72,7 @@ returns_5 c =
     let b = slice a.from a.to a.s.now in
     let l = length-slice a.from a.to a.s.now at_start.requires.1 in
     let ends : a.from + length b ≡ a.to = omega arith in
-    c.after-in-Contents.ensures ∙ after_as Id3v24 a.from a.to b ends a.kind Kind.Contents c.before.parse_contents.result c.before.before.enum_told-in-Contents-1.given.1 (c.before.parse_contents.ensures Id3v24)
+    c.after-in-Contents.ensures ∙ after_as Id3v24 a.from a.to b ends a.kind Kind.Contents c.before.parse_contents.result c.before.before.in-Contents.is (c.before.parse_contents.ensures Id3v24)
 
 -- src/inside.rt:62:1
 returns_6 : tie.Need-returns-in-Raw
@@ -82,7 +82,7 @@ returns_6 c =
     let b = slice a.from a.to a.s.now in
     let l = length-slice a.from a.to a.s.now at_start.requires.1 in
     let ends : a.from + length b ≡ a.to = omega arith in
-    raw_inside a.kind a.from b a.to ends c.enum_told-in-Raw-1.given.1
+    raw_inside a.kind a.from b a.to ends c.in-Raw.is
 
 pub look_spec : {M : Type 1} → statement M
 look_spec =

@@ -19,7 +19,7 @@ returns c =
     let at_start = at_resync_into.before.before.before.before in
     let a = at_start.args in
     let R = at_resync_into.resync_into in
-    let e = ap {B = Put × List ℕ} (λ (x : Put). (x, R.new.0)) (sym c.before.k-1.given.1) ∙ R.ensures in
+    let e = ap {B = Put × List ℕ} (λ (x : Put). (x, R.new.0)) (sym c.before.in-Refused.is) ∙ R.ensures in
     λ v id place from len. front_refused v (record_of id a.short false place true from len) a.next (resynchronised (slice a.first a.next a.s.now)) a.room.now R.new.0 e
 
 returns_2 : tie.Need-returns-in-Bytes
@@ -29,7 +29,7 @@ returns_2 c =
     let at_start = at_resync_into.before.before.before.before in
     let a = at_start.args in
     let R = at_resync_into.resync_into in
-    let e = ap {B = Put × List ℕ} (λ (x : Put). (x, R.new.0)) (sym at_n.n-1.given.1) ∙ R.ensures in
+    let e = ap {B = Put × List ℕ} (λ (x : Put). (x, R.new.0)) (sym at_n.in-Bytes.is) ∙ R.ensures in
     λ v id place from len. front_read v (record_of id a.short false place true from len) a.next (resynchronised (slice a.first a.next a.s.now)) a.room.now R.new.0 e
     (c.before.parse.ensures v) (c.read_as.ensures v id place from len)
 

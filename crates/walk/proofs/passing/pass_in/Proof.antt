@@ -24,7 +24,7 @@ found : (d : tie.In-Found)
 found d =
     let at_decode = d.before.before.before in
     let a = at_decode.before.before.before.args in
-    here a.version a.at a.end a.s.now _ _ _ _ _ _ (sym d.before.id-1.given.1 ∙ d.before.before.before.decode.ensures)
+    here a.version a.at a.end a.s.now _ _ _ _ _ _ (sym d.before.in-Found.is ∙ d.before.before.before.decode.ensures)
 
 add_first : tie.Need-overflow_add-first
 add_first c =
@@ -82,14 +82,14 @@ returns_4 c =
     let at_decode = c.before.before in
     let at_start = at_decode.before.before.before in
     let a = at_start.args in
-    λ begin. pass_nothing a.version a.in_work begin a.at (slice a.at a.end a.s.now) a.room.now (sym c.enum_told-1.given.1 ∙ c.before.before.decode.ensures)
+    λ begin. pass_nothing a.version a.in_work begin a.at (slice a.at a.end a.s.now) a.room.now (sym c.in-Nothing.is ∙ c.before.before.decode.ensures)
 
 returns_5 : tie.Need-returns-in-Refused
 returns_5 c =
     let at_decode = c.before.before.before in
     let at_start = at_decode.before.before.before in
     let a = at_start.args in
-    λ begin. pass_refused a.version a.in_work begin a.at (slice a.at a.end a.s.now) a.room.now (sym c.before.k-1.given.1 ∙ at_decode.decode.ensures)
+    λ begin. pass_refused a.version a.in_work begin a.at (slice a.at a.end a.s.now) a.room.now (sym c.before.in-Refused.is ∙ at_decode.decode.ensures)
 
 returns_6 : tie.Need-returns-else-r-ne0
 returns_6 c =

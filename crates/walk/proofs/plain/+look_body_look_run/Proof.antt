@@ -72,8 +72,8 @@ body_add_look_run t c = omega arith
 -- where the run begins
 run_begins : (t : ℕ) (c : look-body-lts.In-Run-2 (body_calls t) (look_body_at t) look-body.Post)
     → let a = c.before.before.before.before.args in
-    Inside.Run c.at-1.given.0.0 ≡ inside_at a.kind a.from (slice a.from a.to a.s.now)
-run_begins t c = sym c.at-1.given.1 ∙ c.before.before.look.ensures
+    Inside.Run c.in-Run.at ≡ inside_at a.kind a.from (slice a.from a.to a.s.now)
+run_begins t c = sym c.in-Run.is ∙ c.before.before.look.ensures
 
 body_returns : (t : ℕ) → look-body-lts.Need-returns-then-to-at (body_calls t) (look_body_at t) look-body.Post
 body_returns t c =
@@ -86,7 +86,7 @@ body_look_run_requires t c κs =
     let at_run = c.before.before in
     let at_start = at_run.before.before.before.before in
     let a = at_start.args in
-    let at = at_run.at-1.given.0.0 in
+    let at = at_run.in-Run.at in
     let m : 2 * (a.to - a.from) + 1 ≡ t = at_start.requires.0 in
     let less : 2 * (a.to - at) < t = omega (arith, run_from a.kind a.from a.to at a.s.now (run_begins t at_run)) in
     (less, omega arith)
@@ -95,7 +95,7 @@ body_returns_2 : (t : ℕ) → look-body-lts.Need-returns-in-Refused (body_calls
 body_returns_2 t c =
     let at_look = c.before.before.before in
     let a = at_look.before.before.args in
-    body_stopped a.version (a.depth + 1) a.kind a.from a.to a.s.now _ (sym c.before.k-1.given.1 ∙ at_look.look.ensures)
+    body_stopped a.version (a.depth + 1) a.kind a.from a.to a.s.now _ (sym c.before.in-Refused.is ∙ at_look.look.ensures)
 
 body_returns_3 : (t : ℕ) → look-body-lts.Need-returns-else-to-at (body_calls t) (look_body_at t) look-body.Post
 body_returns_3 t c =
@@ -151,8 +151,8 @@ run_returns t c =
     let at_loop = at_ahead.before in
     let a = at_loop.before.before.before.args in
     let L = at_loop.loop-k in
-    let k = c.before.k-1.given.0.0 in
-    let stops = look_stopped a.version a.depth L.at (slice L.at at_loop.before.least-end.result a.s.now) k (sym c.before.k-1.given.1 ∙ at_ahead.look_ahead.ensures) in
+    let k = c.before.in-Stop.k in
+    let stops = look_stopped a.version a.depth L.at (slice L.at at_loop.before.least-end.result a.s.now) k (sym c.before.in-Stop.is ∙ at_ahead.look_ahead.ensures) in
     sym (both_stop (not L.odd) k) ∙ ap (both (plain_if (not L.odd))) (sym stops) ∙ L.invariant.3
 
 run_returns_2 : (t : ℕ) → look-run-lts.Need-returns-in-End (run_calls t) (look_run_at t) look-run.Post invariant_loop decreases_loop
@@ -162,7 +162,7 @@ run_returns_2 t c =
     let at_start = at_loop.before.before.before in
     let a = at_start.args in
     let L = at_loop.loop-k in
-    let ends = look_ended a.version a.depth L.at (slice L.at at_loop.before.least-end.result a.s.now) at_start.requires.1 (sym c.before.enum_told-1.given.1 ∙ at_ahead.look_ahead.ensures) in
+    let ends = look_ended a.version a.depth L.at (slice L.at at_loop.before.least-end.result a.s.now) at_start.requires.1 (sym c.before.in-End.is ∙ at_ahead.look_ahead.ensures) in
     c.ended.ensures ∙ sym (both_end (plain_if (not L.odd))) ∙ ap (both (plain_if (not L.odd))) (sym ends) ∙ L.invariant.3
 
 -- where the look goes on
@@ -175,7 +175,7 @@ run_goes t c =
     let at_loop = c.before.before.before in
     let a = at_loop.before.before.before.args in
     goes a.version a.depth at_loop.loop-k.at at_loop.before.least-end.result a.s.now at_loop.loop-k.invariant.1 _ _ _ _
-    (sym c.kind-1.given.1 ∙ c.before.before.look_ahead.ensures)
+    (sym c.in-Body.is ∙ c.before.before.look_ahead.ensures)
 
 run_look_body_requires : (t : ℕ) → look-run-lts.Need-look_body-body-requires (run_calls t) (look_run_at t) look-run.Post invariant_loop decreases_loop
 run_look_body_requires t c κs =
@@ -214,7 +214,7 @@ run_returns_3 t c =
     let on = run_goes t at_kind in
     let inside = inside_look (look_at a.version (a.depth + 1)) g.0 (slice g.1.1.0 g.1.1.1.0 a.s.now) in
     let rest = look_at a.version a.depth (slice g.1.1.1.0 at_loop.before.least-end.result a.s.now) in
-    sym (turn_stop L.odd inside g.1.0 _ rest (sym c.before.k-in-Stop-turned-1.given.1 ∙ run_turned t at_turned))
+    sym (turn_stop L.odd inside g.1.0 _ rest (sym c.before.in-Stop-turned.is ∙ run_turned t at_turned))
     ∙ ap (both (plain_if (not L.odd))) (sym on.same) ∙ L.invariant.3
 
 run_loop_less : (t : ℕ) → look-run-lts.Need-loop-k-smaller (run_calls t) (look_run_at t) look-run.Post invariant_loop decreases_loop
@@ -237,7 +237,7 @@ run_loop_again t c =
       omega (arith, on.begins, on.ordered, L.invariant.0),
       L.invariant.1,
       L.invariant.2,
-      sym (turn_on L.odd inside g.1.0 _ rest (sym c.before.so_far-1.given.1 ∙ run_turned t at_turned))
+      sym (turn_on L.odd inside g.1.0 _ rest (sym c.before.in-On.is ∙ run_turned t at_turned))
           ∙ ap (both (plain_if (not L.odd))) (sym on.same) ∙ L.invariant.3,
     )
 

@@ -17,7 +17,7 @@ found : (c : tie.In-Found-2)
     → let a = c.before.before.before.before.args in
     let h = c.id-1.given.0 in
     Head.Found h.0 h.1.0 h.1.1.0 h.1.1.1.0 h.1.1.1.1.0 h.1.1.1.1.1.0 ≡ head_of a.version a.depth (slice a.at a.end a.s.now)
-found c = sym c.id-1.given.1 ∙ c.before.before.decode.ensures
+found c = sym c.in-Found.is ∙ c.before.before.decode.ensures
 
 within : (c : tie.In-Found-2)
     → let a = c.before.before.before.before.args in
@@ -49,13 +49,13 @@ returns_2 : tie.Need-returns-in-Nothing
 returns_2 c =
     let at_decode = c.before.before in
     let a = at_decode.before.before.args in
-    ahead_nothing a.version a.depth a.at (slice a.at a.end a.s.now) (sym c.enum_told-1.given.1 ∙ at_decode.decode.ensures)
+    ahead_nothing a.version a.depth a.at (slice a.at a.end a.s.now) (sym c.in-Nothing.is ∙ at_decode.decode.ensures)
 
 returns_3 : tie.Need-returns-in-Refused
 returns_3 c =
     let at_decode = c.before.before.before in
     let a = at_decode.before.before.args in
-    ahead_refused a.version a.depth a.at (slice a.at a.end a.s.now) _ (sym c.before.k-1.given.1 ∙ at_decode.decode.ensures)
+    ahead_refused a.version a.depth a.at (slice a.at a.end a.s.now) _ (sym c.before.in-Refused.is ∙ at_decode.decode.ensures)
 
 returns_4 : tie.Need-returns-else-is_resynced
 returns_4 c =

@@ -39,25 +39,25 @@ module _ (c : tie.In-Body-2) where
   met = ahead.before.before.before
 
   abbrev kind : Kind
-  kind = c.kind-1.given.0.0
+  kind = c.in-Body.kind
 
   abbrev first : ℕ
-  first = c.kind-1.given.0.1.1.0
+  first = c.in-Body.start
 
   abbrev next : ℕ
-  next = c.kind-1.given.0.1.1.1.0
+  next = c.in-Body.stop
 
-  body_lies : Goes met.args.version 1 met.args.at ahead.before.least.result met.args.s.now c.kind-1.given.0.0 c.kind-1.given.0.1.0 c.kind-1.given.0.1.1.0 c.kind-1.given.0.1.1.1.0
-  body_lies = goes met.args.version 1 met.args.at ahead.before.least.result met.args.s.now (omega arith) _ _ _ _ (here ahead c.kind-1.given.1)
+  body_lies : Goes met.args.version 1 met.args.at ahead.before.least.result met.args.s.now c.in-Body.kind c.in-Body.odd c.in-Body.start c.in-Body.stop
+  body_lies = goes met.args.version 1 met.args.at ahead.before.least.result met.args.s.now (omega arith) _ _ _ _ (here ahead c.in-Body.is)
 
   body_seen : let a = met.args in
-      let odd = c.kind-1.given.0.1.0 in
+      let odd = c.in-Body.odd in
       let b = slice first next a.s.now in
       seen_as (both (inside_look (look_at a.version 2) kind b) (plain_if (not odd))) kind first next b
       ≡ seen_of a.version a.at (slice a.at a.end a.s.now)
   body_seen =
       let a = met.args in
-      sym (seen_body a.version a.at ahead.before.least.result a.s.now (omega arith) _ _ _ _ (here ahead c.kind-1.given.1))
+      sym (seen_body a.version a.at ahead.before.least.result a.s.now (omega arith) _ _ _ _ (here ahead c.in-Body.is))
       ∙ ap (seen_of a.version a.at) (same_end ahead)
 
 look_body_requires : tie.Need-look_body-requires
@@ -69,35 +69,35 @@ returns : tie.Need-returns-in-Stop
 returns c =
     let at_ahead = c.before.before.before in
     let a = at_ahead.before.before.before.args in
-    seen_stopped a.version a.at _ _ (here at_ahead c.before.k-1.given.1) ∙ ap (seen_of a.version a.at) (same_end at_ahead)
+    seen_stopped a.version a.at _ _ (here at_ahead c.before.in-Stop.is) ∙ ap (seen_of a.version a.at) (same_end at_ahead)
 
 returns_2 : tie.Need-returns-in-End
 returns_2 c =
     let at_ahead = c.before.before in
     let a = at_ahead.before.before.before.args in
-    seen_ended a.version a.at _ (here at_ahead c.enum_told-1.given.1) ∙ ap (seen_of a.version a.at) (same_end at_ahead)
+    seen_ended a.version a.at _ (here at_ahead c.in-End.is) ∙ ap (seen_of a.version a.at) (same_end at_ahead)
 
 returns_3 : tie.Need-returns-in-Popularimeter
 returns_3 c =
     let at_kind = c.before.before.before.before.before in
     let a = (met at_kind).args in
-    let odd = at_kind.kind-1.given.0.1.0 in
+    let odd = at_kind.in-Body.odd in
     let b = slice (first at_kind) (next at_kind) a.s.now in
     c.counted.ensures
     ∙ ap (λ (p : Parsed). counted_as p (next at_kind) odd) (c.before.parse.ensures a.version)
     ∙ counted_seen a.version (first at_kind) (next at_kind) b odd
-    ∙ ap (λ (k : Kind). seen_as (both (inside_look (look_at a.version 2) k b) (plain_if (not odd))) k (first at_kind) (next at_kind) b) (sym c.before.before.enum_told-in-Popularimeter-1.given.1)
+    ∙ ap (λ (k : Kind). seen_as (both (inside_look (look_at a.version 2) k b) (plain_if (not odd))) k (first at_kind) (next at_kind) b) (sym c.before.before.in-Popularimeter.is)
     ∙ body_seen at_kind
 
 returns_4 : tie.Need-returns-in_default
 returns_4 c =
     let at_kind = c.before.before.before.before in
     let a = (met at_kind).args in
-    let odd = at_kind.kind-1.given.0.1.0 in
+    let odd = at_kind.in-Body.odd in
     let b = slice (first at_kind) (next at_kind) a.s.now in
     c.passed.ensures
     ∙ ap (λ (x : Look). passed_as x (next at_kind) odd) c.before.look_body.ensures
-    ∙ passed_seen (kind at_kind) (first at_kind) (next at_kind) b (inside_look (look_at a.version 2) (kind at_kind) b) odd c.before.before.in_default.keys2
+    ∙ passed_seen (kind at_kind) (first at_kind) (next at_kind) b (inside_look (look_at a.version 2) (kind at_kind) b) odd c.before.before.in_default.in_default-own.keys2
     ∙ body_seen at_kind
 
 pub look_at_spec : {M : Type 1} → statement M

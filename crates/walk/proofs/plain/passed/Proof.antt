@@ -10,13 +10,13 @@ returns : tie.Need-returns-in-Stop
 returns c =
     let at_turned = c.before.before.before in
     let a = at_turned.before.args in
-    ap (λ (t : Turn). passed_by t a.next) (sym c.before.k-1.given.1 ∙ at_turned.turned.ensures)
+    ap (λ (t : Turn). passed_by t a.next) (sym c.before.in-Stop.is ∙ at_turned.turned.ensures)
 
 returns_2 : tie.Need-returns-in-On
 returns_2 c =
     let at_turned = c.before.before.before in
     let a = at_turned.before.args in
-    ap (λ (t : Turn). passed_by t a.next) (sym c.before.so_far-1.given.1 ∙ at_turned.turned.ensures)
+    ap (λ (t : Turn). passed_by t a.next) (sym c.before.in-On.is ∙ at_turned.turned.ensures)
 
 pub passed_spec : {M : Type 1} → statement M
 passed_spec = tie.close (tie.spec (λ c κs. search rules) (λ c. search rules) (λ c. search rules) returns returns_2)

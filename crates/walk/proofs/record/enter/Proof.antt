@@ -15,7 +15,7 @@ shown_body_requires c κs =
     let at_start = at_ready.before.before.before.before in
     let a = at_start.args in
     let q = c.before.before.start-1.given.0 in
-    let e = ap {B = Lies × List ℕ} (λ (x : Lies). (x, at_ready.ready.new.0)) (sym c.before.before.start-1.given.1) ∙ at_ready.ready.ensures in
+    let e = ap {B = Lies × List ℕ} (λ (x : Lies). (x, at_ready.ready.new.0)) (sym c.before.before.in-At.is) ∙ at_ready.ready.ensures in
     ready_within a.version a.kind a.from a.to a.tag.now a.work.now a.in_work a.resynced q.0 q.1.0 at_ready.ready.new.0 e at_start.requires.0 at_start.requires.1
 
 returns : tie.Need-returns-in-Refused
@@ -24,8 +24,8 @@ returns c =
     let at_ready = at_k.before.before.before.before in
     let at_start = at_ready.before.before.before.before in
     let a = at_start.args in
-    let e = ap {B = Lies × List ℕ} (λ (x : Lies). (x, at_ready.ready.new.0)) (sym c.before.k-1.given.1) ∙ at_ready.ready.ensures in
-    ready_refused a.version a.kind a.from a.to a.tag.now a.work.now a.in_work a.resynced c.before.k-1.given.0.0 at_ready.ready.new.0 e
+    let e = ap {B = Lies × List ℕ} (λ (x : Lies). (x, at_ready.ready.new.0)) (sym c.before.in-Refused.is) ∙ at_ready.ready.ensures in
+    ready_refused a.version a.kind a.from a.to a.tag.now a.work.now a.in_work a.resynced c.before.in-Refused.k at_ready.ready.new.0 e
 
 returns_2 : tie.Need-returns-in-At
 returns_2 c =
@@ -35,7 +35,7 @@ returns_2 c =
     let at_start_2 = at_ready.before.before.before.before in
     let a = at_start_2.args in
     let q = at_start.start-1.given.0 in
-    let e = ap {B = Lies × List ℕ} (λ (x : Lies). (x, at_ready.ready.new.0)) (sym at_start.start-1.given.1) ∙ at_ready.ready.ensures in
+    let e = ap {B = Lies × List ℕ} (λ (x : Lies). (x, at_ready.ready.new.0)) (sym at_start.in-At.is) ∙ at_ready.ready.ensures in
     c.before.before.shown_body.ensures
     ∙ ready_shown a.version a.kind a.from a.to a.tag.now a.work.now a.in_work a.resynced q.0 q.1.0 at_ready.ready.new.0 e
 

@@ -20,21 +20,21 @@ found : (c : tie.In-Found-2)
 found c =
     let at_source = c.before.before.before in
     let a = at_source.before.before.before.before.args in
-    here a.version a.at a.end at_source.source-s.result.now _ _ _ _ _ _ (sym c.id-1.given.1 ∙ c.before.before.decode.ensures)
+    here a.version a.at a.end at_source.source-s.result.now _ _ _ _ _ _ (sym c.in-Found.is ∙ c.before.before.decode.ensures)
 
 add_first : tie.Need-overflow_add-first
 add_first c =
     let at_found = c.before.before.before in
     let at_source = at_found.before.before.before in
     let at_start = at_source.before.before.before.before in
-    omega (arith, (found at_found).within, at_start.well-formed)
+    omega (arith, (found at_found).within, at_start.well_formed)
 
 add_next : tie.Need-overflow_add-next
 add_next c =
     let at_found = c.before.before.before in
     let at_source = at_found.before.before.before in
     let at_start = at_source.before.before.before.before in
-    omega (arith, (found at_found).within, at_start.well-formed)
+    omega (arith, (found at_found).within, at_start.well_formed)
 
 enter_requires : tie.Need-enter-requires
 enter_requires c κs =
@@ -47,7 +47,7 @@ returns c =
     let at_source = at_decode.before in
     let a = at_source.before.before.before.before.args in
     no_frame a.version a.in_work a.begin a.at a.end a.tag.now a.work.now at_source.source-s.result.now at_source.source-s.ensures
-    (sym c.enum_told-1.given.1 ∙ at_decode.decode.ensures)
+    (sym c.in-Nothing.is ∙ at_decode.decode.ensures)
 
 returns_2 : tie.Need-returns-in-Refused
 returns_2 c =
@@ -55,7 +55,7 @@ returns_2 c =
     let at_source = at_decode.before in
     let a = at_source.before.before.before.before.args in
     head_refused a.version a.in_work a.begin a.at a.end a.tag.now a.work.now at_source.source-s.result.now at_source.source-s.ensures
-    c.before.k-1.given.0.0 (sym c.before.k-1.given.1 ∙ at_decode.decode.ensures)
+    c.before.in-Refused.k (sym c.before.in-Refused.is ∙ at_decode.decode.ensures)
 
 returns_3 : tie.Need-returns-in-Refused-enter
 returns_3 c =

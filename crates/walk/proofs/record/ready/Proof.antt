@@ -12,7 +12,7 @@ returns c =
     let at_start = at_if1.before.before.before in
     let a = at_start.args in
     lies_put a.in_work a.resynced a.from a.to a.tag.now a.work.now at_if1.if-resynced.true
-    c.before.k-1.given.1 at_resync_front.resync_front.ensures
+    c.before.in-Refused.is at_resync_front.resync_front.ensures
 
 returns_2 : tie.Need-returns-in-Bytes
 returns_2 c =
@@ -22,7 +22,7 @@ returns_2 c =
     let at_start = at_if1.before.before.before in
     let a = at_start.args in
     lies_put a.in_work a.resynced a.from a.to a.tag.now a.work.now at_if1.if-resynced.true
-    c.before.n-1.given.1 at_resync_front.resync_front.ensures
+    c.before.in-Bytes.is at_resync_front.resync_front.ensures
 
 returns_3 : tie.Need-returns-else-resynced
 returns_3 c =

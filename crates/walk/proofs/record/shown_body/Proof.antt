@@ -38,7 +38,7 @@ returns c =
     let d = c.before.before.before in
     let at_parts = d.before.before.before.before in
     let k = within d in
-    shows_run _ _ _ _ _ _ _ _ _ k.0 k.2 _ (sym at_parts.parts-1.given.1 ∙ at_parts.before.before.parse.ensures) _ d.before.before.place-run.ensures _ _ d.run_inside-r.ensures c.if-r-ne0.true
+    shows_run _ _ _ _ _ _ _ _ _ k.0 k.2 _ (sym at_parts.in-Parts.is ∙ at_parts.before.before.parse.ensures) _ d.before.before.place-run.ensures _ _ d.run_inside-r.ensures c.if-r-ne0.true
 
 returns_2 : tie.Need-returns-in-Refused
 returns_2 c =
@@ -50,14 +50,14 @@ returns_2 c =
     let S = at_source.source.result.now in
     let es : S ≡ source_of (a.in_work || a.resynced) a.work.now a.tag.now =
     at_source.source.ensures ∙ ap (λ (x : Bool). source_of x a.work.now a.tag.now) at_either.either.ensures in
-    shows_refused a.in_work a.resynced a.version a.kind a.from a.to a.tag.now a.work.now S es c.before.k-1.given.0.0 (sym c.before.k-1.given.1 ∙ at_parse.parse.ensures)
+    shows_refused a.in_work a.resynced a.version a.kind a.from a.to a.tag.now a.work.now S es c.before.in-Refused.k (sym c.before.in-Refused.is ∙ at_parse.parse.ensures)
 
 returns_3 : tie.Need-returns-else-r-ne0
 returns_3 c =
     let d = c.before.before.before in
     let at_parts = d.before.before.before.before in
     let k = within d in
-    shows_parts _ _ _ _ _ _ _ _ _ k.0 k.2 _ (sym at_parts.parts-1.given.1 ∙ at_parts.before.before.parse.ensures) _ d.before.before.place-run.ensures _ _ d.run_inside-r.ensures c.if-r-ne0.false _ (sym k.1)
+    shows_parts _ _ _ _ _ _ _ _ _ k.0 k.2 _ (sym at_parts.in-Parts.is ∙ at_parts.before.before.parse.ensures) _ d.before.before.place-run.ensures _ _ d.run_inside-r.ensures c.if-r-ne0.false _ (sym k.1)
 
 pub shown_body_spec : {M : Type 1} → statement M
 shown_body_spec =

@@ -109,8 +109,8 @@ body_in_shown_in_requires t c κs =
     let room = drop a.split a.area.now in
     let a₁ = at_resync_in.resync_in.new.0 in
     let put = in_area_lem a.from a.to a.split a.area.now at_start.requires.1.1 at_resync_in.resync_in.result a₁ at_resync_in.resync_in.ensures in
-    let n = c.before.before.n-1.given.0.0 in
-    let f = put_bytes u room n (sym put.0 ∙ c.before.before.n-1.given.1) in
+    let n = c.before.before.in-Bytes.n in
+    let f = put_bytes u room n (sym put.0 ∙ c.before.before.in-Bytes.is) in
     let back = part_back a₁ a.area.now (into_of u room).1 a₁ a.split at_start.requires.1.2 put.1 in
     let m : 3 * (a.to - a.from) + 2 ≡ t = at_start.requires.0 in
     let l = length-slice a.from a.to a.area.now (omega (arith, at_start.requires.1)) in
@@ -144,10 +144,10 @@ body_in_returns t c =
     let go = walked a.strict a.version (a.depth + 1) in
     let a₁ = at_resync_in.resync_in.new.0 in
     let put = in_area_lem a.from a.to a.split a.area.now at_start.requires.1.1 at_resync_in.resync_in.result a₁ at_resync_in.resync_in.ensures in
-    let k = c.before.k-1.given.0.0 in
+    let k = c.before.in-Refused.k in
     ap {B = Out} (λ (z : List ℕ). (k, z)) put.1
     ∙ ap (behind (take a.split a.area.now))
-    (sym (put_refused u room go a.kind k (sym put.0 ∙ c.before.k-1.given.1)) ∙ as_resynced a.resynced go a.kind b room at_if1.if-resynced.true)
+    (sym (put_refused u room go a.kind k (sym put.0 ∙ c.before.in-Refused.is)) ∙ as_resynced a.resynced go a.kind b room at_if1.if-resynced.true)
 
 body_in_same_length_2 : (t : ℕ) → body-in-lts.Need-shape_of-area-in-Bytes (body_in_calls t) (body_in_at t) body_in_lem.Post
 body_in_same_length_2 t c =
@@ -173,8 +173,8 @@ body_in_returns_2 t c =
     let go = walked a.strict a.version (a.depth + 1) in
     let a₁ = at_resync_in.resync_in.new.0 in
     let put = in_area_lem a.from a.to a.split a.area.now at_start.requires.1.1 at_resync_in.resync_in.result a₁ at_resync_in.resync_in.ensures in
-    let n = at_bytes.n-1.given.0.0 in
-    let f = put_bytes u room n (sym put.0 ∙ at_bytes.n-1.given.1) in
+    let n = at_bytes.in-Bytes.n in
+    let f = put_bytes u room n (sym put.0 ∙ at_bytes.in-Bytes.is) in
     let r = c.before.before.shown_in.result in
     let p' = c.before.before.shown_in.new.0 in
     let back = part_back a₁ a.area.now (into_of u room).1 p' a.split at_start.requires.1.2 put.1 in
@@ -215,8 +215,8 @@ shown_in_walk_in_requires t c κs =
     let at_look = c.before.before.before.before in
     let at_start = at_look.before.before.before in
     let a = at_start.args in
-    let at = c.before.before.at-1.given.0.0 in
-    let e : Inside.Run at ≡ inside_at a.kind a.from (slice a.from a.to a.area.now) = sym c.before.before.at-1.given.1 ∙ at_look.look.ensures in
+    let at = c.before.before.in-Run.at in
+    let e : Inside.Run at ≡ inside_at a.kind a.from (slice a.from a.to a.area.now) = sym c.before.before.in-Run.is ∙ at_look.look.ensures in
     let m : 3 * (a.to - a.from) + 1 ≡ t = at_start.requires.0 in
     let less : 3 * (a.to - at) < t = omega (arith, run_from a.kind a.from a.to at a.area.now e) in
     (less, tt)
@@ -232,9 +232,9 @@ shown_in_returns t c =
     let b = slice a.from a.to a.area.now in
     let go = walked a.strict a.version (a.depth + 1) in
     let room = drop a.split a.area.now in
-    let k = c.before.k-1.given.0.0 in
+    let k = c.before.in-Refused.k in
     still a.split k a.area.now (inside_of go a.kind b room)
-    (looked_refused a.kind a.from b k go room (sym c.before.k-1.given.1 ∙ at_look.look.ensures))
+    (looked_refused a.kind a.from b k go room (sym c.before.in-Refused.is ∙ at_look.look.ensures))
 
 shown_in_same_length_2 : (t : ℕ) → shown-in-lts.Need-shape_of-area-in-Run (shown_in_calls t) (shown_in_at t) shown-in.Post
 shown_in_same_length_2 t c = c.before.before.walk_in.auto.0
@@ -249,8 +249,8 @@ shown_in_returns_2 t c =
     let A = a.area.now in
     let go = walked a.strict a.version (a.depth + 1) in
     let room = drop a.split A in
-    let at = at_run.at-1.given.0.0 in
-    let e : Inside.Run at ≡ inside_at a.kind a.from (slice a.from a.to A) = sym at_run.at-1.given.1 ∙ at_look.look.ensures in
+    let at = at_run.in-Run.at in
+    let e : Inside.Run at ≡ inside_at a.kind a.from (slice a.from a.to A) = sym at_run.in-Run.is ∙ at_look.look.ensures in
     c.before.before.walk_in.ensures
     ∙ ap (λ (s : List ℕ). behind (take a.split A) (go s room)) (before_split at a.to a.split A at_start.requires.1.1)
     ∙ ap (behind (take a.split A)) (sym (run_walked a.kind a.from a.to at A e go room))
@@ -304,10 +304,10 @@ walk_in_returns t c =
     let L = at_loop.loop-k in
     let mid = at_least_lem.least-mid.result in
     let end = at_least2.least-end.result in
-    let k = c.before.k-1.given.0.0 in
+    let k = c.before.in-Stop.k in
     let room = drop mid L.area in
     still mid k L.area (walked a.strict a.version a.depth (slice L.at end L.area) room)
-    (stopped a.strict a.version a.depth L.at end L.area k (sym c.before.k-1.given.1 ∙ at_step_at.step_at.ensures) room)
+    (stopped a.strict a.version a.depth L.at end L.area k (sym c.before.in-Stop.is ∙ at_step_at.step_at.ensures) room)
     ∙ L.invariant.5
 
 walk_in_enum_known_kind : (t : ℕ) → walk-in-lts.Need-enum_known-kind (walk_in_calls t) (walk_in_at t) walk-in.Post walk_in_Inv_loop walk-in-μ-loop
@@ -325,7 +325,7 @@ walk_in_onward t c =
     let L = at_loop.loop-k in
     let end = at_loop.before.least-end.result in
     let le : end ≤ length L.area = omega (arith, L.invariant) in
-    onward a.strict a.version a.depth L.at end L.area le _ _ _ _ (sym c.kind-1.given.1 ∙ c.before.before.step_at.ensures)
+    onward a.strict a.version a.depth L.at end L.area le _ _ _ _ (sym c.in-Body.is ∙ c.before.before.step_at.ensures)
 
 walk_in_body_in_requires : (t : ℕ) → walk-in-lts.Need-body_in-r-requires (walk_in_calls t) (walk_in_at t) walk-in.Post walk_in_Inv_loop walk-in-μ-loop
 walk_in_body_in_requires t c κs =

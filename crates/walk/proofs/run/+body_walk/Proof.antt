@@ -83,9 +83,9 @@ body_returns t c =
     let u = resynchronised b in
     let e0 : at_resync_into.resync_into.result ≡ (into_of u room).0 = ap (λ (o : Put × List ℕ). o.0) at_resync_into.resync_into.ensures in
     let e1 : at_resync_into.resync_into.new.0 ≡ (into_of u room).1 = ap (λ (o : Put × List ℕ). o.1) at_resync_into.resync_into.ensures in
-    let k = c.before.k-1.given.0.0 in
+    let k = c.before.in-Refused.k in
     ap {B = Out} (λ (z : List ℕ). (k, z)) e1
-    ∙ sym (put_refused u room go a.kind k (sym e0 ∙ c.before.k-1.given.1))
+    ∙ sym (put_refused u room go a.kind k (sym e0 ∙ c.before.in-Refused.is))
     ∙ as_resynced a.resynced go a.kind b room at_if1.if-resynced.true
 
 body_enum_known_n : (t : ℕ) → body-lts.Need-enum_known-n (body_calls t) (body_at t) body.Post
@@ -103,7 +103,7 @@ body_shown_in_requires t c κs =
     let u = resynchronised b in
     let e0 : at_resync_into.resync_into.result ≡ (into_of u room).0 = ap (λ (o : Put × List ℕ). o.0) at_resync_into.resync_into.ensures in
     let e1 : at_resync_into.resync_into.new.0 ≡ (into_of u room).1 = ap (λ (o : Put × List ℕ). o.1) at_resync_into.resync_into.ensures in
-    let f = put_bytes u room c.before.before.n-1.given.0.0 (sym e0 ∙ c.before.before.n-1.given.1) in
+    let f = put_bytes u room c.before.before.in-Bytes.n (sym e0 ∙ c.before.before.in-Bytes.is) in
     (omega arith, omega arith, omega (arith, fitted_room f, ap length e1), at_start.requires.1.2)
 
 body_same_length_2 : (t : ℕ) → body-lts.Need-shape_of-room-in-Bytes (body_calls t) (body_at t) body.Post
@@ -127,8 +127,8 @@ body_returns_2 t c =
     let u = resynchronised b in
     let e0 : at_resync_into.resync_into.result ≡ (into_of u room).0 = ap (λ (o : Put × List ℕ). o.0) at_resync_into.resync_into.ensures in
     let e1 : at_resync_into.resync_into.new.0 ≡ (into_of u room).1 = ap (λ (o : Put × List ℕ). o.1) at_resync_into.resync_into.ensures in
-    let n = at_bytes.n-1.given.0.0 in
-    let f = put_bytes u room n (sym e0 ∙ at_bytes.n-1.given.1) in
+    let n = at_bytes.in-Bytes.n in
+    let f = put_bytes u room n (sym e0 ∙ at_bytes.in-Bytes.is) in
     c.before.before.shown_in.ensures
     ∙ ap (λ (p : List ℕ). inside_in go a.kind (slice 0 n p) n p) e1
     ∙ put_inside u room go a.kind n (into_of u room).1 f
@@ -152,8 +152,8 @@ body_walk_requires t c κs =
     let at_start = at_look.before.before.before.before in
     let a = at_start.args in
     let b = slice a.from a.to a.s.now in
-    let at = c.before.before.at-1.given.0.0 in
-    let e : Inside.Run at ≡ inside_at a.kind a.from b = sym c.before.before.at-1.given.1 ∙ at_look.look.ensures in
+    let at = c.before.before.in-Run.at in
+    let e : Inside.Run at ≡ inside_at a.kind a.from b = sym c.before.before.in-Run.is ∙ at_look.look.ensures in
     let m : 2 * (a.to - a.from) + 1 ≡ t = at_start.requires.0 in
     let less : 2 * (a.to - at) < t = omega (arith, run_from a.kind a.from a.to at a.s.now e) in
     (less, tt)
@@ -167,8 +167,8 @@ body_returns_3 t c =
     let b = slice a.from a.to a.s.now in
     let room = a.room.now in
     let go = walked a.strict a.version (a.depth + 1) in
-    let k = c.before.k-in-Refused-look-1.given.0.0 in
-    sym (looked_refused a.kind a.from b k go room (sym c.before.k-in-Refused-look-1.given.1 ∙ at_look.look.ensures))
+    let k = c.before.in-Refused-look.k in
+    sym (looked_refused a.kind a.from b k go room (sym c.before.in-Refused-look.is ∙ at_look.look.ensures))
     ∙ as_stored a.resynced go a.kind b room at_if1.if-resynced.false
 
 body_same_length_3 : (t : ℕ) → body-lts.Need-shape_of-room (body_calls t) (body_at t) body.Post
@@ -185,8 +185,8 @@ body_returns_4 t c =
     let b = slice a.from a.to a.s.now in
     let room = a.room.now in
     let go = walked a.strict a.version (a.depth + 1) in
-    let at = at_run.at-1.given.0.0 in
-    let e : Inside.Run at ≡ inside_at a.kind a.from b = sym at_run.at-1.given.1 ∙ at_look.look.ensures in
+    let at = at_run.in-Run.at in
+    let e : Inside.Run at ≡ inside_at a.kind a.from b = sym at_run.in-Run.is ∙ at_look.look.ensures in
     c.before.before.walk.ensures
     ∙ sym (run_walked a.kind a.from a.to at a.s.now e go room)
     ∙ as_stored a.resynced go a.kind b room at_if1.if-resynced.false
@@ -228,7 +228,7 @@ walk_returns t c =
     let at_start = at_least_lem.before.before.before in
     let a = at_start.args in
     let L = at_loop.loop-k in
-    sym (stopped a.strict a.version a.depth L.at at_least_lem.least-end.result a.s.now c.before.k-1.given.0.0 (sym c.before.k-1.given.1 ∙ at_step_at.step_at.ensures) L.room)
+    sym (stopped a.strict a.version a.depth L.at at_least_lem.least-end.result a.s.now c.before.in-Stop.k (sym c.before.in-Stop.is ∙ at_step_at.step_at.ensures) L.room)
     ∙ L.invariant.4
 
 walk_enum_known_kind : (t : ℕ) → walk-lts.Need-enum_known-kind (walk_calls t) (walk_at t) walk.Post walk_Inv_loop walk-μ-loop
@@ -244,7 +244,7 @@ walk_onward t c =
     let at_loop = c.before.before.before in
     let a = at_loop.before.before.before.before.args in
     onward a.strict a.version a.depth at_loop.loop-k.at at_loop.before.least-end.result a.s.now at_loop.loop-k.invariant.1 _ _ _ _
-    (sym c.kind-1.given.1 ∙ c.before.before.step_at.ensures)
+    (sym c.in-Body.is ∙ c.before.before.step_at.ensures)
 
 walk_body_requires : (t : ℕ) → walk-lts.Need-body-r-requires (walk_calls t) (walk_at t) walk.Post walk_Inv_loop walk-μ-loop
 walk_body_requires t c κs =

@@ -19,7 +19,7 @@ found : (c : tie.In-Found-2)
     → let a = c.before.before.before.before.args in
     let h = c.id-1.given.0 in
     Head.Found h.0 h.1.0 h.1.1.0 h.1.1.1.0 h.1.1.1.1.0 h.1.1.1.1.1.0 ≡ head_of a.version a.depth (slice a.at a.end a.s.now)
-found c = sym c.id-1.given.1 ∙ c.before.before.decode.ensures
+found c = sym c.in-Found.is ∙ c.before.before.decode.ensures
 
 within : (c : tie.In-Found-2)
     → let a = c.before.before.before.before.args in
@@ -55,7 +55,7 @@ returns_2 c =
     let a = at_start.args in
     let b = slice a.at a.end a.s.now in
     let l : length b ≡ a.end - a.at = length-slice a.at a.end a.s.now at_start.requires in
-    step_nothing a.strict a.version a.depth a.at b (sym c.before.enum_told-1.given.1 ∙ at_decode.decode.ensures) c.left_over.result
+    step_nothing a.strict a.version a.depth a.at b (sym c.before.in-Nothing.is ∙ at_decode.decode.ensures) c.left_over.result
     (c.left_over.ensures ∙ ap (λ (n : ℕ). pick (a.strict && not (eqb n 0)) 29 0) (sym l))
 
 returns_3 : tie.Need-returns-in-Refused
@@ -63,8 +63,8 @@ returns_3 c =
     let at_decode = c.before.before.before in
     let at_start = at_decode.before.before in
     let a = at_start.args in
-    step_refused a.strict a.version a.depth a.at (slice a.at a.end a.s.now) c.before.k-1.given.0.0
-    (sym c.before.k-1.given.1 ∙ at_decode.decode.ensures)
+    step_refused a.strict a.version a.depth a.at (slice a.at a.end a.s.now) c.before.in-Refused.k
+    (sym c.before.in-Refused.is ∙ at_decode.decode.ensures)
 
 returns_4 : tie.Need-returns-else-is_unfit
 returns_4 c =

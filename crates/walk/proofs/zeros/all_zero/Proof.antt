@@ -27,14 +27,14 @@ returns c =
     let at_loop = c.before.before.before in
     let a = at_loop.before.before.before.before.args in
     let L = at_loop.loop-at in
-    sym (zero_not a.s.now L.at at_loop.before.before.least-end.result 64 (omega arith) (sym c.before.block_zero.ensures ∙ not-true _ c.if-not-block_zero.true)) ∙ L.invariant.2
+    sym (zero_not a.s.now L.at at_loop.before.before.least-end.result 64 (omega arith) (sym c.before.block_zero.ensures ∙ not-true _ c.if-not-block_zero.true-raw)) ∙ L.invariant.2
 
 loop_again : tie.Need-loop-at-preserved invariant_loop decreases_loop
 loop_again c =
     let at_loop = c.before.before.before in
     let a = at_loop.before.before.before.before.args in
     let L = at_loop.loop-at in
-    (omega arith, L.invariant.1, sym (zero_on a.s.now L.at at_loop.before.before.least-end.result 64 (omega arith) (sym c.before.block_zero.ensures ∙ not-false _ c.if-not-block_zero.false)) ∙ L.invariant.2)
+    (omega arith, L.invariant.1, sym (zero_on a.s.now L.at at_loop.before.before.least-end.result 64 (omega arith) (sym c.before.block_zero.ensures ∙ not-false _ c.if-not-block_zero.false-raw)) ∙ L.invariant.2)
 
 returns_2 : tie.Need-returns invariant_loop decreases_loop
 returns_2 c =

@@ -22,7 +22,7 @@ start c = let at_lost = c.before.before in let at_parts = at_lost.before.before 
 
 fits : (s : tie.Start) → Fits (given s).content
 fits s =
-    heading_fits s.args.name.now s.args.names.now s.args.rest.now s.args.deviations.now s.args.heading _ s.well-formed.1.1.0
+    heading_fits s.args.name.now s.args.names.now s.args.rest.now s.args.deviations.now s.args.heading _ s.well_formed.1.1.0
 
 -- its checks passed
 sound : (c : tie.Else-k-ne0) →

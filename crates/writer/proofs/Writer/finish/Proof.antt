@@ -33,7 +33,7 @@ returns_3 c =
     let at_length = at_room.before.before in
     let a = (start at_length).args in
     let short = sym at_length.is_too_long.ensures ∙ at_room.before.if-is_too_long.false in
-    finish_done a.self a.padding a.buffer.now a.output-1.now short at_room.if-buffer-used.false at_put.put_tag-put.ensures at_answer.put-1.given.1
+    finish_done a.self a.padding a.buffer.now a.output-1.now short at_room.if-buffer-used.false at_put.put_tag-put.ensures at_answer.in-Bytes.is
 
 returns_4 : tie.Need-returns-in-Refused
 returns_4 c =
@@ -43,7 +43,7 @@ returns_4 c =
     let at_length = at_room.before.before in
     let a = (start at_length).args in
     let short = sym at_length.is_too_long.ensures ∙ at_room.before.if-is_too_long.false in
-    finish_full a.self a.padding a.buffer.now a.output-1.now short at_room.if-buffer-used.false at_put.put_tag-put.ensures at_answer.put-in-Refused-1.given.1
+    finish_full a.self a.padding a.buffer.now a.output-1.now short at_room.if-buffer-used.false at_put.put_tag-put.ensures at_answer.in-Refused.is
 
 pub finish_spec : {M : Type 1} → statement M
 finish_spec =

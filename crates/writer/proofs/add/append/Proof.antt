@@ -17,18 +17,18 @@ start c = let at_slices = c.before.before in at_slices.before.before.before.befo
 add_n : tie.Need-overflow_add-n
 add_n c =
     let s = start c in
-    record { fits = omega (arith, c.head_len.ensures.1, s.pre.2) }
+    record { fits = omega (arith, c.head_len.ensures.1, s.requires.2) }
 
 returns : tie.Need-returns-then-is_full
 returns c =
     let s = start c.before.before in
-    no_room s.args.writer (given s) s.args.buffer.now c.before.before.head_len.ensures.0 s.pre.1 c.before.is_full.ensures c.if-is_full.true
+    no_room s.args.writer (given s) s.args.buffer.now c.before.before.head_len.ensures.0 s.requires.1 c.before.is_full.ensures c.if-is_full.true
 
 put_frame_requires : tie.Need-put_frame-used-requires
 put_frame_requires c κs =
     let s = start c.before.before.before in
     let h = c.before.before.before.head_len.ensures.0 in
-    (s.pre.0, s.pre.1, s.pre.2, room s.args.writer (given s) s.args.buffer.now h s.pre.1 c.before.before.is_full.ensures c.before.if-is_full.false)
+    (s.requires.0, s.requires.1, s.requires.2, room s.args.writer (given s) s.args.buffer.now h s.requires.1 c.before.before.is_full.ensures c.before.if-is_full.false)
 
 returns_2 : tie.Need-returns
 returns_2 c =
@@ -38,7 +38,7 @@ returns_2 c =
     let s = start at_head in
     let h = at_head.head_len.ensures.0 in
     let e = at_put.put_frame-used.ensures in
-    put_behind s.args.writer (given s) s.args.buffer.now h s.pre.1 at_room.before.is_full.ensures at_room.if-is_full.false e.0 e.1
+    put_behind s.args.writer (given s) s.args.buffer.now h s.requires.1 at_room.before.is_full.ensures at_room.if-is_full.false e.0 e.1
 
 pub append_spec : {M : Type 1} → statement M
 append_spec =

@@ -11,14 +11,14 @@ returns : tie.Need-returns-then-not-is_known
 unfolding begin_of
 returns c =
     let a = c.before.before.args in
-    let e : is_known a.version a.mode ≡ false = sym c.before.is_known.ensures ∙ not-true _ c.if-not-is_known.true in
+    let e : is_known a.version a.mode ≡ false = sym c.before.is_known.ensures ∙ not-true _ c.if-not-is_known.true-raw in
     rw e
 
 returns_2 : tie.Need-returns
 unfolding begin_of
 returns_2 c =
     let a = c.before.before.before.before.args in
-    let e : is_known a.version a.mode ≡ true = sym c.before.before.before.is_known.ensures ∙ not-false _ c.before.before.if-not-is_known.false in
+    let e : is_known a.version a.mode ≡ true = sym c.before.before.before.is_known.ensures ∙ not-false _ c.before.before.if-not-is_known.false-raw in
     rw (e, c.before.version_of.ensures, c.mode_of.ensures)
 
 pub begin_spec : {M : Type 1} → statement M

@@ -24,11 +24,11 @@ start c = let at_slices = c.before.before in at_slices.before.before.before.befo
 returns : tie.Need-returns-then-not-is_ordered
 returns c =
     let s = start c.before in
-    disordered s.args.gap (encode s.args.version Mode.Off (given s)) s.args.buffer.now (sym c.before.is_ordered.ensures ∙ not-true _ c.if-not-is_ordered.true)
+    disordered s.args.gap (encode s.args.version Mode.Off (given s)) s.args.buffer.now (sym c.before.is_ordered.ensures ∙ not-true _ c.if-not-is_ordered.true-raw)
 
 -- the places are in order
 in_order : (c : tie.Else-not-is_ordered) → let s = start c.before in is_ordered s.args.gap (length s.args.buffer.now) ≡ true
-in_order c = sym c.before.is_ordered.ensures ∙ not-false _ c.if-not-is_ordered.false
+in_order c = sym c.before.is_ordered.ensures ∙ not-false _ c.if-not-is_ordered.false-raw
 
 places : (c : tie.Else-not-is_ordered) → let s = start c.before in Ordered s.args.gap (length s.args.buffer.now)
 places c = let s = start c.before in ordered s.args.gap (length s.args.buffer.now) (in_order c)
@@ -51,7 +51,7 @@ returns_2 c =
     let at_head = c.before.before.before in
     let at_order = at_head.before in
     let s = start at_order.before in
-    gap_full s.args.version s.args.gap (given s) s.args.buffer.now at_head.head_len.ensures.0 s.pre.1 (in_order at_order) c.if-gap-from.true
+    gap_full s.args.version s.args.gap (given s) s.args.buffer.now at_head.head_len.ensures.0 s.requires.1 (in_order at_order) c.if-gap-from.true
 
 -- the place after the frame
 add_shift : tie.Need-overflow_add-from
@@ -69,10 +69,10 @@ put_frame_requires c κs =
     let at_head = at_room.before.before.before in
     let at_order = at_head.before in
     let s = start at_order.before in (
-      s.pre.0,
-      s.pre.1,
-      s.pre.2,
-      gap_fits s.args.version s.args.gap (given s) s.args.buffer.now at_head.head_len.ensures.0 s.pre.1 (in_order at_order) (omega (arith, at_room.if-gap-from.false)) at_shift.shift.ensures,
+      s.requires.0,
+      s.requires.1,
+      s.requires.2,
+      gap_fits s.args.version s.args.gap (given s) s.args.buffer.now at_head.head_len.ensures.0 s.requires.1 (in_order at_order) (omega (arith, at_room.if-gap-from.false)) at_shift.shift.ensures,
     )
 
 returns_3 : tie.Need-returns
@@ -83,7 +83,7 @@ returns_3 c =
     let at_head = at_room.before.before.before in
     let at_order = at_head.before in
     let s = start at_order.before in
-    gap_done s.args.version s.args.gap (given s) s.args.buffer.now at_head.head_len.ensures.0 s.pre.1 (in_order at_order) (omega (arith, at_room.if-gap-from.false)) at_shift.shift.ensures at_put.put_frame.ensures.1
+    gap_done s.args.version s.args.gap (given s) s.args.buffer.now at_head.head_len.ensures.0 s.requires.1 (in_order at_order) (omega (arith, at_room.if-gap-from.false)) at_shift.shift.ensures at_put.put_frame.ensures.1
 
 pub refit_spec : {M : Type 1} → statement M
 refit_spec =

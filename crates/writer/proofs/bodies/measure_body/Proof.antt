@@ -40,7 +40,7 @@ measure_references_requires c κs =
     let at_plan = at_small.before.before.before in
     let s = start at_plan in
     let a = s.args in
-    references_puttable a.name.now a.names.now a.rest.now a.deviations.now a.fields s.pre
+    references_puttable a.name.now a.names.now a.rest.now a.deviations.now a.fields s.requires
 
 returns : tie.Need-returns
 returns c =

@@ -9,15 +9,15 @@ use Rattle.writer.proofs.bodies.measure_references.Statement.{statement}
 use Rattle.writer.proofs.bodies.measure_references.Tie as tie
 
 measure_packed_requires : tie.Need-measure_packed-requires
-measure_packed_requires c κs = rw c.before.fields-1.given.1 at c.before.before.before.before.requires
+measure_packed_requires c κs = rw c.before.in-Table.is at c.before.before.before.before.requires
 
 returns : tie.Need-returns-in-Table
-returns c = rw c.before.before.fields-1.given.1 c.measure_packed.ensures
+returns c = rw c.before.before.in-Table.is c.measure_packed.ensures
 
 returns_2 : tie.Need-returns-in_default
 returns_2 c =
     let a = c.before.before.args in
-    rw (no_references a.fields a.deviations.now c.in_default.keys2) (inl (sym (ap (λ (z : Pen). z.at) (pen_nil a.mode a.pen))))
+    rw (no_references a.fields a.deviations.now c.in_default.in_default-own.keys2) (inl (sym (ap (λ (z : Pen). z.at) (pen_nil a.mode a.pen))))
 
 pub measure_references_spec : {M : Type 1} → statement M
 measure_references_spec =

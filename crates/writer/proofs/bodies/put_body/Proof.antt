@@ -33,7 +33,7 @@ all_left : (c : tie.After-plan_of-plan) → let a = (start c).args in
 all_left c =
     let s = start c in
     let a = s.args in
-    same_list (c.plan_of-plan.ensures.body a.deviations.now) (begin a.mode a.pen (body s) a.buffer.now s.pre.1)
+    same_list (c.plan_of-plan.ensures.body a.deviations.now) (begin a.mode a.pen (body s) a.buffer.now s.requires.1)
 
 -- and after them
 abbrev planned : tie.After-put_pieces-next → tie.After-plan_of-plan
@@ -80,7 +80,7 @@ put_references_requires c κs =
     let at_pieces = c.before.before.before in
     let s = start (planned at_pieces) in
     let a = s.args in
-    (references_puttable a.name.now a.names.now a.rest.now a.deviations.now a.fields s.pre.0, rest_lies (references_left at_pieces))
+    (references_puttable a.name.now a.names.now a.rest.now a.deviations.now a.fields s.requires.0, rest_lies (references_left at_pieces))
 
 returns : tie.Need-returns
 returns c =

@@ -9,18 +9,18 @@ use Rattle.writer.proofs.bodies.put_references.Tie as tie
 put_packed_requires : tie.Need-put_packed-requires
 put_packed_requires c κs =
     let at_fields = c.before.before in
-    rw at_fields.fields-1.given.1 at at_fields.before.before.before.before.requires
+    rw at_fields.in-Table.is at at_fields.before.before.before.before.requires
 
 returns : tie.Need-returns-in-Table
 returns c =
     let at_put = c.before.before in
-    rw at_put.before.before.before.fields-1.given.1 at_put.put_packed.ensures
+    rw at_put.before.before.before.in-Table.is at_put.put_packed.ensures
 
 returns_2 : tie.Need-returns-in_default
 unfolding unsync
 returns_2 c =
     let a = c.before.before.before.args in
-    rw (no_references a.fields a.deviations.now c.in_default.keys2, pen_nil a.mode a.pen)
+    rw (no_references a.fields a.deviations.now c.in_default.in_default-own.keys2, pen_nil a.mode a.pen)
 
 pub put_references_spec : {M : Type 1} → statement M
 put_references_spec =

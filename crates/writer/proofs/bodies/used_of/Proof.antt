@@ -4,22 +4,22 @@ use Rattle.writer.proofs.bodies.used_of.Statement.{statement}
 use Rattle.writer.proofs.bodies.used_of.Tie as tie
 
 returns : tie.Need-returns-in-Text
-returns c = rw c.enum_told-1.given.1
+returns c = rw c.in-Text.is
 
 returns_2 : tie.Need-returns-in-Popularimeter
-returns_2 c = rw c.enum_told-in-Popularimeter-1.given.1
+returns_2 c = rw c.in-Popularimeter.is
 
 returns_3 : tie.Need-returns-in-Table
-returns_3 c = rw c.enum_told-in-Table-1.given.1
+returns_3 c = rw c.in-Table.is
 
 returns_4 : tie.Need-returns-in-Chapter
-returns_4 c = rw c.enum_told-in-Chapter-1.given.1
+returns_4 c = rw c.in-Chapter.is
 
 returns_5 : tie.Need-returns-in-Contents
-returns_5 c = rw c.enum_told-in-Contents-1.given.1
+returns_5 c = rw c.in-Contents.is
 
 returns_6 : tie.Need-returns-in-Raw
-returns_6 c = rw c.enum_told-in-Raw-1.given.1
+returns_6 c = rw c.in-Raw.is
 
 pub used_of_spec : {M : Type 1} → statement M
 used_of_spec =

@@ -14,12 +14,12 @@ frames_put_lem : (c : tie.After-put_zeros-arg-1) →
     let at_put = c.before.before in
     let at_frames = at_put.before.before.before.before in
     let a = (start at_frames).args in
-    Frames a.version a.mode a.padding (take a.used a.buffer.now) a.output.now at_frames.put_frames-put.ensures at_put.put-1.given.0.0
+    Frames a.version a.mode a.padding (take a.used a.buffer.now) a.output.now at_frames.put_frames-put.ensures at_put.in-Bytes.n
 frames_put_lem c =
     let at_put = c.before.before in
     let at_frames = at_put.before.before.before.before in
     let a = (start at_frames).args in
-    tag_frames a.version a.mode a.padding (take a.used a.buffer.now) a.output.now at_frames.put_frames-put.ensures at_put.put-1.given.1
+    tag_frames a.version a.mode a.padding (take a.used a.buffer.now) a.output.now at_frames.put_frames-put.ensures at_put.in-Bytes.is
 
 add_put_zeros : tie.Need-overflow_add-n
 add_put_zeros c = omega (arith, frames_put_lem c)
@@ -36,7 +36,7 @@ put_header_requires c κs =
     let at_put = at_zeros.before.before in
     let at_start = start at_put.before.before.before.before in
     let a = at_start.args in
-    omega (arith, frames_put_lem at_zeros, region_length a.version a.mode a.padding (take a.used a.buffer.now), at_start.pre)
+    omega (arith, frames_put_lem at_zeros, region_length a.version a.mode a.padding (take a.used a.buffer.now), at_start.requires)
 
 add_t16 : tie.Need-overflow_add-result
 add_t16 c =
@@ -62,7 +62,7 @@ returns_2 c =
     let at_put = c.before in
     let at_frames = at_put.before.before.before.before in
     let a = (start at_frames).args in
-    tag_refused a.version a.mode a.padding (take a.used a.buffer.now) a.output.now at_frames.put_frames-put.ensures at_put.put-in-Refused-1.given.1
+    tag_refused a.version a.mode a.padding (take a.used a.buffer.now) a.output.now at_frames.put_frames-put.ensures at_put.in-Refused.is
 
 pub put_tag_spec : {M : Type 1} → statement M
 put_tag_spec =

@@ -16,7 +16,7 @@ put_head_requires : tie.Need-put_head-behind-requires
 put_head_requires c κs =
     let s = start c in
     let a = s.args in
-    (head_lies a.version a.mode (given s) a.buffer.now a.at s.pre.3, s.pre.2)
+    (head_lies a.version a.mode (given s) a.buffer.now a.at s.requires.3, s.requires.2)
 
 put_body_requires : tie.Need-put_body-end-requires
 put_body_requires c κs =
@@ -24,7 +24,7 @@ put_body_requires c κs =
     let s = start at_head.before in
     let a = s.args in
     let h = at_head.put_head-behind in
-    (s.pre.0, body_lies a.version a.mode (given s) a.buffer.now a.at s.pre.1 h.ensures.0 h.ensures.1 c.body_mode.ensures s.pre.3)
+    (s.requires.0, body_lies a.version a.mode (given s) a.buffer.now a.at s.requires.1 h.ensures.0 h.ensures.1 c.body_mode.ensures s.requires.3)
 
 returns : tie.Need-returns
 returns c =
@@ -34,7 +34,7 @@ returns c =
     let s = start at_head.before in
     let a = s.args in
     let h = at_head.put_head-behind in
-    frame_put a.version a.mode (given s) a.buffer.now a.at s.pre.1 h.ensures.0 h.ensures.1 at_mode.body_mode.ensures at_body.put_body-end.ensures
+    frame_put a.version a.mode (given s) a.buffer.now a.at s.requires.1 h.ensures.0 h.ensures.1 at_mode.body_mode.ensures at_body.put_body-end.ensures
 
 pub put_frame_spec : {M : Type 1} → statement M
 put_frame_spec =

@@ -23,7 +23,7 @@ returns_3 : tie.Need-returns-in-Off
 returns_3 c =
     let at_len = c.before.before.before.before in
     let a = at_len.before.before.args in
-    inl (omega (arith, at_len.packed_len-n.ensures, ap length (off_bytes c.enum_told-1.given.1 a.pen.prev (pack a.v a.w a.ds.now))))
+    inl (omega (arith, at_len.packed_len-n.ensures, ap length (off_bytes c.in-Off.is a.pen.prev (pack a.v a.w a.ds.now))))
 
 returns_4 : tie.Need-returns-in-Crate
 returns_4 c = paced_sized c.pace_packed.ensures

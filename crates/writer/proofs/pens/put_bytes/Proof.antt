@@ -11,7 +11,7 @@ add_t13 c =
     let at_into = at_put.before.before.before.before in
     let at_start = at_into.before.before.before.before in
     let a = at_start.args in
-    omega (arith, count_put a.mode a.pen a.s.now a.buffer.now at_start.requires at_into.unsync_into-put.ensures at_put.put-1.given.1, at_start.requires)
+    omega (arith, count_put a.mode a.pen a.s.now a.buffer.now at_start.requires at_into.unsync_into-put.ensures at_put.in-Bytes.is, at_start.requires)
 
 returns : tie.Need-returns-in-Bytes
 returns c =
@@ -19,14 +19,14 @@ returns c =
     let at_into = at_put.before.before.before.before in
     let at_start = at_into.before.before.before.before in
     let a = at_start.args in
-    bytes_put a.mode a.pen a.s.now a.buffer.now at_start.requires at_into.unsync_into-put.ensures at_put.put-1.given.1 c.ends_ff.ensures
+    bytes_put a.mode a.pen a.s.now a.buffer.now at_start.requires at_into.unsync_into-put.ensures at_put.in-Bytes.is c.ends_ff.ensures
 
 returns_2 : tie.Need-returns-in-Refused
 returns_2 c =
     let at_into = c.before.before.before.before in
     let at_start = at_into.before.before.before.before in
     let a = at_start.args in
-    absurd (not_refused a.mode a.pen a.s.now a.buffer.now at_start.requires at_into.unsync_into-put.ensures c.enum_told-1.given.1)
+    absurd (not_refused a.mode a.pen a.s.now a.buffer.now at_start.requires at_into.unsync_into-put.ensures c.in-Refused.is)
 
 pub put_bytes_spec : {M : Type 1} → statement M
 put_bytes_spec =
