@@ -8,14 +8,14 @@ use Rattle.lines.proofs.put_detail.Tie as tie
 put_requires : tie.Need-put-behind_word-requires
 put_requires c κs =
     let f = c.before.before.before in
-    let s = f.before.before.before.before in
+    let s = f.before.before.before in
     front _ _ (rw f.in-Popularimeter.is at s.requires)
 
 put_hex_requires : tie.Need-put_hex-behind_user-requires
 put_hex_requires c κs =
     let k1 = c.before.before.before in
     let f = k1.before.before.before.before in
-    let s = f.before.before.before.before in
+    let s = f.before.before.before in
     front _ _ (room_left k1.put-behind_word.ensures (rw f.in-Popularimeter.is at s.requires))
 
 put_numbered_requires : tie.Need-put_numbered-behind_rating-requires

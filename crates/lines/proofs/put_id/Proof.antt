@@ -9,7 +9,7 @@ use Rattle.lines.proofs.put_id.Tie as tie
 put_requires : tie.Need-put-requires
 put_requires c κs =
     let at_enum_told = c.before.before.before in
-    let at_start = at_enum_told.before.before.before in
+    let at_start = at_enum_told.before in
     rw (at_enum_told.in-Id3v22.is, ← three_bytes at_start.args.id) at at_start.requires
 
 put_requires_2 : tie.Need-put-requires-in_default

@@ -10,8 +10,8 @@ returns : tie.Need-returns
 returns c =
     let at_stored = c.before.before in
     let at_copy = at_stored.before.before.before.before in
-    let a = at_copy.before.before.before.before.args in
-    by_way a.s.now (replicate 64 0) at_copy.copy.new.0 a.from a.at a.n (omega arith) (omega arith) at_copy.copy.ensures at_stored.copy-2.ensures
+    let a = at_copy.before.before.before.args in
+    by_way a.s.now (replicate 64 0) at_copy.copy.new.buffer a.from a.at a.n (omega arith) (omega arith) at_copy.copy.ensures at_stored.copy-2.ensures
 
 pub move_block_spec : {M : Type 1} → statement M
 move_block_spec =

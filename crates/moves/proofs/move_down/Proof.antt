@@ -32,7 +32,7 @@ move_block_requires_2 : tie.Need-move_block-requires-2 invariant_loop decreases_
 move_block_requires_2 c κs = omega (arith, c.before.before.loop-k.invariant.1.storing.long)
 
 same_length : tie.Need-shape_of-s invariant_loop decreases_loop
-same_length c = let at_block = c.before.before in at_block.move_block-2.auto.0 ∙ at_block.before.before.before.loop-k.invariant.1.storing.long
+same_length c = let at_block = c.before.before in at_block.move_block-2.auto.s ∙ at_block.before.before.before.loop-k.invariant.1.storing.long
 
 returns : tie.Need-returns invariant_loop decreases_loop
 returns c =

@@ -56,14 +56,14 @@ stored_all : (c : tie.After-slice_known-then-fits-1) →
     let at_end = at_fits.before.before in
     let a = (start at_end).args in
     (a.at ≤ at_edit.edit.result)
-    × ◌≡◌ {A = Out} (Put.Bytes (at_edit.edit.result - a.at), at_edit.edit.new.0) (put_of a.k (whole (start at_end)) a.at a.buf.now)
+    × ◌≡◌ {A = Out} (Put.Bytes (at_edit.edit.result - a.at), at_edit.edit.new.buf) (put_of a.k (whole (start at_end)) a.at a.buf.now)
 stored_all c =
     let at_edit = c.before.before in
     let at_fits = at_edit.before.before.before in
     let at_end = at_fits.before.before in
     let a = (start at_end).args in
     put_all a.k (whole (start at_end)) a.at a.buf.now (omega arith) _ (cut at_end) at_fits.fits.result at_fits.fits.ensures
-    at_edit.before.before.if-fits.true at_edit.edit.result at_edit.edit.new.0 at_edit.edit.ensures
+    at_edit.before.before.if-fits.true at_edit.edit.result at_edit.edit.new.buf at_edit.edit.ensures
 
 sub_t16 : tie.Need-overflow_sub-result
 sub_t16 c = (stored_all c).0

@@ -54,7 +54,7 @@ cut c =
     ∙ ap resynchronised (slice_before a.from a.to a.split at_end.least-end.result a.area.now (at_end.least-end.ensures ∙ ap (min a.to) at_end.before.least-mid.ensures))
 
 fits_requires : tie.Need-fits-requires
-fits_requires c κs = (omega arith, known_resync _ c.before.resync_by-how.ensures)
+fits_requires c κs = (omega arith, known_resync _ c.resync_by-how.ensures)
 
 edit_in_requires : tie.Need-edit_in-requires
 edit_in_requires c κs =

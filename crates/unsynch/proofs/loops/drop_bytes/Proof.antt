@@ -60,7 +60,7 @@ drop_last_requires c κs = (omega arith, lies c.before.before.loop-i.invariant.2
 same_length : tie.Need-shape_of-buf invariant_loop decreases_loop
 same_length c =
     let at_last = c.before.before in
-    at_last.drop_last.auto.0 ∙ at_last.before.before.before.loop-i.invariant.2.long
+    at_last.drop_last.auto.buf ∙ at_last.before.before.before.loop-i.invariant.2.long
 
 returns : tie.Need-returns invariant_loop decreases_loop
 returns c =

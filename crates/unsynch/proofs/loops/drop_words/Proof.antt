@@ -51,7 +51,7 @@ loop_again c =
     let at_loop = at_test.before.before.before in
     let a = at_loop.before.before.before.args in
     let L = at_loop.loop-i in
-    let t = (piece resync_by a.s.now L.i (L.i + 8) a.to (omega arith) (omega arith) (omega arith) L.invariant.2).1 stores.result stores.new.0 stores.ensures in
+    let t = (piece resync_by a.s.now L.i (L.i + 8) a.to (omega arith) (omega arith) (omega arith) L.invariant.2).1 stores.result stores.new.buf stores.ensures in
     (omega arith, omega arith, t.1)
 
 loop_again_2 : tie.Need-loop-i-preserved invariant_loop decreases_loop
@@ -62,7 +62,7 @@ loop_again_2 c =
     let at_loop = at_test.before.before.before in
     let a = at_loop.before.before.before.args in
     let L = at_loop.loop-i in
-    let t = (block resync_by a.s.now L.i 8 a.to (omega arith) (omega arith) (alone at_test.before at_test.if-any_ff.false) L.invariant.2).1 stores.result stores.new.0 stores.ensures in
+    let t = (block resync_by a.s.now L.i 8 a.to (omega arith) (omega arith) (alone at_test.before at_test.if-any_ff.false) L.invariant.2).1 stores.result stores.new.buf stores.ensures in
     (omega arith, omega arith, t)
 
 drop_bytes_requires_2 : tie.Need-drop_bytes-requires invariant_loop decreases_loop
@@ -71,7 +71,7 @@ drop_bytes_requires_2 c κs = (omega arith, lies c.before.before.loop-i.invarian
 same_length : tie.Need-shape_of-buf invariant_loop decreases_loop
 same_length c =
     let at_last = c.before.before in
-    at_last.drop_bytes.auto.0 ∙ at_last.before.before.before.loop-i.invariant.2.long
+    at_last.drop_bytes.auto.buf ∙ at_last.before.before.before.loop-i.invariant.2.long
 
 returns : tie.Need-returns invariant_loop decreases_loop
 returns c =

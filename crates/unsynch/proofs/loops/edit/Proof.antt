@@ -36,7 +36,7 @@ edit_after_requires c κs =
 same_length : tie.Need-shape_of-buf-then-how
 same_length c =
     let at_edit = c.before.before in
-    at_edit.edit_after.auto.0 ∙ (put (first at_edit.before.before.before)).long
+    at_edit.edit_after.auto.buf ∙ (put (first at_edit.before.before.before)).long
 
 returns : tie.Need-returns-then-how
 returns c =
@@ -51,7 +51,7 @@ edit_by_byte_requires c κs =
 same_length_2 : tie.Need-shape_of-buf
 same_length_2 c =
     let at_edit = c.before.before in
-    at_edit.edit_by_byte.auto.0 ∙ (put (first at_edit.before.before.before)).long
+    at_edit.edit_by_byte.auto.buf ∙ (put (first at_edit.before.before.before)).long
 
 returns_2 : tie.Need-returns
 returns_2 c =

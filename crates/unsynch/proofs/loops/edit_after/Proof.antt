@@ -36,7 +36,7 @@ loop_again c =
     let L = at_loop.loop-i in
     let alone = sym at_hits.hits.ensures ∙ at_test.if-hits-eq0.true in
     let stores = c.before.before.copy_behind-o in
-    let t = (block a.how a.s.now L.i 64 a.to (omega arith) (omega arith) alone L.invariant.4).1 stores.result stores.new.0 stores.ensures in
+    let t = (block a.how a.s.now L.i 64 a.to (omega arith) (omega arith) alone L.invariant.4).1 stores.result stores.new.buf stores.ensures in
     (omega arith, omega arith, omega arith, omega arith, t)
 
 edit_by_byte_requires : tie.Need-edit_by_byte-o-requires invariant_loop decreases_loop
@@ -47,7 +47,7 @@ edit_by_byte_requires c κs =
     let a = at_start.args in
     let L = at_loop.loop-i in
     let last = L.i + at_least_lem.least.result in
-    (omega arith, ((piece a.how a.s.now L.i last a.to (omega arith) (omega arith) (omega arith) L.invariant.4).0, at_start.requires.to_in_bounds.1))
+    (omega arith, ((piece a.how a.s.now L.i last a.to (omega arith) (omega arith) (omega arith) L.invariant.4).0, at_start.requires.1.1))
 
 loop_again_2 : tie.Need-loop-i-preserved invariant_loop decreases_loop
 loop_again_2 c =
@@ -58,18 +58,18 @@ loop_again_2 c =
     let L = at_loop.loop-i in
     let last = L.i + at_least_lem.least.result in
     let stores = at_store.edit_by_byte-o in
-    let t = (piece a.how a.s.now L.i last a.to (omega arith) (omega arith) (omega arith) L.invariant.4).1 stores.result stores.new.0 stores.ensures in
+    let t = (piece a.how a.s.now L.i last a.to (omega arith) (omega arith) (omega arith) L.invariant.4).1 stores.result stores.new.buf stores.ensures in
     (omega arith, omega arith, omega arith, omega arith, t.1)
 
 edit_by_byte_requires_2 : tie.Need-edit_by_byte-requires invariant_loop decreases_loop
 edit_by_byte_requires_2 c κs =
     let at_loop = c.before.before in
-    (omega arith, (lies at_loop.loop-i.invariant.4, at_loop.before.before.before.requires.to_in_bounds.1))
+    (omega arith, (lies at_loop.loop-i.invariant.4, at_loop.before.before.before.requires.1.1))
 
 same_length : tie.Need-shape_of-buf invariant_loop decreases_loop
 same_length c =
     let at_last = c.before.before in
-    at_last.edit_by_byte.auto.0 ∙ at_last.before.before.before.loop-i.invariant.4.long
+    at_last.edit_by_byte.auto.buf ∙ at_last.before.before.before.loop-i.invariant.4.long
 
 returns : tie.Need-returns invariant_loop decreases_loop
 returns c =

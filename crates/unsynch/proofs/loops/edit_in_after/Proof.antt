@@ -28,7 +28,7 @@ edit_chunk_requires c κs =
     let at_start = at_loop.before.before in
     let a = at_start.args in
     let L = at_loop.loop-i in
-    (omega (arith, L.invariant.4.long), ((piece_in a.how a.area.now L.i (L.i + c.before.least.result) a.to (omega arith) (omega arith) (omega arith) a.at (omega arith) (omega arith) L.invariant.2 L.invariant.4.long L.invariant.3 L.invariant.4).0, at_start.requires.to_in_bounds.1))
+    (omega (arith, L.invariant.4.long), ((piece_in a.how a.area.now L.i (L.i + c.before.least.result) a.to (omega arith) (omega arith) (omega arith) a.at (omega arith) (omega arith) L.invariant.2 L.invariant.4.long L.invariant.3 L.invariant.4).0, at_start.requires.1.1))
 
 loop_again : tie.Need-loop-i-preserved invariant_loop decreases_loop
 loop_again c =

@@ -24,7 +24,7 @@ returns c =
     let part = slice a.from a.to a.s.now in
     let long = length-slice a.from a.to a.s.now (omega arith) in
     let most : length (edited a.how false part) ≤ a.room =
-    omega (arith, length_most a.how at_start.requires.known part, ap (λ (n : ℕ). pick (a.how.insert && a.how.zero) (n + n) n) long) in
+    omega (arith, length_most a.how at_start.requires.1 part, ap (λ (n : ℕ). pick (a.how.insert && a.how.zero) (n + n) n) long) in
     sym (le-leb _ _ most)
 
 returns_2 : tie.Need-returns

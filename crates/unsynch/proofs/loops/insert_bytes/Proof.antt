@@ -25,7 +25,7 @@ decreases_loop buf₀ at s from to top o₀ i₀ buf o i = to - i
 same : (c : tie.After-either-top invariant_loop decreases_loop) → c.before.before.before.args.how ≡ guard_by c.either-top.result
 same c =
     let at_start = c.before.before.before in
-    guards_by _ _ at_start.requires.from_lt_to.2 at_start.requires.from_lt_to.3 c.either-top.ensures
+    guards_by _ _ at_start.requires.0.2 at_start.requires.0.3 c.either-top.ensures
 
 -- the stores lie in the buffer, and leave what is to be left
 turn : (c : tie.After-bit invariant_loop decreases_loop)

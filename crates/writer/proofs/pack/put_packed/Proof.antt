@@ -24,9 +24,9 @@ loop_holds c =
     let s = c.before.before.before in
     let a = s.args in
     let e = start_left a.v a.w a.ds.now in (
-      start_ready a.v a.w a.ds.now s.requires.packable,
+      start_ready a.v a.w a.ds.now s.requires.0,
       omega (arith, ap length e, c.packed_len-n.ensures),
-      same_list (sym e) (begin a.mode a.pen (pack a.v a.w a.ds.now) a.buffer.now s.requires.ds_in_bounds),
+      same_list (sym e) (begin a.mode a.pen (pack a.v a.w a.ds.now) a.buffer.now s.requires.1),
     )
 
 next_byte_requires : tie.Need-next_byte-step-requires invariant_loop decreases_loop
