@@ -8,7 +8,7 @@ use lib.ListN.{length, take, get_or}
 use lib.Seq.{slice, length-slice, sets, length-sets}
 use lib.Dec.{eqb, leb, ltb}
 use borrow.Author.Tests.{eqb-true, not-false, le-ltb}
-use Rattle.laws.proofs.Bools.{or-false as both_false, false_not_true, and_true, and_false}
+use Rattle.laws.proofs.Bools.{or_false as both_false, false_not_true, and_true, and_false}
 use Rattle.laws.proofs.Slices.{slice_none, slice_next, slice_front}
 use Rattle.laws.proofs.Stores.{slice_copy}
 use Rattle.format.specs.Bytes.{pick, only_if}
