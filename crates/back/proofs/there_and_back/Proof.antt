@@ -20,48 +20,32 @@ given c =
 
 slice_reshare_prefix_read_one : tie.Need-slice_bounds-read_one-end
 slice_reshare_prefix_read_one c =
-    let at_wrote = c.before.before in
-    let at_output = at_wrote.before.before.before in
-    let at_write_one = at_output.before.before.before in
-    let a = (at_start at_write_one).args in
-    let w = at_write_one.write_one-wrote.ensures in
-    tag_within a.version a.mode a.padding (given at_write_one) a.buffer-1.now a.output-1.now a.work-1.now w.0 at_wrote.in-Tag.is
+    let a = (at_start c.before.before.before.before.before.before).args in
+    let w = c.before.before.before.before.before.before.write_one-wrote.ensures in
+    tag_within a.version a.mode a.padding (given c.before.before.before.before.before.before) a.buffer-1.now a.output-1.now a.work-1.now w.0 c.before.in-Tag.is
 
 slice_aggregate_read_one : tie.Need-slice_bounds-read_one-end-in-Tag
 slice_aggregate_read_one c =
-    let at_wrote = c.before.before.before in
-    let at_output = at_wrote.before.before.before in
-    let at_write_one = at_output.before.before.before in
-    let a = (at_start at_write_one).args in
-    sym (length-take-le _ at_write_one.write_one-wrote.new.1.0 (tag_within a.version a.mode a.padding (given at_write_one) a.buffer-1.now a.output-1.now a.work-1.now at_write_one.write_one-wrote.ensures.0 at_wrote.in-Tag.is))
+    let a = (at_start c.before.before.before.before.before.before).args in
+    sym (length-take-le _ c.before.before.before.before.before.before.write_one-wrote.new.1.0 (tag_within a.version a.mode a.padding (given c.before.before.before.before.before.before) a.buffer-1.now a.output-1.now a.work-1.now c.before.before.before.before.before.before.write_one-wrote.ensures.0 c.before.in-Tag.is))
 
 returns : tie.Need-returns-in-One
 returns c =
-    let behind_read_one = c.before.before.before.before in
-    let behind_wrote = behind_read_one.before.before.before.before in
-    let at_output = behind_wrote.before.before.before.before in
-    let at_write_one = at_output.before.before.before in
-    let a = (at_start at_write_one).args in
-    let w = at_write_one.write_one-wrote.ensures in
-    back_read a.version a.mode a.padding (given at_write_one) a.buffer-1.now a.output-1.now a.work-1.now w.0 w.1 behind_wrote.before.in-Tag.is c.before.in-One.is behind_read_one.before.read_one-only.ensures
+    let a = (at_start c.before.before.before.before.before.before.before.before.before.before).args in
+    let w = c.before.before.before.before.before.before.before.before.before.before.write_one-wrote.ensures in
+    back_read a.version a.mode a.padding (given c.before.before.before.before.before.before.before.before.before.before) a.buffer-1.now a.output-1.now a.work-1.now w.0 w.1 c.before.before.before.before.before.in-Tag.is c.in-One.is c.before.before.before.read_one-only.ensures
 
 returns_2 : tie.Need-returns-in-Other
 returns_2 c =
-    let at_read_one = c.before.before.before.before in
-    let at_wrote = at_read_one.before.before.before.before in
-    let at_output = at_wrote.before.before.before in
-    let at_write_one = at_output.before.before.before in
-    let a = (at_start at_write_one).args in
-    let w = at_write_one.write_one-wrote.ensures in
-    back_read a.version a.mode a.padding (given at_write_one) a.buffer-1.now a.output-1.now a.work-1.now w.0 w.1 at_wrote.in-Tag.is c.in-Other.is at_read_one.read_one-only.ensures
+    let a = (at_start c.before.before.before.before.before.before.before.before.before.before).args in
+    let w = c.before.before.before.before.before.before.before.before.before.before.write_one-wrote.ensures in
+    back_read a.version a.mode a.padding (given c.before.before.before.before.before.before.before.before.before.before) a.buffer-1.now a.output-1.now a.work-1.now w.0 w.1 c.before.before.before.before.before.in-Tag.is c.in-Other.is c.before.before.before.read_one-only.ensures
 
 returns_3 : tie.Need-returns-in-Refused
 returns_3 c =
-    let at_output = c.before.before.before.before in
-    let at_write_one = at_output.before.before.before in
-    let a = (at_start at_write_one).args in
-    let w = at_write_one.write_one-wrote.ensures in
-    back_refused a.version a.mode a.padding (given at_write_one) a.buffer-1.now a.output-1.now a.work-1.now w.0 c.before.in-Refused.is
+    let a = (at_start c.before.before.before.before.before).args in
+    let w = c.before.before.before.before.before.write_one-wrote.ensures in
+    back_refused a.version a.mode a.padding (given c.before.before.before.before.before) a.buffer-1.now a.output-1.now a.work-1.now w.0 c.in-Refused.is
 
 pub there_and_back_spec : {M : Type 1} → statement M
 there_and_back_spec =

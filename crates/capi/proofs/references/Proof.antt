@@ -8,15 +8,11 @@ use Rattle.capi.proofs.references.Tie as tie
 
 returns : tie.Need-returns-in-Table
 returns c =
-    let at_unpacked = c.before.before in
-    let at_table = at_unpacked.before.before.before in
-    let at_start = at_table.before.before.before.before in
-    rw (at_table.in-Table.is, ← take-length at_start.args.rest.now) at_unpacked.unpack.ensures
+    rw (c.before.before.before.before.in-Table.is, ← take-length c.before.before.before.before.before.before.before.args.rest.now) c.before.before.unpack.ensures
 
 returns_2 : tie.Need-returns-in_default
 returns_2 c =
-    let at_start = c.before.before.before in
-    let a = at_start.args in sym (no_references a.fields a.rest.now a.out.now c.in_default.in_default-own.keys2)
+    let a = c.before.before.before.args in sym (no_references a.fields a.rest.now a.out.now c.in_default.in_default-own.keys2)
 
 pub references_spec : {M : Type 1} → statement M
 references_spec =

@@ -5,11 +5,10 @@ use Rattle.capi.proofs.store_begun.Tie as tie
 
 returns : tie.Need-returns-in-Ready
 returns c =
-    let at_before = c.before.before.before in
-    let at_match = at_before.before in rw (at_match.before.in-Ready.is, c.before.before.store_writer.ensures)
+    rw (c.before.before.before.before.in-Ready.is, c.before.before.store_writer.ensures)
 
 returns_2 : tie.Need-returns-in-Refused
-returns_2 c = rw c.before.in-Refused.is
+returns_2 c = rw c.in-Refused.is
 
 pub store_begun_spec : {M : Type 1} → statement M
 store_begun_spec =

@@ -4,10 +4,10 @@ use Rattle.capi.proofs.store_raised.Statement.{statement}
 use Rattle.capi.proofs.store_raised.Tie as tie
 
 returns : tie.Need-returns-in-Counts
-returns c = rw c.before.in-Counts.is
+returns c = rw c.in-Counts.is
 
 returns_2 : tie.Need-returns-in-Refused
-returns_2 c = rw c.before.in-Refused.is
+returns_2 c = rw c.in-Refused.is
 
 pub store_raised_spec : {M : Type 1} → statement M
 store_raised_spec =

@@ -33,10 +33,9 @@ at_words c = (at_writer c).before.before
 answer_picks : (c : tie.After-slice_known-4-1) {r : Added} → c.before.before.add-added.result ≡ r
     → let a = (given (at_words c)).args in sv_add a.«record».now a.name.now a.names.now a.rest.now a.deviations.now a.buffer-1.now a.writer-1.now a.count.now ≡ after_add (r, c.before.before.add-added.new.1.0) a.writer-1.now a.count.now
 answer_picks c h =
-    let at_add = c.before.before in
     let w = sym (at_writer c).load-writer.ensures ∙ (at_heading c).before.before.state.given.1 in
-    let g = sym (at_heading c).load-heading.ensures ∙ at_add.before.before.before.in-Good-given.is in
-    add_then _ _ _ _ _ _ _ _ (at_words c).if1.false w g at_add.add-added.ensures.0 h
+    let g = sym (at_heading c).load-heading.ensures ∙ c.before.before.before.before.in-Good-given.is in
+    add_then _ _ _ _ _ _ _ _ (at_words c).if1.false w g c.before.before.add-added.ensures.0 h
 
 -- ---- the needs
 
@@ -51,37 +50,32 @@ load_writer_requires c κs = (room c.before).1.0
 
 returns_2 : tie.Need-returns-in_default
 returns_2 c =
-    let at_load = c.before.before in
-    sym (add_bad _ _ _ _ _ _ _ _ at_load.before.before.if-record-writer.false (sym at_load.load_writer-state.ensures ∙ c.in_default.is))
+    sym (add_bad _ _ _ _ _ _ _ _ c.before.before.if-record-writer.false (sym c.before.load_writer-state.ensures ∙ c.in_default.is))
 
 load_heading_requires : tie.Need-load_heading-given-requires
 load_heading_requires c κs = let at_load = c.before.before.before in (room at_load.before.before).0
 
 returns_3 : tie.Need-returns-in_default-given
 returns_3 c =
-    let at_state = c.before.before.before.before in
-    let at_load = at_state.before.before in
-    sym (add_none _ _ _ _ _ _ _ _ at_load.before.before.if-record-writer.false (sym at_load.load_writer-state.ensures ∙ at_state.in-Good.is) (sym c.before.before.load_heading-given.ensures ∙ c.in_default-given.is))
+    sym (add_none _ _ _ _ _ _ _ _ c.before.before.before.before.if-record-writer.false (sym c.before.before.before.load_writer-state.ensures ∙ c.before.before.in-Good.is) (sym c.before.load_heading-given.ensures ∙ c.in_default-given.is))
 
 store_writer_requires : tie.Need-store_writer-requires
-store_writer_requires c κs = let at_answer = c.before.before.before.before in (room (at_words at_answer)).1.0
+store_writer_requires c κs = (room (at_words c.before.before)).1.0
 
 slice_write_count_2 : tie.Need-bounds-count-0-in-Accepted
 slice_write_count_2 c =
-    let at_stored = c.before.before.before in
-    let at_answer = at_stored.before.before.before.before in
-    let h = (room (at_words at_answer)).1.1 in
+    let h = (room (at_words c.before.before.before.before.before)).1.1 in
     simp length-set (omega arith)
 
 returns_4 : tie.Need-returns-in-Accepted
 returns_4 c =
     let at_stored = c.before.before in
     let at_accepted = at_stored.before.before.before in
-    let e = answer_picks at_accepted.before.before at_accepted.in-Accepted.is in
-    rw set-set (cc (e, at_stored.store_writer.ensures))
+    let e = answer_picks at_accepted.before.before c.before.before.before.before.in-Accepted.is in
+    rw set-set (cc (e, c.before.before.store_writer.ensures))
 
 returns_5 : tie.Need-returns-in-Refused
-returns_5 c = sym (answer_picks c.before.before.before c.before.in-Refused.is)
+returns_5 c = sym (answer_picks c.before.before.before c.in-Refused.is)
 
 pub sv_add_spec : {M : Type 1} → statement M
 sv_add_spec =

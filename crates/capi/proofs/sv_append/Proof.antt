@@ -10,9 +10,7 @@ returns c = sym (append_short _ _ _ _ _ _ c.if-record-lt-RECORD_WORDS.true)
 
 returns_2 : tie.Need-returns
 returns_2 c =
-    let at_append = c.before.before.before in
-    let at_heading = at_append.before.before in
-    append_then _ _ _ _ _ _ at_heading.before.if-record-lt-RECORD_WORDS.false at_heading.heading_in-heading.ensures at_append.append-edited.ensures.0 c.number_of_lem.ensures
+    append_then _ _ _ _ _ _ c.before.before.before.before.before.before.if-record-lt-RECORD_WORDS.false c.before.before.before.before.before.heading_in-heading.ensures c.before.before.before.append-edited.ensures.0 c.number_of.ensures
 
 pub sv_append_spec : {M : Type 1} → statement M
 sv_append_spec =

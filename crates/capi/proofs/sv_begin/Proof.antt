@@ -12,16 +12,14 @@ returns_2 : tie.Need-returns-then-altered-gt1
 returns_2 c = sym (begin_altered _ _ _ _ c.before.if-writer-lt-WRITER_WORDS.false c.if-altered-gt1.true)
 
 returns_3 : tie.Need-returns-then-version-gt4
-returns_3 c = let at_altered = c.before in sym (begin_version _ _ _ _ at_altered.before.if-writer-lt-WRITER_WORDS.false at_altered.if-altered-gt1.false c.if-version-gt4.true)
+returns_3 c = sym (begin_version _ _ _ _ c.before.before.if-writer-lt-WRITER_WORDS.false c.before.if-altered-gt1.false c.if-version-gt4.true)
 
 returns_4 : tie.Need-returns-then-mode-gt2
-returns_4 c = let at_altered = c.before.before in sym (begin_mode _ _ _ _ at_altered.before.if-writer-lt-WRITER_WORDS.false at_altered.if-altered-gt1.false c.if-mode-gt2.true)
+returns_4 c = sym (begin_mode _ _ _ _ c.before.before.before.if-writer-lt-WRITER_WORDS.false c.before.before.if-altered-gt1.false c.if-mode-gt2.true)
 
 returns_5 : tie.Need-returns
 returns_5 c =
-    let at_begin = c.before.before.before.before in
-    let at_altered = at_begin.before.before.before in
-    c.before.before.store_begun.ensures ∙ sym (begin_then _ _ _ _ at_altered.before.if-writer-lt-WRITER_WORDS.false at_altered.if-altered-gt1.false (sym at_begin.begin-begun.ensures))
+    c.before.before.store_begun.ensures ∙ sym (begin_then _ _ _ _ c.before.before.before.before.before.before.before.before.if-writer-lt-WRITER_WORDS.false c.before.before.before.before.before.before.before.if-altered-gt1.false (sym c.before.before.before.before.begin-begun.ensures))
 
 pub sv_begin_spec : {M : Type 1} → statement M
 sv_begin_spec =

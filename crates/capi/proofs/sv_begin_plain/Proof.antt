@@ -14,8 +14,7 @@ returns_2 c = sym (begin_version _ 0 0 _ c.before.if-writer-lt-WRITER_WORDS.fals
 
 returns_3 : tie.Need-returns
 returns_3 c =
-    let at_begin = c.before.before.before.before in
-    c.before.before.store_begun.ensures ∙ sym (begin_then _ 0 0 _ at_begin.before.before.if-writer-lt-WRITER_WORDS.false (omega arith) (sym at_begin.begin_plain-begun.ensures))
+    c.before.before.store_begun.ensures ∙ sym (begin_then _ 0 0 _ c.before.before.before.before.before.before.if-writer-lt-WRITER_WORDS.false (omega arith) (sym c.before.before.before.before.begin_plain-begun.ensures))
 
 pub sv_begin_plain_spec : {M : Type 1} → statement M
 sv_begin_plain_spec =

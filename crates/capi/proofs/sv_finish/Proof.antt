@@ -30,8 +30,7 @@ at_words c = (at_loaded c).before
 answer_picks : (c : tie.After-slice_known-3-1) {r : Finished} → c.before.before.finish-finished.result ≡ r
     → let a = (given (at_words c)).args in sv_finish a.padding a.buffer.now a.output-1.now a.writer.now a.count.now ≡ after_finish (r, c.before.before.finish-finished.new.1.0) a.count.now
 answer_picks c h =
-    let at_finish = c.before.before in
-    finish_then _ _ _ _ _ (at_words c).if1.false (sym (at_loaded c).load-writer.ensures ∙ at_finish.before.before.before.in-Good.is) at_finish.finish-finished.ensures h
+    finish_then _ _ _ _ _ (at_words c).if1.false (sym (at_loaded c).load-writer.ensures ∙ c.before.before.before.before.in-Good.is) c.before.before.finish-finished.ensures h
 
 -- ---- the needs
 
@@ -46,17 +45,16 @@ load_writer_requires c κs = (room c).0
 
 returns_2 : tie.Need-returns-in_default
 returns_2 c =
-    let at_load = c.before.before in
-    sym (finish_bad _ _ _ _ _ at_load.before.if-writer-count.false (sym at_load.load_writer-state.ensures ∙ c.in_default.is))
+    sym (finish_bad _ _ _ _ _ c.before.before.if-writer-count.false (sym c.before.load_writer-state.ensures ∙ c.in_default.is))
 
 slice_write_count_2 : tie.Need-bounds-count-0-in-Done
 slice_write_count_2 c = let h = (room (at_words c.before.before.before)).1 in simp length-set (omega arith)
 
 returns_3 : tie.Need-returns-in-Done
-returns_3 c = rw set-set (sym (answer_picks c.before.before.before c.before.in-Done.is))
+returns_3 c = rw set-set (sym (answer_picks c.before.before.before c.in-Done.is))
 
 returns_4 : tie.Need-returns-in-Refused
-returns_4 c = sym (answer_picks c.before.before.before c.before.in-Refused.is)
+returns_4 c = sym (answer_picks c.before.before.before c.in-Refused.is)
 
 pub sv_finish_spec : {M : Type 1} → statement M
 sv_finish_spec =

@@ -10,15 +10,11 @@ returns c = sym (header_short _ _ c.if-header-lt-HEADER_WORDS.true)
 
 returns_2 : tie.Need-returns-in-Found
 returns_2 c =
-    let at_stored = c.before.before in
-    let at_found = at_stored.before.before.before in
-    let at_header = at_found.before.before in
-    rw at_stored.store_header.ensures (sym (header_then _ _ at_header.before.if-header-lt-HEADER_WORDS.false (sym at_header.header-headed.ensures ∙ at_found.in-Found.is)))
+    rw c.before.before.store_header.ensures (sym (header_then _ _ c.before.before.before.before.before.before.if-header-lt-HEADER_WORDS.false (sym c.before.before.before.before.before.header-headed.ensures ∙ c.before.before.before.before.in-Found.is)))
 
 returns_3 : tie.Need-returns-in-Refused
 returns_3 c =
-    let at_header = c.before.before.before in
-    sym (header_then _ _ at_header.before.if-header-lt-HEADER_WORDS.false (sym at_header.header-headed.ensures ∙ c.before.in-Refused.is))
+    sym (header_then _ _ c.before.before.if-header-lt-HEADER_WORDS.false (sym c.before.header-headed.ensures ∙ c.in-Refused.is))
 
 pub sv_header_spec : {M : Type 1} → statement M
 sv_header_spec =

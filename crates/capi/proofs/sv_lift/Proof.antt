@@ -10,9 +10,7 @@ returns c = sym (lift_short _ _ _ _ c.if-counter-lt-COUNTER_WORDS.true)
 
 returns_2 : tie.Need-returns
 returns_2 c =
-    let at_stored = c.before.before in
-    let at_lift = at_stored.before.before.before.before in
-    lift_then _ _ _ _ at_lift.before.before.if-counter-lt-COUNTER_WORDS.false at_stored.store_raised.ensures at_lift.lift-raised.ensures
+    lift_then _ _ _ _ c.before.before.before.before.before.before.before.before.if-counter-lt-COUNTER_WORDS.false c.before.before.store_raised.ensures c.before.before.before.before.before.before.lift-raised.ensures
 
 pub sv_lift_spec : {M : Type 1} → statement M
 sv_lift_spec =

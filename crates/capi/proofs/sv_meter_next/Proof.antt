@@ -43,18 +43,15 @@ stopped_requires c κs = let at_Stops = c.before in (room at_Stops.before.before
 
 returns_2 : tie.Need-returns-then-not-is_running
 returns_2 c =
-    let at_Stops = c.before.before in
-    let t = at_Stops.before.before.before in
-    rw c.stopped.ensures (sym (next_stopped _ _ _ _ t.if-meter-metered.false (sym at_Stops.before.is_running.ensures ∙ not-true _ at_Stops.if-not-is_running.true-raw)))
+    rw c.stopped.ensures (sym (next_stopped _ _ _ _ c.before.before.before.if-meter-metered.false (sym c.before.before.is_running.ensures ∙ not-true _ c.before.if-not-is_running.true-raw)))
 
 slice_read_version_in : tie.Need-bounds-meter-0
 slice_read_version_in c = let at_runs = c.before in let h = room at_runs.before.before.before in omega (arith, h.0)
 
 returns_3 : tie.Need-returns-in_default
 returns_3 c =
-    let at_version = c.before.before in
-    let t = at_words at_version in
-    sym (next_unknown _ _ _ _ t.if-meter-metered.left (bad_version (word 0 (given t).args.meter.now) (sym at_version.version_in-given.ensures ∙ c.in_default.is)))
+    let t = at_words c.before in
+    sym (next_unknown _ _ _ _ t.if-meter-metered.left (bad_version (word 0 (given t).args.meter.now) (sym c.before.version_in-given.ensures ∙ c.in_default.is)))
 
 running_requires : tie.Need-running-requires
 running_requires c κs = (room (at_words c.before.before.before.before)).0
@@ -68,18 +65,12 @@ answered_requires c κs =
 
 returns_4 : tie.Need-returns
 returns_4 c =
-    let at_answered = c.before.before.before.before in
-    let at_lent = at_answered.before.before.before in
-    let at_next = at_lent.before.before in
-    let at_running = at_next.before.before in
-    let at_good = at_running.before.before.before in
-    let at_version = at_good.before.before in
-    let t = at_words at_version in
+    let t = at_words c.before.before.before.before.before.before.before.before.before.before.before.before.before in
     let a = (given t).args in
-    let v = good_version (word 0 a.meter-1.now) (sym at_version.version_in-given.ensures ∙ at_good.in-Good.is) in
-    let m = at_running.running.ensures ∙ ap (λ (z : Version). meter_with z Stop.running a.meter-1.now) v.1 in
-    let n = at_next.next-next.ensures ∙ ap (λ (z : Meter). next_of z a.tag.now a.work-1.now) m in
-    next_then _ _ _ _ t.if-meter-metered.left v.0 (sym (at_runs at_version).before.is-running.ensures ∙ not-false _ (at_runs at_version).if2.false) n at_answered.answered.ensures
+    let v = good_version (word 0 a.meter-1.now) (sym c.before.before.before.before.before.before.before.before.before.before.before.before.before.version_in-given.ensures ∙ c.before.before.before.before.before.before.before.before.before.before.before.before.in-Good.is) in
+    let m = c.before.before.before.before.before.before.before.before.before.before.before.running.ensures ∙ ap (λ (z : Version). meter_with z Stop.running a.meter-1.now) v.1 in
+    let n = c.before.before.before.before.before.before.before.before.before.next-next.ensures ∙ ap (λ (z : Meter). next_of z a.tag.now a.work-1.now) m in
+    next_then _ _ _ _ t.if-meter-metered.left v.0 (sym (at_runs c.before.before.before.before.before.before.before.before.before.before.before.before.before).before.is-running.ensures ∙ not-false _ (at_runs c.before.before.before.before.before.before.before.before.before.before.before.before.before).if2.false) n c.before.before.before.before.answered.ensures
 
 pub sv_meter_next_spec : {M : Type 1} → statement M
 sv_meter_next_spec =

@@ -13,15 +13,13 @@ returns_2 c =
     let at_stored = c.before.before in
     let at_ready = at_stored.before.before.before in
     let at_open = at_ready.before.before.before.before in
-    let at_words = at_open.before.before in
-    rw at_stored.store_opened.ensures (sym (open_ready _ _ _ at_words.if-meter-lt-METER_WORDS.false at_open.«open».ensures at_ready.in-Ready.is))
+    rw c.before.before.store_opened.ensures (sym (open_ready _ _ _ c.before.before.before.before.before.before.before.before.before.if-meter-lt-METER_WORDS.false at_open.«open».ensures c.before.before.before.before.in-Ready.is))
 
 returns_3 : tie.Need-returns-in-Refused
 returns_3 c =
     let at_refused = c.before in
     let at_open = at_refused.before.before.before.before in
-    let at_words = at_open.before.before in
-    sym (open_refused _ _ _ at_words.if-meter-lt-METER_WORDS.false at_open.«open».ensures at_refused.in-Refused.is)
+    sym (open_refused _ _ _ c.before.before.before.before.before.if-meter-lt-METER_WORDS.false at_open.«open».ensures c.in-Refused.is)
 
 pub sv_meter_open_spec : {M : Type 1} → statement M
 sv_meter_open_spec =

@@ -10,9 +10,7 @@ returns c = sym (raise_short _ _ _ _ c.if-counter-lt-COUNTER_WORDS.true)
 
 returns_2 : tie.Need-returns
 returns_2 c =
-    let at_stored = c.before.before in
-    let at_raise = at_stored.before.before.before.before in
-    raise_then _ _ _ _ at_raise.before.before.if-counter-lt-COUNTER_WORDS.false at_stored.store_raised.ensures at_raise.raise-raised.ensures
+    raise_then _ _ _ _ c.before.before.before.before.before.before.before.before.if-counter-lt-COUNTER_WORDS.false c.before.before.store_raised.ensures c.before.before.before.before.before.before.raise-raised.ensures
 
 pub sv_raise_spec : {M : Type 1} → statement M
 sv_raise_spec =

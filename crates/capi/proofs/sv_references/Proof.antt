@@ -30,8 +30,7 @@ at_words c = (at_loaded c).before
 answer_picks : (c : tie.After-slice_known-3-1) {o : Unpacked} → c.before.before.references-put.result ≡ o
     → let a = (given (at_words c)).args in sv_references a.«record».now a.rest.now a.deviations-1.now a.count.now ≡ after_unpack (o, c.before.before.references-put.new.0) a.count.now
 answer_picks c h =
-    let at_put = c.before.before in
-    references_then _ _ _ _ (at_words c).if1.false (sym (at_loaded c).load-heading.ensures ∙ at_put.before.before.before.in-Good.is) at_put.references-put.ensures h
+    references_then _ _ _ _ (at_words c).if1.false (sym (at_loaded c).load-heading.ensures ∙ c.before.before.before.before.in-Good.is) c.before.before.references-put.ensures h
 
 -- ---- the needs
 
@@ -46,17 +45,16 @@ load_heading_requires c κs = (room c).0
 
 returns_2 : tie.Need-returns-in_default
 returns_2 c =
-    let at_load = c.before.before in
-    sym (references_bad _ _ _ _ at_load.before.if-record-count.false (sym at_load.load_heading-given.ensures ∙ c.in_default.is))
+    sym (references_bad _ _ _ _ c.before.before.if-record-count.false (sym c.before.load_heading-given.ensures ∙ c.in_default.is))
 
 slice_write_count_2 : tie.Need-bounds-count-0-in-Numbers
 slice_write_count_2 c = let h = (room (at_words c.before.before.before)).1 in simp length-set (omega arith)
 
 returns_3 : tie.Need-returns-in-Numbers
-returns_3 c = rw set-set (sym (answer_picks c.before.before.before c.before.in-Numbers.is))
+returns_3 c = rw set-set (sym (answer_picks c.before.before.before c.in-Numbers.is))
 
 returns_4 : tie.Need-returns-in-Refused
-returns_4 c = sym (answer_picks c.before.before.before c.before.in-Refused.is)
+returns_4 c = sym (answer_picks c.before.before.before c.in-Refused.is)
 
 pub sv_references_spec : {M : Type 1} → statement M
 sv_references_spec =

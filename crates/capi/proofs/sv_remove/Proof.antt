@@ -7,7 +7,7 @@ use Rattle.capi.proofs.sv_remove.Tie as tie
 
 returns : tie.Need-returns
 unfolding sv_remove
-returns c = edit_then c.number_of_lem.ensures c.before.before.before.remove-edited.ensures
+returns c = edit_then c.number_of.ensures c.before.before.before.remove-edited.ensures
 
 pub sv_remove_spec : {M : Type 1} → statement M
 sv_remove_spec = tie.close (tie.spec (λ c κs. search rules) (λ c κs. search rules) (λ c. search rules) returns)

@@ -10,9 +10,7 @@ returns c = sym (replace_short _ _ _ _ _ _ _ c.if-record-lt-RECORD_WORDS.true)
 
 returns_2 : tie.Need-returns
 returns_2 c =
-    let at_replace = c.before.before.before in
-    let at_heading = at_replace.before.before in
-    replace_then _ _ _ _ _ _ _ at_heading.before.if-record-lt-RECORD_WORDS.false at_heading.heading_in-heading.ensures at_replace.replace-edited.ensures.0 c.number_of_lem.ensures
+    replace_then _ _ _ _ _ _ _ c.before.before.before.before.before.before.if-record-lt-RECORD_WORDS.false c.before.before.before.before.before.heading_in-heading.ensures c.before.before.before.replace-edited.ensures.0 c.number_of.ensures
 
 pub sv_replace_spec : {M : Type 1} → statement M
 sv_replace_spec =

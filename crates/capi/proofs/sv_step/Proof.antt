@@ -29,8 +29,7 @@ at_words c = (at_loaded c).before.before
 answer_picks : (c : tie.After-slice_known-4-1) {s : Step} → c.before.before.step-step.result ≡ s
     → let a = (given (at_words c)).args in sv_step a.tag.now a.work-1.now a.reader-1.now a.«record».now ≡ after_step (s, c.before.before.step-step.new.1.0) a.reader-1.now a.«record».now
 answer_picks c h =
-    let at_step = c.before.before in
-    step_then _ _ _ _ (at_words c).if1.false (sym (at_loaded c).load-reader.ensures ∙ at_step.before.before.before.in-Good.is) at_step.step-step.ensures h
+    step_then _ _ _ _ (at_words c).if1.false (sym (at_loaded c).load-reader.ensures ∙ c.before.before.before.before.in-Good.is) c.before.before.step-step.ensures h
 
 -- ---- the needs
 
@@ -42,46 +41,43 @@ load_reader_requires c κs = (room c.before).0
 
 returns_2 : tie.Need-returns-in_default
 returns_2 c =
-    let at_load = c.before.before in
-    sym (step_bad _ _ _ _ at_load.before.before.if-reader-record.false (sym at_load.load_reader-given.ensures ∙ c.in_default.is))
+    sym (step_bad _ _ _ _ c.before.before.if-reader-record.false (sym c.before.load_reader-given.ensures ∙ c.in_default.is))
 
 store_reader_requires : tie.Need-store_reader-requires
-store_reader_requires c κs = let at_answer = c.before.before.before.before in let h = room (at_words at_answer) in omega (arith, h.0, h.1)
+store_reader_requires c κs = let h = room (at_words c.before.before) in omega (arith, h.0, h.1)
 
 store_record_requires : tie.Need-store_record-requires
 store_record_requires c κs =
-    let at_stored = c.before.before.before.before in
-    let at_answer = at_stored.before.before.before.before in
-    let h = room (at_words at_answer) in
+    let h = room (at_words c.before.before.before.before.before.before) in
     omega (arith, h.0, h.1)
 
 store_reader_requires_2 : tie.Need-store_reader-requires-in-End
-store_reader_requires_2 c κs = let at_answer = c.before.before.before.before in let h = room (at_words at_answer) in omega (arith, h.0, h.1)
+store_reader_requires_2 c κs = let h = room (at_words c.before.before) in omega (arith, h.0, h.1)
 
 store_reader_requires_3 : tie.Need-store_reader-requires-in-Refused
-store_reader_requires_3 c κs = let at_answer = c.before.before.before.before in let h = room (at_words at_answer) in omega (arith, h.0, h.1)
+store_reader_requires_3 c κs = let h = room (at_words c.before.before) in omega (arith, h.0, h.1)
 
 returns_3 : tie.Need-returns-in-Frame
 returns_3 c =
     let at_put = c.before.before in
     let at_stored = at_put.before.before.before.before in
     let at_frame = at_stored.before.before.before in
-    let e = answer_picks at_frame.before.before at_frame.in-Frame.is in
-    cc (e, at_stored.store_reader.ensures, at_put.store_record.ensures)
+    let e = answer_picks at_frame.before.before c.before.before.before.before.before.before.before.before.in-Frame.is in
+    cc (e, c.before.before.before.before.before.before.store_reader.ensures, c.before.before.store_record.ensures)
 
 returns_4 : tie.Need-returns-in-End
 returns_4 c =
     let at_stored = c.before.before in
     let at_end = at_stored.before.before.before in
-    let e = answer_picks at_end.before.before at_end.in-End.is in
-    cc (e, at_stored.store_reader-in-End.ensures)
+    let e = answer_picks at_end.before.before c.before.before.before.before.in-End.is in
+    cc (e, c.before.before.store_reader-in-End.ensures)
 
 returns_5 : tie.Need-returns-in-Refused
 returns_5 c =
     let at_stored = c.before.before in
     let at_refused = at_stored.before.before.before in
-    let e = answer_picks at_refused.before.before at_refused.in-Refused.is in
-    cc (e, at_stored.store_reader-in-Refused.ensures)
+    let e = answer_picks at_refused.before.before c.before.before.before.before.in-Refused.is in
+    cc (e, c.before.before.store_reader-in-Refused.ensures)
 
 pub sv_step_spec : {M : Type 1} → statement M
 sv_step_spec =

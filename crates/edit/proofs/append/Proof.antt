@@ -24,17 +24,13 @@ found c e = sym e ∙ c.locate-located.ensures
 returns : tie.Need-returns-in-Refused
 unfolding appended_of
 returns c =
-    let at_locate = c.before.before.before in
-    let a = (start at_locate).args in
-    (located_refused a.tag.now 0 (found at_locate c.before.in-Refused.is) _, fits (start at_locate))
+    let a = (start c.before).args in
+    (located_refused a.tag.now 0 (found c.before c.in-Refused.is) _, fits (start c.before))
 
 returns_2 : tie.Need-returns-in-Frames
 returns_2 c =
-    let at_put = c.before.before in
-    let at_located = at_put.before.before.before in
-    let at_locate = at_located.before.before in
-    let a = (start at_locate).args in
-    (at_put.put_between.ensures ∙ appended_found a.tag.now (known a.tag.now 0 (found at_locate at_located.in-Frames.is)) _, fits (start at_locate))
+    let a = (start c.before.before.before.before.before).args in
+    (c.before.before.put_between.ensures ∙ appended_found a.tag.now (known a.tag.now 0 (found c.before.before.before.before.before c.before.before.before.before.in-Frames.is)) _, fits (start c.before.before.before.before.before))
 
 pub append_spec : {M : Type 1} → statement M
 append_spec =

@@ -15,20 +15,16 @@ sought c e = sym e ∙ c.seek-sought.ensures
 
 returns : tie.Need-returns-in-Refused
 returns c =
-    let at_seek = c.before.before.before in
-    let a = at_seek.before.before.before.before.args in
+    let a = c.before.before.before.before.args in
     sym (lifted_sought a.tag.now a.user.now a.amount
-    ∙ ap (λ (x : Sought). lifted_by x a.user.now a.amount a.tag.now) (sym (sought at_seek c.before.in-Refused.is)))
+    ∙ ap (λ (x : Sought). lifted_by x a.user.now a.amount a.tag.now) (sym (sought c.before c.in-Refused.is)))
 
 returns_2 : tie.Need-returns-in-Counter
 returns_2 c =
-    let at_lifted = c.before.before in
-    let at_sought = at_lifted.before.before.before in
-    let at_seek = at_sought.before.before in
-    let a = at_seek.before.before.before.before.args in
-    at_lifted.lift_found.ensures
+    let a = c.before.before.before.before.before.before.before.before.args in
+    c.before.before.lift_found.ensures
     ∙ sym (lifted_sought a.tag.now a.user.now a.amount
-    ∙ ap (λ (x : Sought). lifted_by x a.user.now a.amount a.tag.now) (sym (sought at_seek at_sought.in-Counter.is)))
+    ∙ ap (λ (x : Sought). lifted_by x a.user.now a.amount a.tag.now) (sym (sought c.before.before.before.before.before c.before.before.before.before.in-Counter.is)))
 
 pub lift_spec : {M : Type 1} → statement M
 lift_spec =

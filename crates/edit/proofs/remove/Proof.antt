@@ -26,16 +26,15 @@ frames c = let a = (start c.before.before).args in known a.tag-1.now a.number (f
 returns : tie.Need-returns-in-Refused
 unfolding removed_of
 returns c =
-    let at_locate = c.before.before.before in
-    let a = (start at_locate).args in
-    located_refused a.tag-1.now a.number (found at_locate c.before.in-Refused.is) _
+    let a = (start c.before).args in
+    located_refused a.tag-1.now a.number (found c.before c.in-Refused.is) _
 
 returns_2 : tie.Need-returns-in-Before
 unfolding removed_of
 returns_2 c =
     let at_located = c.before.before.before in
     let a = (start at_located.before.before).args in
-    no_number a.tag-1.now a.number (frames at_located) c.in-Before.is _
+    no_number a.tag-1.now a.number (frames c.before) c.in-Before.is _
 
 returns_3 : tie.Need-returns-in-Frame
 returns_3 c =
@@ -43,7 +42,7 @@ returns_3 c =
     let at_aim = at_shift.before.before.before in
     let at_located = at_aim.before.before.before in
     let a = (start at_located.before.before).args in
-    ap {B = Edit} (λ (l : List ℕ). (Edited.Done, l)) at_shift.shift.ensures ∙ removed_found a.tag-1.now a.number (frames at_located) at_aim.in-Frame.is
+    ap {B = Edit} (λ (l : List ℕ). (Edited.Done, l)) c.before.before.shift.ensures ∙ removed_found a.tag-1.now a.number (frames c.before.before.before.before.before) c.before.before.before.before.in-Frame.is
 
 pub remove_spec : {M : Type 1} → statement M
 remove_spec =

@@ -29,16 +29,15 @@ frames c = let a = (start c.before.before).args in known a.tag.now a.number (fou
 returns : tie.Need-returns-in-Refused
 unfolding replaced_of
 returns c =
-    let at_locate = c.before.before.before in
-    let a = (start at_locate).args in
-    (located_refused a.tag.now a.number (found at_locate c.before.in-Refused.is) _, fits (start at_locate))
+    let a = (start c.before).args in
+    (located_refused a.tag.now a.number (found c.before c.in-Refused.is) _, fits (start c.before))
 
 returns_2 : tie.Need-returns-in-Before
 unfolding replaced_of
 returns_2 c =
     let at_located = c.before.before.before in
     let a = (start at_located.before.before).args in
-    (no_number a.tag.now a.number (frames at_located) c.in-Before.is _, fits (start at_located.before.before))
+    (no_number a.tag.now a.number (frames c.before) c.in-Before.is _, fits (start at_located.before.before))
 
 returns_3 : tie.Need-returns-in-Frame
 returns_3 c =
@@ -46,7 +45,7 @@ returns_3 c =
     let at_aim = at_put.before.before.before in
     let at_located = at_aim.before.before.before in
     let a = (start at_located.before.before).args in
-    (at_put.put_between.ensures ∙ replaced_found a.tag.now a.number (frames at_located) at_aim.in-Frame.is _, fits (start at_located.before.before))
+    (c.before.before.put_between.ensures ∙ replaced_found a.tag.now a.number (frames c.before.before.before.before.before) c.before.before.before.before.in-Frame.is _, fits (start at_located.before.before))
 
 pub replace_spec : {M : Type 1} → statement M
 replace_spec =

@@ -46,9 +46,8 @@ put_decimal_returns t c = in_words c.before.before.put_byte.ensures (one_digit _
 
 put_decimal_put_decimal_requires : (t : ℕ) → put-decimal-lts.Need-put_decimal-next-requires (calls t) (put_decimal_at t) put-decimal.Post
 put_decimal_put_decimal_requires t c κs =
-    let s = c.before.before.before in
-    let e : s.args.n ≡ t = s.requires.0 in
-    (omega arith, front _ _ (rw (← more_digits _ c.before.if-n-lt10.false s.ranges.n.fits) at s.requires.1))
+    let e : c.before.before.before.args.n ≡ t = c.before.before.before.requires.0 in
+    (omega arith, front _ _ (rw (← more_digits _ c.before.if-n-lt10.false c.before.before.before.ranges.n.fits) at c.before.before.before.requires.1))
 
 put_decimal_cast_put_byte_2 : (t : ℕ) → put-decimal-lts.Need-overflow_cast-n-2 (calls t) (put_decimal_at t) put-decimal.Post
 put_decimal_cast_put_byte_2 t c = search rules
@@ -58,19 +57,14 @@ put_decimal_add_put_byte_2 t c = search rules
 
 put_decimal_put_byte_requires_2 : (t : ℕ) → put-decimal-lts.Need-put_byte-requires-2 (calls t) (put_decimal_at t) put-decimal.Post
 put_decimal_put_byte_requires_2 t c κs =
-    let at_quotient = c.before.before.before in
-    let start = at_quotient.before.before.before.before in
-    room_left at_quotient.put_decimal-next.ensures (rw (← more_digits _ at_quotient.before.before.if-n-lt10.false start.ranges.n.fits) at start.requires.1)
+    room_left c.before.before.before.put_decimal-next.ensures (rw (← more_digits _ c.before.before.before.before.before.if-n-lt10.false c.before.before.before.before.before.before.before.ranges.n.fits) at c.before.before.before.before.before.before.before.requires.1)
 
 put_decimal_same_length_2 : (t : ℕ) → put-decimal-lts.Need-shape_of-out (calls t) (put_decimal_at t) put-decimal.Post
 put_decimal_same_length_2 t c = search rules
 
 put_decimal_returns_2 : (t : ℕ) → put-decimal-lts.Need-returns (calls t) (put_decimal_at t) put-decimal.Post
 put_decimal_returns_2 t c =
-    let at_digit = c.before.before in
-    let at_quotient = at_digit.before.before.before.before in
-    let start = at_quotient.before.before.before.before in
-    in_words (andthen at_quotient.put_decimal-next.ensures at_digit.put_byte-2.ensures) (more_digits _ at_quotient.before.before.if-n-lt10.false start.ranges.n.fits)
+    in_words (andthen c.before.before.before.before.before.before.put_decimal-next.ensures c.before.before.put_byte-2.ensures) (more_digits _ c.before.before.before.before.before.before.before.before.if-n-lt10.false c.before.before.before.before.before.before.before.before.before.before.ranges.n.fits)
 
 pub +put-decimal-spec : {M : Type 1} → statement M
 +put-decimal-spec = close μ-put-decimal λ t. put-decimal-lts.spec (calls t)

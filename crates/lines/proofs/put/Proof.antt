@@ -19,16 +19,13 @@ loop_holds c = let a = c.before.before.args in (omega arith, begin (λ l. l) ref
 
 put_byte_requires : tie.Need-put_byte-next-requires invariant_loop decreases_loop
 put_byte_requires c κs =
-    let at_loop = c.before.before.before in
-    let at_start = at_loop.before.before.before in
-    room (λ l. l) refl (λ a b. refl) at_start.args.bytes.now at_loop.loop-i.invariant.1 c.before.before.loop-i-test.true at_start.requires
+    room (λ l. l) refl (λ a b. refl) c.before.before.before.before.before.before.args.bytes.now c.before.before.before.loop-i.invariant.1 c.before.before.loop-i-test.true c.before.before.before.before.before.before.requires
 
 loop_again : tie.Need-loop-i-preserved invariant_loop decreases_loop
 loop_again c =
-    let at_put_byte = c.before.before in
-    let at_loop_test = at_put_byte.before.before.before in (
+    (
       omega arith,
-      turn (λ l. l) refl (λ a b. refl) at_loop_test.before.before.before.before.args.bytes.now at_loop_test.before.loop-i.invariant.1 at_loop_test.loop-i-test.true at_put_byte.put_byte-next.ensures,
+      turn (λ l. l) refl (λ a b. refl) c.before.before.before.before.before.before.before.before.before.args.bytes.now c.before.before.before.before.before.before.loop-i.invariant.1 c.before.before.before.before.before.loop-i-test.true c.before.before.put_byte-next.ensures,
     )
 
 same_length : tie.Need-shape_of-out invariant_loop decreases_loop

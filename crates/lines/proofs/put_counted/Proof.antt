@@ -9,14 +9,11 @@ put_numbered_requires c κs = front _ _ c.before.before.before.requires
 
 put_requires : tie.Need-put-requires
 put_requires c κs =
-    let at_put_numbered = c.before.before.before.before in
-    room_left at_put_numbered.put_numbered-next.ensures at_put_numbered.before.before.before.before.requires
+    room_left c.before.before.before.before.before.put_numbered-next.ensures c.before.before.before.before.before.before.before.before.before.requires
 
 returns : tie.Need-returns
 returns c =
-    let at_put = c.before.before in
-    let behind_put_numbered = at_put.before.before.before.before in
-    andthen behind_put_numbered.before.put_numbered-next.ensures at_put.put.ensures
+    andthen c.before.before.before.before.before.before.before.before.put_numbered-next.ensures c.before.before.put.ensures
 
 pub put_counted_spec : {M : Type 1} → statement M
 put_counted_spec =

@@ -5,63 +5,51 @@ use Rattle.lines.proofs.put_kind.Tie as tie
 
 put_requires : tie.Need-put-requires
 put_requires c κs =
-    let at_known = c.before.before.before.before in
-    rw c.before.before.in-Text.is at at_known.before.requires
+    rw c.before.before.before.in-Text.is at c.before.before.before.before.before.requires
 
 put_requires_2 : tie.Need-put-requires-in-Popularimeter
 put_requires_2 c κs =
-    let at_known = c.before.before.before.before in
-    rw c.before.before.in-Popularimeter.is at at_known.before.requires
+    rw c.before.before.before.in-Popularimeter.is at c.before.before.before.before.before.requires
 
 put_requires_3 : tie.Need-put-requires-in-Table
 put_requires_3 c κs =
-    let at_known = c.before.before.before.before in
-    rw c.before.before.in-Table.is at at_known.before.requires
+    rw c.before.before.before.in-Table.is at c.before.before.before.before.before.requires
 
 put_requires_4 : tie.Need-put-requires-in-Chapter
 put_requires_4 c κs =
-    let at_known = c.before.before.before.before in
-    rw c.before.before.in-Chapter.is at at_known.before.requires
+    rw c.before.before.before.in-Chapter.is at c.before.before.before.before.before.requires
 
 put_requires_5 : tie.Need-put-requires-in-Contents
 put_requires_5 c κs =
-    let at_known = c.before.before.before.before in
-    rw c.before.before.in-Contents.is at at_known.before.requires
+    rw c.before.before.before.in-Contents.is at c.before.before.before.before.before.requires
 
 put_requires_6 : tie.Need-put-requires-in-Raw
 put_requires_6 c κs =
-    let at_known = c.before.before.before.before in
-    rw c.before.before.in-Raw.is at at_known.before.requires
+    rw c.before.before.before.in-Raw.is at c.before.before.before.before.before.requires
 
 returns : tie.Need-returns-in-Text
 returns c =
-    let at_put = c.before.before in
-    rw at_put.before.before.before.in-Text.is at_put.put.ensures
+    rw c.before.before.before.before.before.before.in-Text.is c.before.before.put.ensures
 
 returns_2 : tie.Need-returns-in-Popularimeter
 returns_2 c =
-    let at_put2 = c.before.before in
-    rw at_put2.before.before.before.in-Popularimeter.is at_put2.put-in-Popularimeter.ensures
+    rw c.before.before.before.before.before.before.in-Popularimeter.is c.before.before.put-in-Popularimeter.ensures
 
 returns_3 : tie.Need-returns-in-Table
 returns_3 c =
-    let at_put3 = c.before.before in
-    rw at_put3.before.before.before.in-Table.is at_put3.put-in-Table.ensures
+    rw c.before.before.before.before.before.before.in-Table.is c.before.before.put-in-Table.ensures
 
 returns_4 : tie.Need-returns-in-Chapter
 returns_4 c =
-    let at_put4 = c.before.before in
-    rw at_put4.before.before.before.in-Chapter.is at_put4.put-in-Chapter.ensures
+    rw c.before.before.before.before.before.before.in-Chapter.is c.before.before.put-in-Chapter.ensures
 
 returns_5 : tie.Need-returns-in-Contents
 returns_5 c =
-    let at_put5 = c.before.before in
-    rw at_put5.before.before.before.in-Contents.is at_put5.put-in-Contents.ensures
+    rw c.before.before.before.before.before.before.in-Contents.is c.before.before.put-in-Contents.ensures
 
 returns_6 : tie.Need-returns-in-Raw
 returns_6 c =
-    let at_put6 = c.before.before in
-    rw at_put6.before.before.before.in-Raw.is at_put6.put-in-Raw.ensures
+    rw c.before.before.before.before.before.before.in-Raw.is c.before.before.put-in-Raw.ensures
 
 pub put_kind_spec : {M : Type 1} → statement M
 put_kind_spec =

@@ -9,13 +9,11 @@ put_requires c κs = front _ _ c.before.before.before.requires
 
 put_decimal_requires : tie.Need-put_decimal-requires
 put_decimal_requires c κs =
-    let at_put = c.before.before.before in
-    room_left at_put.put-next.ensures at_put.before.before.before.before.requires
+    room_left c.before.before.before.put-next.ensures c.before.before.before.before.before.before.before.requires
 
 returns : tie.Need-returns
 returns c =
-    let at_put_decimal = c.before.before in
-    andthen at_put_decimal.before.before.before.before.put-next.ensures at_put_decimal.put_decimal.ensures
+    andthen c.before.before.before.before.before.before.put-next.ensures c.before.before.put_decimal.ensures
 
 pub put_numbered_spec : {M : Type 1} → statement M
 put_numbered_spec = tie.close (tie.spec put_requires put_decimal_requires (λ c. search rules) returns)

@@ -13,15 +13,12 @@ put_byte_requires c κs = omega (arith, c.before.before.before.requires.below)
 put_byte_requires_2 : tie.Need-put_byte-requires
 unfolding hex_in
 put_byte_requires_2 c κs =
-    let at_put_byte = c.before.before.before.before in
-    omega (arith, at_put_byte.put_byte-next.ensures.next, at_put_byte.before.before.before.before.requires.below)
+    omega (arith, c.before.before.before.before.put_byte-next.ensures.next, c.before.before.before.before.before.before.before.before.requires.below)
 
 returns : tie.Need-returns
 unfolding hex_in
 returns c =
-    let at_hex_digit2 = c.before.before.before in
-    let at_put_byte = at_hex_digit2.before.before.before.before in
-    rw (← at_put_byte.before.hex_digit.ensures, ← at_hex_digit2.hex_digit-2.ensures) (andthen at_put_byte.put_byte-next.ensures c.before.before.put_byte.ensures)
+    rw (← c.before.before.before.before.before.before.before.before.hex_digit.ensures, ← c.before.before.before.hex_digit-2.ensures) (andthen c.before.before.before.before.before.before.before.put_byte-next.ensures c.before.before.put_byte.ensures)
 
 pub put_pair_spec : {M : Type 1} → statement M
 put_pair_spec =

@@ -20,16 +20,13 @@ loop_holds c = let a = c.before.before.args in (omega arith, begin hex_in no_pai
 
 put_pair_requires : tie.Need-put_pair-next-requires invariant_loop decreases_loop
 put_pair_requires c κs =
-    let at_loop = c.before.before.before in
-    let at_start = at_loop.before.before.before in
-    room hex_in no_pairs pairs_join at_start.args.bytes.now at_loop.loop-i.invariant.1 c.before.before.loop-i-test.true at_start.requires
+    room hex_in no_pairs pairs_join c.before.before.before.before.before.before.args.bytes.now c.before.before.before.loop-i.invariant.1 c.before.before.loop-i-test.true c.before.before.before.before.before.before.requires
 
 loop_again : tie.Need-loop-i-preserved invariant_loop decreases_loop
 loop_again c =
-    let at_put_pair = c.before.before in
-    let at_loop_test = at_put_pair.before.before.before in (
+    (
       omega arith,
-      turn hex_in no_pairs pairs_join at_loop_test.before.before.before.before.args.bytes.now at_loop_test.before.loop-i.invariant.1 at_loop_test.loop-i-test.true at_put_pair.put_pair-next.ensures,
+      turn hex_in no_pairs pairs_join c.before.before.before.before.before.before.before.before.before.args.bytes.now c.before.before.before.before.before.before.loop-i.invariant.1 c.before.before.before.before.before.loop-i-test.true c.before.before.put_pair-next.ensures,
     )
 
 same_length : tie.Need-shape_of-out invariant_loop decreases_loop

@@ -4,20 +4,18 @@ use Rattle.lines.proofs.put_short.Statement.{statement}
 use Rattle.lines.proofs.put_short.Tie as tie
 
 put_requires : tie.Need-put-requires
-put_requires c κs = rw c.before.before.if-short.true at c.before.before.before.before.requires
+put_requires c κs = rw c.before.before.before.if-short.true at c.before.before.before.before.before.requires
 
 put_requires_2 : tie.Need-put-requires-else-short
-put_requires_2 c κs = rw c.before.before.if-short.false at c.before.before.before.before.requires
+put_requires_2 c κs = rw c.before.before.before.if-short.false at c.before.before.before.before.before.requires
 
 returns : tie.Need-returns-then-short
 returns c =
-    let at_put = c.before.before in
-    rw at_put.before.before.before.if-short.true at_put.put.ensures
+    rw c.before.before.before.before.before.before.if-short.true c.before.before.put.ensures
 
 returns_2 : tie.Need-returns-else-short
 returns_2 c =
-    let at_put2 = c.before.before in
-    rw at_put2.before.before.before.if-short.false at_put2.put-else-short.ensures
+    rw c.before.before.before.before.before.before.if-short.false c.before.before.put-else-short.ensures
 
 pub put_short_spec : {M : Type 1} → statement M
 put_short_spec =

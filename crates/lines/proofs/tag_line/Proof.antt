@@ -20,25 +20,15 @@ put_tag_requires c κs =
 
 put_tag_requires_2 : tie.Need-put_tag-requires
 put_tag_requires_2 c κs =
-    let f = c.before.before in
-    let k1 = f.before.before.before in
-    let s = k1.before.before.before in
-    has (line s) s.args.at s.args.out.now k1.put_tag-len.ensures f.fits.ensures c.before.if-fits.true s.well_formed.0.0
+    has (line c.before.before.before.before.before.before.before.before) c.before.before.before.before.before.before.before.before.args.at c.before.before.before.before.before.before.before.before.args.out.now c.before.before.before.before.before.put_tag-len.ensures c.before.before.fits.ensures c.before.if-fits.true c.before.before.before.before.before.before.before.before.well_formed.0.0
 
 returns : tie.Need-returns-then-fits
 returns c =
-    let k2 = c.before.before in
-    let f = k2.before.before.before in
-    let k1 = f.before.before.before in
-    let s = k1.before.before.before in
-    whole (line s) s.args.at s.args.out.now k1.put_tag-len.ensures f.fits.ensures c.before.before.before.before.if-fits.true k2.put_tag.ensures
+    whole (line c.before.before.before.before.before.before.before.before.before.before.before) c.before.before.before.before.before.before.before.before.before.before.before.args.at c.before.before.before.before.before.before.before.before.before.before.before.args.out.now c.before.before.before.before.before.before.before.before.put_tag-len.ensures c.before.before.before.before.before.fits.ensures c.before.before.before.before.if-fits.true c.before.before.put_tag.ensures
 
 returns_2 : tie.Need-returns-else-fits
 returns_2 c =
-    let f = c.before in
-    let k1 = f.before.before.before in
-    let s = k1.before.before.before in
-    full (line s) s.args.at s.args.out.now k1.put_tag-len.ensures f.fits.ensures c.if-fits.false
+    full (line c.before.before.before.before.before.before.before) c.before.before.before.before.before.before.before.args.at c.before.before.before.before.before.before.before.args.out.now c.before.before.before.before.put_tag-len.ensures c.before.fits.ensures c.if-fits.false
 
 pub tag_line_spec : {M : Type 1} → statement M
 tag_line_spec =

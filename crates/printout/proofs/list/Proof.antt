@@ -7,16 +7,12 @@ use Rattle.printout.proofs.list.Tie as tie
 
 put_tag_requires : tie.Need-put_tag-requires
 put_tag_requires c κs =
-    let at_h = c.before.before.before in
-    sym at_h.before.before.header.ensures ∙ at_h.in-Found.is
+    sym c.before.before.before.header.ensures ∙ c.before.before.in-Found.is
 
 returns_2 : tie.Need-returns-in-Refused
 returns_2 c =
-    let at_refused_line = c.before.before in
-    let at_k = at_refused_line.before.before.before in
-    let at_header = at_k.before.before in
-    let a = at_header.before.before.before.before.args in
-    not_headed a.tag.now a.work.now a.out.now at_header.header.ensures at_k.in-Refused.is at_refused_line.refused_line.ensures
+    let a = c.before.before.before.before.before.before.before.before.before.args in
+    not_headed a.tag.now a.work.now a.out.now c.before.before.before.before.before.header.ensures c.before.before.before.before.in-Refused.is c.before.before.refused_line.ensures
 
 pub list_spec : {M : Type 1} → statement M
 list_spec =

@@ -21,30 +21,20 @@ loop_holds c =
 
 same_length : tie.Need-shape_of-work-in-Done invariant_loop decreases_loop
 same_length c =
-    let at_out = c.before.before.before.before in
-    let at_put_step = at_out.before.before.before in
-    at_put_step.put_step.auto.0 ∙ at_put_step.before.before.before.before.loop-number.invariant.works
+    c.before.before.before.before.before.put_step.auto.0 ∙ c.before.before.before.before.before.before.before.before.before.loop-number.invariant.works
 
 same_length_2 : tie.Need-shape_of-out-in-Done invariant_loop decreases_loop
 same_length_2 c =
-    let at_out = c.before.before.before.before in
-    let at_put_step = at_out.before.before.before in
-    at_put_step.put_step.auto.1.0 ∙ at_put_step.before.before.before.before.loop-number.invariant.outs
+    c.before.before.before.before.before.put_step.auto.1.0 ∙ c.before.before.before.before.before.before.before.before.before.loop-number.invariant.outs
 
 returns : tie.Need-returns-in-Done invariant_loop decreases_loop
 returns c =
-    let at_out = c.before.before.before.before in
-    let at_put_step = at_out.before.before.before in
-    let at_loop_test = at_put_step.before.before.before in
-    last at_loop_test.before.loop-number.invariant at_loop_test.loop-number-test.true at_put_step.put_step.ensures c.before.in-Done.is
+    last c.before.before.before.before.before.before.before.before.before.loop-number.invariant c.before.before.before.before.before.before.before.before.loop-number-test.true c.before.before.before.before.before.put_step.ensures c.in-Done.is
 
 loop_again : tie.Need-loop-number-preserved invariant_loop decreases_loop
 loop_again c =
-    let at_out = c.before.before.before.before in
-    let at_put_step = at_out.before.before.before in
-    let at_loop_test = at_put_step.before.before.before in
-    let p = at_put_step.put_step in
-    again at_loop_test.before.loop-number.invariant at_loop_test.loop-number-test.true p.ensures p.auto.0 p.auto.1.0 c.before.in-On.is
+    let p = c.before.before.before.before.before.put_step in
+    again c.before.before.before.before.before.before.before.before.before.loop-number.invariant c.before.before.before.before.before.before.before.before.loop-number-test.true p.ensures p.auto.0 p.auto.1.0 c.in-On.is
 
 same_length_3 : tie.Need-shape_of-work invariant_loop decreases_loop
 same_length_3 c = c.before.loop-number.invariant.works

@@ -6,12 +6,8 @@ use Rattle.printout.proofs.put_line.Tie as tie
 
 returns : tie.Need-returns
 returns c =
-    let at_line = c.before.before in
-    let at_to = at_line.before.before.before in
-    let at_from = at_to.before in
-    let at_known = at_from.before.before.before in
-    let a = at_known.before.before.before.args in
-    user_within a.version a.number a.r a.at a.out.now {o = at_line.frame_line.new.0} a.s.now at_from.least-from.ensures at_to.least.ensures at_line.frame_line.ensures
+    let a = c.before.before.before.before.before.before.before.before.before.before.before.before.args in
+    user_within a.version a.number a.r a.at a.out.now {o = c.before.before.frame_line.new.0} a.s.now c.before.before.before.before.before.before.least-from.ensures c.before.before.before.before.before.least.ensures c.before.before.frame_line.ensures
 
 pub put_line_spec : {M : Type 1} → statement M
 put_line_spec =

@@ -8,36 +8,25 @@ returns : tie.Need-returns-in-Upto
 returns c =
     let behind_put_record = c.before.before.before.before in
     let behind_record = behind_put_record.before.before.before.before in
-    let behind_step = behind_record.before.before.before.before in
-    let at_known = behind_step.before.before.before.before in
-    let a = at_known.before.before.args in
-    turn_on a.reader a.number a.at a.tag.now a.work.now a.out.now behind_step.before.step.ensures behind_record.before.«record».given.1 behind_put_record.before.put_record.ensures c.before.in-Upto.is
+    let a = c.before.before.before.before.before.before.before.before.before.before.before.before.before.args in
+    turn_on a.reader a.number a.at a.tag.now a.work.now a.out.now c.before.before.before.before.before.before.before.before.step.ensures behind_record.before.«record».given.1 c.before.before.before.put_record.ensures c.in-Upto.is
 
 returns_2 : tie.Need-returns-in-Full
 returns_2 c =
     let at_put_record = c.before.before.before.before in
     let at_record = at_put_record.before.before.before.before in
-    let at_step = at_record.before.before.before.before in
-    let at_known = at_step.before.before.before.before in
-    let a = at_known.before.args in
-    full a.reader a.number a.at a.tag.now a.work.now a.out.now at_step.step.ensures at_record.«record».given.1 at_put_record.put_record.ensures c.in-Full.is
+    let a = c.before.before.before.before.before.before.before.before.before.before.before.before.before.args in
+    full a.reader a.number a.at a.tag.now a.work.now a.out.now c.before.before.before.before.before.before.before.before.step.ensures at_record.«record».given.1 c.before.before.before.put_record.ensures c.in-Full.is
 
 returns_3 : tie.Need-returns-in-End
 returns_3 c =
-    let at_enum_told2 = c.before.before.before.before in
-    let at_step = at_enum_told2.before.before.before.before in
-    let at_known = at_step.before.before.before.before in
-    let a = at_known.before.args in
-    at_end a.reader a.number a.at a.tag.now a.work.now a.out.now at_step.step.ensures at_enum_told2.in-End.is c.before.before.end_line.ensures
+    let a = c.before.before.before.before.before.before.before.before.before.before.before.before.args in
+    at_end a.reader a.number a.at a.tag.now a.work.now a.out.now c.before.before.before.before.before.before.before.step.ensures c.before.before.before.before.in-End.is c.before.before.end_line.ensures
 
 returns_4 : tie.Need-returns-in-Refused
 returns_4 c =
-    let at_refused_line = c.before.before in
-    let at_k = at_refused_line.before.before.before in
-    let at_step = at_k.before.before.before.before in
-    let at_known = at_step.before.before.before.before in
-    let a = at_known.before.args in
-    at_refusal a.reader a.number a.at a.tag.now a.work.now a.out.now at_step.step.ensures at_k.in-Refused.is at_refused_line.refused_line.ensures
+    let a = c.before.before.before.before.before.before.before.before.before.before.before.before.args in
+    at_refusal a.reader a.number a.at a.tag.now a.work.now a.out.now c.before.before.before.before.before.before.before.step.ensures c.before.before.before.before.in-Refused.is c.before.before.refused_line.ensures
 
 pub put_step_spec : {M : Type 1} → statement M
 put_step_spec =

@@ -13,26 +13,21 @@ at_listed c = let at_lent = c.before.before.before in at_lent.before.before.befo
 
 slice_reshare_prefix_write_all : tie.Need-slice_bounds-write_all-end
 slice_reshare_prefix_write_all c =
-    let at_upto = c.before in
-    lines_within _ _ _ (at_listed at_upto).list.ensures at_upto.in-Upto.is
+    lines_within _ _ _ (at_listed c).list.ensures c.in-Upto.is
 
 slice_aggregate_write_all : tie.Need-slice_bounds-write_all-end-in-Upto
 slice_aggregate_write_all c =
-    let at_upto = c.before.before in
-    let at_list = at_listed at_upto in
-    let h = lines_within _ _ _ at_list.list.ensures at_upto.in-Upto.is in
-    omega (arith, length-take at_upto.in-Upto.n at_list.list.last.1.0)
+    let at_list = at_listed c in
+    let h = lines_within _ _ _ at_list.list.ensures c.in-Upto.is in
+    omega (arith, length-take c.in-Upto.n at_list.list.last.1.0)
 
 returns : tie.Need-returns-in-Upto
 returns c =
-    let at_upto = c.before.before.before in
-    ap (λ (o : Outcome). o.1) (at_listed at_upto).list.ensures
+    ap (λ (o : Outcome). o.1) (at_listed c.before).list.ensures
 
 returns_2 : tie.Need-returns-in-Full
 returns_2 c =
-    let at_lent = c.before.before.before in
-    let at_list = at_lent.before.before.before.before in
-    ap (λ (o : Outcome). o.1) at_list.list.ensures
+    ap (λ (o : Outcome). o.1) c.before.before.before.before.before.before.list.ensures
 
 pub show_spec : {M : Type 1} → statement M
 show_spec =

@@ -9,17 +9,12 @@ use Rattle.show.proofs.show_refused.Tie as tie
 
 array_share_prefix_line : tie.Need-slice_bounds-line-end
 array_share_prefix_line c =
-    let at_refused_line = c.before.before.before.before in
-    let at_start = at_refused_line.before.before in
-    line_within (refused_line at_start.args.number) 0 _ at_refused_line.refused_line.ensures c.before.in-Upto.is (omega arith)
+    line_within (refused_line c.before.before.before.before.args.number) 0 _ c.before.before.refused_line.ensures c.in-Upto.is (omega arith)
 
 slice_aggregate_write_all : tie.Need-slice_bounds-write_all-end
 slice_aggregate_write_all c =
-    let at_upto = c.before.before in
-    let at_refused_line = at_upto.before.before.before in
-    let at_start = at_refused_line.before.before in
-    let h = line_within (refused_line at_start.args.number) 0 _ at_refused_line.refused_line.ensures at_upto.in-Upto.is (omega arith) in
-    omega (arith, length-take at_upto.in-Upto.n at_refused_line.refused_line.new.0)
+    let h = line_within (refused_line c.before.before.before.before.before.args.number) 0 _ c.before.before.before.refused_line.ensures c.before.in-Upto.is (omega arith) in
+    omega (arith, length-take c.before.in-Upto.n c.before.before.before.refused_line.new.0)
 
 pub show_refused_spec : {M : Type 1} → statement M
 show_refused_spec =

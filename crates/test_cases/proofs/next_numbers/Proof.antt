@@ -20,8 +20,7 @@ loop_less c = omega (arith, ltb-true)
 
 loop_again : tie.Need-loop-i-preserved invariant_loop decreases_loop
 loop_again c =
-    let at_loop = c.before.before.before in
-    let L = at_loop.loop-i in
+    let L = c.before.before.before.loop-i in
     omega (arith, ltb-true, length-set L.space L.i c.next_u32.result)
 
 returns : tie.Need-returns-else-i-space invariant_loop decreases_loop

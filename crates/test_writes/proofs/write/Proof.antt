@@ -16,11 +16,8 @@ decreases_loop case space₀ n next₀ i₀ space next i = case.records - i
 
 loop_again : tie.Need-loop-i-preserved invariant_loop decreases_loop
 loop_again c =
-    let at_Added = c.before in
-    let at_lent = at_Added.before.before in
-    let at_loop = at_lent.before.before.before in
-    let L = at_loop.loop-i in
-    let h = length_front L.space at_Added.add_next-next.new.0 at_loop.before.count-n.result at_Added.add_next-next.auto.0 in
+    let L = c.before.before.before.before.before.before.loop-i in
+    let h = length_front L.space c.before.add_next-next.new.0 c.before.before.before.before.before.before.before.count-n.result c.before.add_next-next.auto.0 in
     (omega arith, (omega (arith, h), sym (length-take-le _ _ (omega (arith, h)))))
 
 pub write_spec : {M : Type 1} → statement M

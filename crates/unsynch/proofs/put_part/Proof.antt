@@ -21,9 +21,8 @@ whole s = let a = s.args in edited a.how false (slice a.from a.to a.s.now)
 
 returns : tie.Need-returns-then-buf-at
 returns c =
-    let at_start = c.before.before.before in
-    let a = at_start.args in
-    refused_place a.k (whole at_start) a.at a.buf.now c.if-buf-at.true
+    let a = c.before.before.before.args in
+    refused_place a.k (whole c.before.before.before) a.at a.buf.now c.if-buf-at.true
 
 -- where there are bytes: the arguments, and that what is there of them makes the whole
 abbrev start : tie.After-least-end → tie.Start
@@ -32,22 +31,19 @@ start c = c.before.before.before.before
 returns_2 : tie.Need-returns-then-end-from
 unfolding edited
 returns_2 c =
-    let at_end = c.before in
-    let at_start = start at_end in
+    let at_start = start c.before in
     let a = at_start.args in
     put_none a.k (whole at_start) a.at a.buf.now (omega arith)
-    (ap (edited a.how false) (slice_cut_none a.from a.to _ a.s.now at_end.least-end.ensures c.if-end-from.true))
+    (ap (edited a.how false) (slice_cut_none a.from a.to _ a.s.now c.before.least-end.ensures c.if-end-from.true))
 
 cut : (c : tie.After-least-end) → let a = (start c).args in edited a.how false (slice a.from c.least-end.result a.s.now) ≡ whole (start c)
 cut c = let a = (start c).args in ap (edited a.how false) (slice_cut a.from a.to _ a.s.now c.least-end.ensures)
 
 edit_requires : tie.Need-edit-requires
 edit_requires c κs =
-    let at_fits = c.before.before in
-    let at_end = at_fits.before.before in
-    let at_start = start at_end in
+    let at_start = start c.before.before.before.before in
     let a = at_start.args in
-    (omega arith, (put_fits a.k (whole at_start) a.at a.buf.now (omega arith) _ (cut at_end) at_fits.fits.result at_fits.fits.ensures c.before.if-fits.true, at_start.requires))
+    (omega arith, (put_fits a.k (whole at_start) a.at a.buf.now (omega arith) _ (cut c.before.before.before.before) c.before.before.fits.result c.before.before.fits.ensures c.before.if-fits.true, at_start.requires))
 
 -- all is stored
 stored_all : (c : tie.After-slice_known-then-fits-1) →
@@ -58,12 +54,9 @@ stored_all : (c : tie.After-slice_known-then-fits-1) →
     (a.at ≤ at_edit.edit.result)
     × ◌≡◌ {A = Out} (Put.Bytes (at_edit.edit.result - a.at), at_edit.edit.new.buf) (put_of a.k (whole (start at_end)) a.at a.buf.now)
 stored_all c =
-    let at_edit = c.before.before in
-    let at_fits = at_edit.before.before.before in
-    let at_end = at_fits.before.before in
-    let a = (start at_end).args in
-    put_all a.k (whole (start at_end)) a.at a.buf.now (omega arith) _ (cut at_end) at_fits.fits.result at_fits.fits.ensures
-    at_edit.before.before.if-fits.true at_edit.edit.result at_edit.edit.new.buf at_edit.edit.ensures
+    let a = (start c.before.before.before.before.before.before.before).args in
+    put_all a.k (whole (start c.before.before.before.before.before.before.before)) a.at a.buf.now (omega arith) _ (cut c.before.before.before.before.before.before.before) c.before.before.before.before.before.fits.result c.before.before.before.before.before.fits.ensures
+    c.before.before.before.before.if-fits.true c.before.before.edit.result c.before.before.edit.new.buf c.before.before.edit.ensures
 
 sub_t16 : tie.Need-overflow_sub-result
 sub_t16 c = (stored_all c).0
@@ -73,11 +66,9 @@ returns_3 c = (stored_all c).1
 
 returns_4 : tie.Need-returns
 returns_4 c =
-    let at_fits = c.before in
-    let at_end = at_fits.before.before in
-    let at_start = start at_end in
+    let at_start = start c.before.before.before in
     let a = at_start.args in
-    put_refused a.k (whole at_start) a.at a.buf.now (omega arith) _ (cut at_end) at_fits.fits.result at_fits.fits.ensures c.if-fits.false
+    put_refused a.k (whole at_start) a.at a.buf.now (omega arith) _ (cut c.before.before.before) c.before.fits.result c.before.fits.ensures c.if-fits.false
 
 pub put_part_spec : {M : Type 1} → statement M
 put_part_spec =

@@ -25,13 +25,11 @@ whole s = let a = s.args in resynchronised (slice a.from a.to (take a.split a.ar
 returns : tie.Need-returns-then-end-from
 unfolding resync
 returns c =
-    let at_end = c.before in
-    let mid = at_end.before.least-mid in
-    let at_start = at_end.before.before.before in
-    let a = at_start.args in
-    let none = slice_before_none a.from a.to a.split at_end.least-end.result a.area.now (at_end.least-end.ensures ∙ ap (min a.to) mid.ensures) c.if-end-from.true in
-    put_none 14 (whole at_start) mid.result a.area.now (omega arith) (ap resynchronised none)
-    ∙ in_room (whole at_start) a.split mid.result a.area.now mid.ensures
+    let mid = c.before.before.least-mid in
+    let a = c.before.before.before.before.args in
+    let none = slice_before_none a.from a.to a.split c.before.least-end.result a.area.now (c.before.least-end.ensures ∙ ap (min a.to) mid.ensures) c.if-end-from.true in
+    put_none 14 (whole c.before.before.before.before) mid.result a.area.now (omega arith) (ap resynchronised none)
+    ∙ in_room (whole c.before.before.before.before) a.split mid.result a.area.now mid.ensures
 
 -- where there are bytes: the arguments, and the room that begins at split
 abbrev start : tie.Else-end-from → tie.Start
@@ -46,12 +44,11 @@ cut : (c : tie.After-resync_by-how) →
     let a = (start c.before).args in
     edited c.resync_by-how.result false (slice a.from c.before.before.least-end.result a.area.now) ≡ whole (start c.before)
 cut c =
-    let at_end = c.before.before in
     let a = (start c.before).args in
-    let part = slice a.from at_end.least-end.result a.area.now in
+    let part = slice a.from c.before.before.least-end.result a.area.now in
     ap (λ (how : How). edited how false part) c.resync_by-how.ensures
     ∙ resyncs false part
-    ∙ ap resynchronised (slice_before a.from a.to a.split at_end.least-end.result a.area.now (at_end.least-end.ensures ∙ ap (min a.to) at_end.before.least-mid.ensures))
+    ∙ ap resynchronised (slice_before a.from a.to a.split c.before.before.least-end.result a.area.now (c.before.before.least-end.ensures ∙ ap (min a.to) c.before.before.before.least-mid.ensures))
 
 fits_requires : tie.Need-fits-requires
 fits_requires c κs = (omega arith, known_resync _ c.resync_by-how.ensures)
@@ -61,9 +58,9 @@ edit_in_requires c κs =
     let at_fits = c.before.before in
     let at_how = at_fits.before.before in
     let at_start = start at_how.before in
-    let mid = at_how.before.before.before.least-mid in
-    let room = put_fits 14 (whole at_start) mid.result at_start.args.area.now (omega arith) _ (cut at_how) at_fits.fits.result at_fits.fits.ensures c.before.if-fits.true in
-    (omega arith, (room, known_resync _ at_how.resync_by-how.ensures))
+    let mid = c.before.before.before.before.before.before.least-mid in
+    let room = put_fits 14 (whole at_start) mid.result at_start.args.area.now (omega arith) _ (cut c.before.before.before) c.before.before.fits.result c.before.before.fits.ensures c.before.if-fits.true in
+    (omega arith, (room, known_resync _ c.before.before.before.resync_by-how.ensures))
 
 -- all is stored
 stored_all : (c : tie.After-slice_known-then-fits-1) →
@@ -78,9 +75,9 @@ stored_all c =
     let at_fits = at_edit.before.before.before in
     let at_how = at_fits.before.before in
     let at_start = start at_how.before in
-    let mid = at_how.before.before.before.least-mid in
-    put_all 14 (whole at_start) mid.result at_start.args.area.now (omega arith) _ (cut at_how) at_fits.fits.result at_fits.fits.ensures
-    at_edit.before.before.if-fits.true at_edit.edit_in.result at_edit.edit_in.new.0 at_edit.edit_in.ensures
+    let mid = c.before.before.before.before.before.before.before.before.before.least-mid in
+    put_all 14 (whole at_start) mid.result at_start.args.area.now (omega arith) _ (cut c.before.before.before.before.before.before) c.before.before.before.before.before.fits.result c.before.before.before.before.before.fits.ensures
+    c.before.before.before.before.if-fits.true c.before.before.edit_in.result c.before.before.edit_in.new.0 c.before.before.edit_in.ensures
 
 sub_t17 : tie.Need-overflow_sub-result
 sub_t17 c = (stored_all c).0
@@ -96,8 +93,8 @@ returns_3 c =
     let at_fits = c.before in
     let at_how = at_fits.before.before in
     let at_start = start at_how.before in
-    let mid = at_how.before.before.before.least-mid in
-    put_refused 14 (whole at_start) mid.result at_start.args.area.now (omega arith) _ (cut at_how) at_fits.fits.result at_fits.fits.ensures c.if-fits.false
+    let mid = c.before.before.before.before.before.least-mid in
+    put_refused 14 (whole at_start) mid.result at_start.args.area.now (omega arith) _ (cut c.before.before) c.before.fits.result c.before.fits.ensures c.if-fits.false
     ∙ in_split at_how.before
 
 pub resync_in_spec : {M : Type 1} → statement M

@@ -19,8 +19,7 @@ is_led_requires c κs = ap (λ (how : How). how.insert) c.unsync_by-how.ensures
 
 put_led_requires : tie.Need-put_led-requires
 put_led_requires c κs =
-    let at_how = c.before.before.before in
-    known_unsync _ at_how.before.before.before.args.mode at_how.unsync_by-how.ensures
+    known_unsync _ c.before.before.before.before.before.before.args.mode c.before.before.before.unsync_by-how.ensures
 
 -- it was asked whether a 00 leads: the arguments, and what is put without it
 abbrev start : tie.After-is_led → tie.Start
@@ -44,19 +43,18 @@ returns c =
     let at_put = c.before.before in
     let at_test = at_put.before.before in
     let a = (start at_test.before).args in
-    at_put.put_led.ensures ∙ ap (λ (w : List ℕ). placed_of w a.at a.out-1.now) (made at_test.before _ at_test.if-is_led.true)
+    c.before.before.put_led.ensures ∙ ap (λ (w : List ℕ). placed_of w a.at a.out-1.now) (made at_test.before _ c.before.before.before.before.if-is_led.true)
 
 put_part_requires : tie.Need-put_part-requires
 put_part_requires c κs =
-    let at_how = c.before.before.before in
-    known_unsync _ at_how.before.before.before.args.mode at_how.unsync_by-how.ensures
+    known_unsync _ c.before.before.before.before.before.before.args.mode c.before.before.before.unsync_by-how.ensures
 
 returns_2 : tie.Need-returns
 returns_2 c =
     let at_put = c.before.before in
     let at_test = at_put.before.before in
     let a = (start at_test.before).args in
-    at_put.put_part.ensures ∙ ap (λ (w : List ℕ). placed_of w a.at a.out-1.now) (made at_test.before _ at_test.if-is_led.false)
+    c.before.before.put_part.ensures ∙ ap (λ (w : List ℕ). placed_of w a.at a.out-1.now) (made at_test.before _ c.before.before.before.before.if-is_led.false)
 
 pub unsync_into_spec : {M : Type 1} → statement M
 unsync_into_spec =

@@ -19,9 +19,8 @@ use Rattle.unsynch.proofs.unsync_len.Tie as tie
 returns : tie.Need-returns-then-end-from
 unfolding unsync
 returns c =
-    let at_end = c.before in
-    let a = at_end.before.before.before.args in
-    let none = slice_cut_none a.from a.to _ a.s.now at_end.least-end.ensures c.if-end-from.true in
+    let a = c.before.before.before.before.args in
+    let none = slice_cut_none a.from a.to _ a.s.now c.before.least-end.ensures c.if-end-from.true in
     sym (ap (λ (l : List ℕ). length (unsync (guards a.mode) a.prev l)) none)
 
 -- where there are bytes: those that are there, and how many they become
@@ -39,31 +38,23 @@ same_length c =
 
 returns_2 : tie.Need-returns-then-not-how
 returns_2 c =
-    let at_some = c.before.before in
-    let at_how = at_some.before.before in
-    let a = at_how.before.before.args in
+    let a = c.before.before.before.before.before.before.args in
     let off = not-true _ c.if-not-how.true in
-    let how = at_how.unsync_by-how in
-    let alone = untouched how.result off ((known_unsync how.result a.mode how.ensures).inserts off) a.prev (part at_some) in
-    omega (arith, ap length alone, same_length at_some, length-slice a.from at_some.before.least-end.result a.s.now (omega arith))
+    let how = c.before.before.before.before.unsync_by-how in
+    let alone = untouched how.result off ((known_unsync how.result a.mode how.ensures).inserts off) a.prev (part c.before.before) in
+    omega (arith, ap length alone, same_length c.before.before, length-slice a.from c.before.before.before.least-end.result a.s.now (omega arith))
 
 add_result : tie.Need-overflow_add-result
 add_result c =
-    let at_hit = c.before.before in
-    let at_some = at_hit.before.before.before.before in
-    let at_how = at_some.before.before in
-    let a = at_how.before.before.args in
-    let inserts = ap (λ (how : How). how.insert) at_how.unsync_by-how.ensures in
-    omega (arith, longer at_how.unsync_by-how.result inserts false (part at_some), hits_at_most at_how.unsync_by-how.result false (part at_some), length-slice a.from at_some.before.least-end.result a.s.now (omega arith), at_how.before.before.well_formed)
+    let a = c.before.before.before.before.before.before.before.before.before.before.args in
+    let inserts = ap (λ (how : How). how.insert) c.before.before.before.before.before.before.before.before.unsync_by-how.ensures in
+    omega (arith, longer c.before.before.before.before.before.before.before.before.unsync_by-how.result inserts false (part c.before.before.before.before.before.before), hits_at_most c.before.before.before.before.before.before.before.before.unsync_by-how.result false (part c.before.before.before.before.before.before), length-slice a.from c.before.before.before.before.before.before.before.least-end.result a.s.now (omega arith), c.before.before.before.before.before.before.before.before.before.before.well_formed)
 
 returns_3 : tie.Need-returns
 returns_3 c =
-    let at_hit = c.before.before in
-    let at_some = at_hit.before.before.before.before in
-    let at_how = at_some.before.before in
-    let a = at_how.before.before.args in
-    let inserts = ap (λ (how : How). how.insert) at_how.unsync_by-how.ensures in
-    omega (arith, same_length at_some, first_length at_how.unsync_by-how.result a.s.now a.from at_some.before.least-end.result (omega arith) (omega arith) a.prev at_hit.hit.result at_hit.hit.ensures (λ _. inserts))
+    let a = c.before.before.before.before.before.before.before.before.before.before.args in
+    let inserts = ap (λ (how : How). how.insert) c.before.before.before.before.before.before.before.before.unsync_by-how.ensures in
+    omega (arith, same_length c.before.before.before.before.before.before, first_length c.before.before.before.before.before.before.before.before.unsync_by-how.result a.s.now a.from c.before.before.before.before.before.before.before.least-end.result (omega arith) (omega arith) a.prev c.before.before.hit.result c.before.before.hit.ensures (λ _. inserts))
 
 pub unsync_len_spec : {M : Type 1} → statement M
 unsync_len_spec =

@@ -12,13 +12,13 @@ returns c =
     let at_first = c.before.before in
     let at_opened = at_first.before.before.before in
     let at_open = at_opened.before.before.before.before in
-    at_first.first.ensures ∙ answered (on_opened at_open.before.before.before.before.args.tag.now) at_opened.in-Ready.is at_open.«open».ensures
+    c.before.before.first.ensures ∙ answered (on_opened c.before.before.before.before.before.before.before.before.before.before.before.args.tag.now) c.before.before.before.before.in-Ready.is at_open.«open».ensures
 
 returns_2 : tie.Need-returns-in-Refused
 unfolding read_of
 returns_2 c =
     let at_open = c.before.before.before.before in
-    answered (on_opened at_open.before.before.before.before.args.tag.now) c.in-Refused.is at_open.«open».ensures
+    answered (on_opened c.before.before.before.before.before.before.before.args.tag.now) c.in-Refused.is at_open.«open».ensures
 
 pub read_one_spec : {M : Type 1} → statement M
 read_one_spec =

@@ -29,28 +29,20 @@ adds c known =
 
 returns : tie.Need-returns-in-Done
 returns c =
-    let at_finished = c.before in
-    let at_finish = at_finished.before.before.before.before in
-    let at_Added = at_finish.before.before.before.before in
-    let at_add = at_Added.before.before.before.before in
-    let b = at_add.add-added.new.1.0 in
-    let finishes = answered {C = Writing} (λ (f : Finished) (o : List ℕ). (wrote_as f, (b, o))) at_finished.in-Done.is at_finish.finish-finished.ensures in
-    (finishes ∙ adds at_add at_Added.in-Accepted.is, at_add.add-added.ensures.1)
+    let b = c.before.before.before.before.before.before.before.before.add-added.new.1.0 in
+    let finishes = answered {C = Writing} (λ (f : Finished) (o : List ℕ). (wrote_as f, (b, o))) c.in-Done.is c.before.before.before.finish-finished.ensures in
+    (finishes ∙ adds c.before.before.before.before.before.before.before.before c.before.before.before.before.before.in-Accepted.is, c.before.before.before.before.before.before.before.before.add-added.ensures.1)
 
 returns_2 : tie.Need-returns-in-Refused-finished
 returns_2 c =
-    let at_finished = c.before in
-    let at_finish = at_finished.before.before.before.before in
-    let at_Added = at_finish.before.before.before.before in
-    let at_add = at_Added.before.before.before.before in
-    let b = at_add.add-added.new.1.0 in
-    let finishes = answered {C = Writing} (λ (f : Finished) (o : List ℕ). (wrote_as f, (b, o))) at_finished.in-Refused-finished.is at_finish.finish-finished.ensures in
-    (finishes ∙ adds at_add at_Added.in-Accepted.is, tt)
+    let b = c.before.before.before.before.before.before.before.before.add-added.new.1.0 in
+    let finishes = answered {C = Writing} (λ (f : Finished) (o : List ℕ). (wrote_as f, (b, o))) c.in-Refused-finished.is c.before.before.before.finish-finished.ensures in
+    (finishes ∙ adds c.before.before.before.before.before.before.before.before c.before.before.before.before.before.in-Accepted.is, tt)
 
 returns_3 : tie.Need-returns-in-Refused
 returns_3 c =
     let at_Added = c.before in
-    (adds at_Added.before.before.before.before at_Added.in-Refused.is, tt)
+    (adds at_Added.before.before.before.before c.in-Refused.is, tt)
 
 pub add_one_spec : {M : Type 1} → statement M
 add_one_spec =

@@ -7,22 +7,15 @@ use Rattle.capi.proofs.meters.answered.Tie as tie
 
 returns : tie.Need-returns-in-Found
 returns c =
-    let at_metered = c.before.before in
-    let at_moved = at_metered.before.before.before.before in
-    let at_found = at_moved.before.before.before in
-    rw (at_found.in-Found.is, at_moved.store_moved.ensures, at_metered.store_metered.ensures)
+    rw (c.before.before.before.before.before.before.before.before.in-Found.is, c.before.before.before.before.before.before.store_moved.ensures, c.before.before.store_metered.ensures)
 
 returns_2 : tie.Need-returns-in-End
 returns_2 c =
-    let at_moved = c.before.before in
-    let at_end = at_moved.before.before.before in
-    rw (at_end.in-End.is, at_moved.store_moved-in-End.ensures)
+    rw (c.before.before.before.before.in-End.is, c.before.before.store_moved-in-End.ensures)
 
 returns_3 : tie.Need-returns-in-Refused
 returns_3 c =
-    let at_moved = c.before.before in
-    let at_refused = at_moved.before.before.before in
-    rw (at_refused.in-Refused.is, at_moved.store_moved-in-Refused.ensures)
+    rw (c.before.before.before.before.in-Refused.is, c.before.before.store_moved-in-Refused.ensures)
 
 pub answered_spec : {M : Type 1} → statement M
 answered_spec =

@@ -12,24 +12,18 @@ returns c = rw (sym c.before.is_meter.ensures ∙ not-true _ c.if-not-is_meter.t
 
 returns_2 : tie.Need-returns-then-words-eq-STOP_ENDED
 returns_2 c =
-    let at_is_meter = c.before.before.before in
-    rw (sym at_is_meter.is_meter.ensures ∙ not-false _ c.before.before.if-not-is_meter.false-raw, eq-eqb _ _ c.if-words-eq-STOP_ENDED.true)
+    rw (sym c.before.before.before.is_meter.ensures ∙ not-false _ c.before.before.if-not-is_meter.false-raw, eq-eqb _ _ c.if-words-eq-STOP_ENDED.true)
 
 cast_result : tie.Need-overflow_cast-result
 cast_result c =
-    let at_if1 = c.before.before.before in
-    let at_is_meter = at_if1.before in
-    let at_start = at_is_meter.before.before in
-    let w = at_start.args.words.now in
-    let e = sym at_is_meter.is_meter.ensures ∙ not-false _ at_if1.if-not-is_meter.false-raw in
+    let w = c.before.before.before.before.before.before.args.words.now in
+    let e = sym c.before.before.before.before.is_meter.ensures ∙ not-false _ c.before.before.before.if-not-is_meter.false-raw in
     let h = number_fits w e in
     omega arith
 
 returns_3 : tie.Need-returns
 returns_3 c =
-    let at_if1 = c.before.before.before in
-    let at_is_meter = at_if1.before in
-    rw (sym at_is_meter.is_meter.ensures ∙ not-false _ at_if1.if-not-is_meter.false-raw, ne_eqb _ _ c.before.if-words-eq-STOP_ENDED.false)
+    rw (sym c.before.before.before.before.is_meter.ensures ∙ not-false _ c.before.before.before.if-not-is_meter.false-raw, ne_eqb _ _ c.before.if-words-eq-STOP_ENDED.false)
 
 pub stopped_spec : {M : Type 1} → statement M
 stopped_spec =

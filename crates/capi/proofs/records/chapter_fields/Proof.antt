@@ -15,13 +15,11 @@ returns_3 c = rw (lt-ltb _ _ c.before.before.if-start_time-ge-LIMIT_32.false, lt
 
 returns_4 : tie.Need-returns-then-end_offset-ge-LIMIT_32
 returns_4 c =
-    let at_if1 = c.before.before.before in
-    rw (lt-ltb _ _ at_if1.if-start_time-ge-LIMIT_32.false, lt-ltb _ _ c.before.before.if-end_time-ge-LIMIT_32.false, lt-ltb _ _ c.before.if-start_offset-ge-LIMIT_32.false, le-ltb _ _ c.if-end_offset-ge-LIMIT_32.true)
+    rw (lt-ltb _ _ c.before.before.before.if-start_time-ge-LIMIT_32.false, lt-ltb _ _ c.before.before.if-end_time-ge-LIMIT_32.false, lt-ltb _ _ c.before.if-start_offset-ge-LIMIT_32.false, le-ltb _ _ c.if-end_offset-ge-LIMIT_32.true)
 
 returns_5 : tie.Need-returns
 returns_5 c =
-    let at_if1 = c.before.before.before in
-    rw (lt-ltb _ _ at_if1.if-start_time-ge-LIMIT_32.false, lt-ltb _ _ c.before.before.if-end_time-ge-LIMIT_32.false, lt-ltb _ _ c.before.if-start_offset-ge-LIMIT_32.false, lt-ltb _ _ c.if-end_offset-ge-LIMIT_32.false)
+    rw (lt-ltb _ _ c.before.before.before.if-start_time-ge-LIMIT_32.false, lt-ltb _ _ c.before.before.if-end_time-ge-LIMIT_32.false, lt-ltb _ _ c.before.if-start_offset-ge-LIMIT_32.false, lt-ltb _ _ c.if-end_offset-ge-LIMIT_32.false)
 
 pub chapter_fields_spec : {M : Type 1} → statement M
 chapter_fields_spec =

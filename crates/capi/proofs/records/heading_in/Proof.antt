@@ -11,7 +11,7 @@ says : (c : tie.After-load_heading-given) {x : GivenHeading} → c.load_heading-
 says c e = ap heading_else (sym e ∙ c.load_heading-given.ensures)
 
 returns : tie.Need-returns-in-Good
-returns c = says c.before.before.before c.before.in-Good.is
+returns c = says c.before.before.before c.in-Good.is
 
 returns_2 : tie.Need-returns-in-Bad
 returns_2 c = says c.before.before c.in-Bad.is

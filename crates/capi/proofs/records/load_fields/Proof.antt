@@ -13,28 +13,22 @@ returns c = rw c.before.before.in-0.is c.text_fields.ensures
 returns_2 : tie.Need-returns-in-1
 unfolding fields_of
 returns_2 c =
-    let at_match = c.before.before.before in
-    rw at_match.in-1.is c.popularimeter_fields.ensures
+    rw c.before.before.before.in-1.is c.popularimeter_fields.ensures
 
 returns_3 : tie.Need-returns-in-2
 unfolding fields_of
 returns_3 c =
-    let at_three = c.before.before.before in
-    let at_match = at_three.before.before.before in
-    rw at_match.in-2.is c.table_fields.ensures
+    rw c.before.before.before.before.before.before.in-2.is c.table_fields.ensures
 
 returns_4 : tie.Need-returns-in-3
 unfolding fields_of
 returns_4 c =
-    let at_two = c.before.before in
-    let at_match = at_two.before.before.before in
-    rw at_match.in-3.is c.chapter_fields.ensures
+    rw c.before.before.before.before.before.in-3.is c.chapter_fields.ensures
 
 returns_5 : tie.Need-returns-in-4
 unfolding fields_of
 returns_5 c =
-    let at_match = c.before.before.before in
-    rw at_match.in-4.is c.contents_fields.ensures
+    rw c.before.before.before.in-4.is c.contents_fields.ensures
 
 returns_6 : tie.Need-returns-in-5
 unfolding fields_of

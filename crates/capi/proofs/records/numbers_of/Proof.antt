@@ -4,21 +4,20 @@ use Rattle.capi.proofs.records.numbers_of.Statement.{statement}
 use Rattle.capi.proofs.records.numbers_of.Tie as tie
 
 returns : tie.Need-returns-in-Text
-returns c = rw c.before.in-Text.is
+returns c = rw c.in-Text.is
 
 returns_2 : tie.Need-returns-in-Popularimeter
-returns_2 c = rw c.before.in-Popularimeter.is
+returns_2 c = rw c.in-Popularimeter.is
 
 returns_3 : tie.Need-returns-in-Table
-returns_3 c = rw c.before.in-Table.is
+returns_3 c = rw c.in-Table.is
 
 returns_4 : tie.Need-returns-in-Chapter
-returns_4 c = rw c.before.in-Chapter.is
+returns_4 c = rw c.in-Chapter.is
 
 returns_5 : tie.Need-returns-in-Contents
 returns_5 c =
-    let at_fields5 = c.before.before.before in
-    rw (at_fields5.in-Contents.is, c.before.flag.ensures, c.flag-in-Contents.ensures)
+    rw (c.before.before.in-Contents.is, c.before.flag.ensures, c.flag-in-Contents.ensures)
 
 returns_6 : tie.Need-returns-in-Raw
 returns_6 c = rw c.in-Raw.is

@@ -7,9 +7,7 @@ use Rattle.capi.proofs.records.store_record.Tie as tie
 returns : tie.Need-returns
 unfolding record_words
 returns c =
-    let at_places = c.before.before in
-    let at_heading = at_places.before.before.before.before in
-    rw (at_places.store_places.ensures, at_heading.store_heading.ensures)
+    rw (c.before.before.store_places.ensures, c.before.before.before.before.before.before.store_heading.ensures)
 
 pub store_record_spec : {M : Type 1} → statement M
 store_record_spec =

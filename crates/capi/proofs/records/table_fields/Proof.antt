@@ -9,8 +9,7 @@ returns c = rw (le-ltb _ _ c.if-frames-ge-LIMIT_16.true)
 
 returns_2 : tie.Need-returns
 returns_2 c =
-    let at_if1 = c.before.before.before.before in
-    rw (lt-ltb _ _ at_if1.if-frames-ge-LIMIT_16.false) (cc)
+    rw (lt-ltb _ _ c.before.before.before.before.if-frames-ge-LIMIT_16.false) (cc)
 
 pub table_fields_spec : {M : Type 1} → statement M
 table_fields_spec =

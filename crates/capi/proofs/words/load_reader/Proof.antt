@@ -13,19 +13,13 @@ returns c = rw (sym c.before.is_reader.ensures ∙ not-true _ c.if-not-is_reader
 
 stop_of_requires : tie.Need-stop_of-requires
 stop_of_requires c κs =
-    let at_places = c.before.before.before.before in
-    let at_reader = at_places.before.before.before.before in
-    let at_read = at_reader.before.before.before.before in
-    let w = at_read.before.before.before.args.words.now in
-    number_small (word 0 w) (word 1 w) (word 5 w) (word 6 w) (sym at_reader.before.is_reader.ensures ∙ not-false _ at_reader.if-not-is_reader.false-raw)
+    let w = c.before.before.before.before.before.before.before.before.before.before.before.before.before.before.before.args.words.now in
+    number_small (word 0 w) (word 1 w) (word 5 w) (word 6 w) (sym c.before.before.before.before.before.before.before.before.before.is_reader.ensures ∙ not-false _ c.before.before.before.before.before.before.before.before.if-not-is_reader.false-raw)
 
 returns_2 : tie.Need-returns
 unfolding reader_of
 returns_2 c =
-    let at_places = c.before.before.before.before in
-    let at_version = at_places.before.before.before in
-    let at_reader = at_version.before.before in
-    rw (sym at_reader.before.is_reader.ensures ∙ not-false _ at_reader.if-not-is_reader.false-raw, at_version.version_of.ensures, c.stop_of.ensures)
+    rw (sym c.before.before.before.before.before.before.before.before.before.before.is_reader.ensures ∙ not-false _ c.before.before.before.before.before.before.before.before.before.if-not-is_reader.false-raw, c.before.before.before.before.before.before.before.version_of.ensures, c.stop_of.ensures)
 
 pub load_reader_spec : {M : Type 1} → statement M
 load_reader_spec =

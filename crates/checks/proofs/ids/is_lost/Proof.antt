@@ -9,23 +9,17 @@ returns c = rw (not-true c.before.args.altered c.if-not-altered.true-raw)
 
 returns_2 : tie.Need-returns-in-Id3v22
 returns_2 c =
-    let at_if1 = c.before.before.before.before in
-    let at_start = at_if1.before in
-    let altered = not-false at_start.args.altered at_if1.if-not-altered.false-raw in
+    let altered = not-false c.before.before.before.before.args.altered c.before.before.before.if-not-altered.false-raw in
     rw (altered, c.before.before.in-Id3v22.is) c.is_among.ensures
 
 returns_3 : tie.Need-returns-in-Id3v23
 returns_3 c =
-    let at_if1 = c.before.before.before.before in
-    let at_start = at_if1.before in
-    let altered = not-false at_start.args.altered at_if1.if-not-altered.false-raw in
+    let altered = not-false c.before.before.before.before.args.altered c.before.before.before.if-not-altered.false-raw in
     rw (altered, c.before.before.in-Id3v23.is) c.is_among-in-Id3v23.ensures
 
 returns_4 : tie.Need-returns-in-Id3v24
 returns_4 c =
-    let at_if1 = c.before.before.before.before in
-    let at_start = at_if1.before in
-    let altered = not-false at_start.args.altered at_if1.if-not-altered.false-raw in
+    let altered = not-false c.before.before.before.before.args.altered c.before.before.before.if-not-altered.false-raw in
     rw (altered, c.before.before.in-Id3v24.is) c.is_among-in-Id3v24.ensures
 
 pub is_lost_spec : {M : Type 1} → statement M

@@ -8,20 +8,15 @@ use Rattle.checks.proofs.names.children_check.Tie as tie
 
 returns : tie.Need-returns-then-last_byte-gt0
 returns c =
-    let at_start = c.before.before.before in
-    sym (not_closed at_start.args.children.now (omega arith))
+    sym (not_closed c.before.before.before.args.children.now (omega arith))
 
 returns_2 : tie.Need-returns-then-zeros_in-gt255
 returns_2 c =
-    let at_if1 = c.before.before in
-    let at_start = at_if1.before.before.before in
-    sym (too_many at_start.args.children.now (omega arith))
+    sym (too_many c.before.before.before.before.before.args.children.now (omega arith))
 
 returns_3 : tie.Need-returns-else-zeros_in-gt255
 returns_3 c =
-    let at_if1 = c.before.before in
-    let at_start = at_if1.before.before.before in
-    sym (all_closed at_start.args.children.now (omega arith) (omega arith))
+    sym (all_closed c.before.before.before.before.before.args.children.now (omega arith) (omega arith))
 
 pub children_check_spec : {M : Type 1} → statement M
 children_check_spec =

@@ -8,7 +8,7 @@ use Rattle.checks.proofs.record.early_check.Tie as tie
 
 returns : tie.Need-returns-in-Text
 unfolding first
-returns c rest deviations = rw c.before.before.in-Text.is (c.encoding_check.ensures ∙ sym (only _))
+returns c rest deviations = rw c.before.in-Text.is (c.encoding_check.ensures ∙ sym (only _))
 
 returns_2 : tie.Need-returns-in-Popularimeter
 unfolding first

@@ -8,7 +8,7 @@ use Rattle.checks.proofs.record.late_check.Tie as tie
 
 returns : tie.Need-returns-in-Text
 unfolding first
-returns c name names = rw c.before.before.in-Text.is (c.text_check.ensures ∙ sym (only _))
+returns c name names = rw c.before.in-Text.is (c.text_check.ensures ∙ sym (only _))
 
 returns_2 : tie.Need-returns-in-Popularimeter
 unfolding first
@@ -16,7 +16,7 @@ returns_2 c name names = rw c.in-Popularimeter.is
 
 returns_3 : tie.Need-returns-in-Table
 unfolding first
-returns_3 c name names = rw c.before.before.in-Table.is c.table_check.ensures
+returns_3 c name names = rw c.before.in-Table.is c.table_check.ensures
 
 returns_4 : tie.Need-returns-in-Chapter
 unfolding first

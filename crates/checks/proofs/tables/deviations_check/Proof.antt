@@ -41,7 +41,7 @@ returns_4 : tie.Need-returns-then-not-fits-2
 unfolding first
 returns_4 c =
     let at_fits2 = c.before.before.before in
-    let over = sym c.before.fits.ensures ∙ not-true _ c.if-not-fits-2.true-raw in
+    let over = sym c.before.before.before.fits.ensures ∙ not-true _ c.if-not-fits-2.true-raw in
     rw (fitting at_fits2.before, short c.before.before, over)
 
 returns_5 : tie.Need-returns
@@ -49,8 +49,8 @@ unfolding first
 returns_5 c =
     let at_brief = c.before in
     let at_short = at_brief.before.before in
-    let brief = sym at_brief.before.fits.ensures ∙ not-false _ at_brief.if-not-fits-2.false-raw in
-    rw (fitting at_short.before.before, short at_short, brief) (c.odd_check.ensures ∙ sym (only _))
+    let brief = sym c.before.before.before.before.fits.ensures ∙ not-false _ c.before.if-not-fits-2.false-raw in
+    rw (fitting at_short.before.before, short c.before.before.before, brief) (c.odd_check.ensures ∙ sym (only _))
 
 pub deviations_check_spec : {M : Type 1} → statement M
 deviations_check_spec =

@@ -16,37 +16,30 @@ raised c = let refused = c.before.before.before in refused.before.before.before
 
 returns : tie.Need-returns-then-k-ne-COUNTER_TOO_SHORT
 returns c =
-    let at_raised = c.before.before in
-    let at_raise = at_raised.before.before.before.before in
-    let a = (start at_raise).args in
-    lift_refused a.begin a.start a.stop a.counter a.last a.user.now a.amount a.tag-1.now at_raise.raise_at-raised.ensures at_raised.in-Refused.is c.if-k-ne-COUNTER_TOO_SHORT.true
+    let a = (start c.before.before.before.before).args in
+    lift_refused a.begin a.start a.stop a.counter a.last a.user.now a.amount a.tag-1.now c.before.before.before.before.raise_at-raised.ensures c.before.in-Refused.is c.if-k-ne-COUNTER_TOO_SHORT.true
 
 short : (c : tie.Else-k-ne-COUNTER_TOO_SHORT) → (raised c).raise-at.result ≡ Raised.Refused 44
-short c = c.before.before.in-Refused.is ∙ ap Raised.Refused c.if-k-ne-COUNTER_TOO_SHORT.false
+short c = c.before.in-Refused.is ∙ ap Raised.Refused c.if-k-ne-COUNTER_TOO_SHORT.false
 
 add_outgrow : tie.Need-overflow_add-counter
 add_outgrow c =
-    let at_if = c.before in
-    let at_raise = raised at_if in
+    let at_raise = raised c.before in
     let a = (start at_raise).args in
-    let small = lift_small a.begin a.start a.stop a.counter a.last a.user.now a.amount a.tag-1.now at_raise.raise_at-raised.ensures (short at_if) in
+    let small = lift_small a.begin a.start a.stop a.counter a.last a.user.now a.amount a.tag-1.now at_raise.raise_at-raised.ensures (short c.before) in
     omega arith
 
 returns_2 : tie.Need-returns-in-Counts
 returns_2 c =
-    let at_raised = c.before in
-    let at_raise = at_raised.before.before.before.before in
-    let a = (start at_raise).args in
-    lift_counts a.begin a.start a.stop a.counter a.last a.user.now a.amount a.tag-1.now at_raise.raise_at-raised.ensures at_raised.in-Counts.is
+    let a = (start c.before.before.before).args in
+    lift_counts a.begin a.start a.stop a.counter a.last a.user.now a.amount a.tag-1.now c.before.before.before.raise_at-raised.ensures c.in-Counts.is
 
 returns_3 : tie.Need-returns-else-k-ne-COUNTER_TOO_SHORT
 returns_3 c =
-    let at_grown = c.before.before in
-    let at_if = at_grown.before.before in
-    let at_raise = raised at_if in
+    let at_raise = raised c.before.before.before.before in
     let a = (start at_raise).args in
-    at_grown.outgrow.ensures
-    ∙ lift_grown a.begin a.start a.stop a.counter a.last a.user.now a.amount a.tag-1.now at_raise.raise_at-raised.ensures (short at_if)
+    c.before.before.outgrow.ensures
+    ∙ lift_grown a.begin a.start a.stop a.counter a.last a.user.now a.amount a.tag-1.now at_raise.raise_at-raised.ensures (short c.before.before.before.before)
 
 pub lift_found_spec : {M : Type 1} → statement M
 lift_found_spec =

@@ -7,19 +7,14 @@ use Rattle.edit.proofs.lifting.outgrow.Tie as tie
 
 returns : tie.Need-returns-in-Refused
 returns c =
-    let at_frames = c.before.before.before in
-    let a = at_frames.before.before.before.before.args in
-    grow_refused a.begin a.start a.stop a.last a.user.now a.counter a.tag.now at_frames.frames-framed.ensures c.before.in-Refused.is
+    let a = c.before.before.before.before.args in
+    grow_refused a.begin a.start a.stop a.last a.user.now a.counter a.tag.now c.before.frames-framed.ensures c.in-Refused.is
 
 returns_2 : tie.Need-returns-in-Frames
 returns_2 c =
-    let at_recount = c.before.before in
-    let at_byte = at_recount.before.before in
-    let at_framed = at_byte.before.before.before in
-    let at_frames = at_framed.before.before in
-    let a = at_frames.before.before.before.before.args in
-    at_recount.recount.ensures
-    ∙ grow_put a.begin a.start a.stop a.last a.user.now a.counter a.tag.now at_frames.frames-framed.ensures at_framed.in-Frames.is at_byte.byte_before-rating.ensures
+    let a = c.before.before.before.before.before.before.before.before.before.args in
+    c.before.before.recount.ensures
+    ∙ grow_put a.begin a.start a.stop a.last a.user.now a.counter a.tag.now c.before.before.before.before.before.before.frames-framed.ensures c.before.before.before.before.before.in-Frames.is c.before.before.before.before.byte_before-rating.ensures
 
 pub outgrow_spec : {M : Type 1} → statement M
 outgrow_spec =

@@ -18,22 +18,17 @@ placed : (c : tie.After-put_between-edited) → let a = (start c).args in
     ◌≡◌ {A = Edit} (c.put_between-edited.result, c.put_between-edited.new.0)
     (placed_of a.version a.gap (counted (meter_id a.version) a.user.now a.rating a.counter) a.tag-1.now)
 placed c =
-    let at_none = c.before.before in
-    let at_id = at_none.before.before.before in
     let a = (start c).args in
     c.put_between-edited.ensures
-    ∙ ap {B = Edit} (λ (id : ℕ). placed_of a.version a.gap (counted id a.user.now a.rating a.counter) a.tag-1.now) at_id.meter_id.ensures
+    ∙ ap {B = Edit} (λ (id : ℕ). placed_of a.version a.gap (counted id a.user.now a.rating a.counter) a.tag-1.now) c.before.before.before.before.before.before.meter_id.ensures
 
 returns : tie.Need-returns-in-Done
 returns c =
-    let at_put = c.before.before.before.before in
-    put_done (start at_put).args.counter (placed at_put) c.in-Done.is
+    put_done (start c.before.before.before).args.counter (placed c.before.before.before) c.in-Done.is
 
 returns_2 : tie.Need-returns-in-Refused
 returns_2 c =
-    let at_edited = c.before in
-    let at_put = at_edited.before.before.before.before in
-    put_refused (start at_put).args.counter (placed at_put) at_edited.in-Refused.is
+    put_refused (start c.before.before.before).args.counter (placed c.before.before.before) c.in-Refused.is
 
 pub recount_spec : {M : Type 1} → statement M
 recount_spec =

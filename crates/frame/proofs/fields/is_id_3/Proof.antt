@@ -8,9 +8,7 @@ use Rattle.frame.proofs.fields.is_id_3.Tie as tie
 
 returns : tie.Need-returns
 returns c =
-    let at_read = c.before.before.before.before in
-    let a = at_read.before in
-    c.is_utf8_3.ensures ∙ ap is_utf8 (sym (three 0 a.args.b.now a.requires))
+    c.is_utf8_3.ensures ∙ ap is_utf8 (sym (three 0 c.before.before.before.before.before.args.b.now c.before.before.before.before.before.requires))
 
 pub is_id_3_spec : {M : Type 1} → statement M
 is_id_3_spec =

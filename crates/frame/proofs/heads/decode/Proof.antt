@@ -20,9 +20,8 @@ checked : (c : tie.After-first_refusal-refusal)
     let a = at_part.before.before.args in
     Tested a.version a.depth c.first_refusal-refusal.result at_part.part-b.result.now
 checked c =
-    let at_long = c.before.before.before in
     record {
-      long = rw at_long.before.head_len.ensures.0 at at_long.if-b-head_len.false;
+      long = rw c.before.before.before.before.head_len.ensures.0 at c.before.before.before.if-b-head_len.false;
       some = c.before.if-b-eq0.false;
       given = c.first_refusal-refusal.ensures;
     }
@@ -50,33 +49,26 @@ module _ (c : tie.Else-refusal-ne0) (v : Version) where
 
 returns : tie.Need-returns-then-b-head_len
 returns c =
-    let at_part = c.before.before in
-    let a = at_part.before.before.args in
-    let b = at_part.part-b in
+    let a = c.before.before.before.before.args in
+    let b = c.before.before.part-b in
     ends_short a.version a.depth b.result.now (rw c.before.head_len.ensures.0 at c.if-b-head_len.true)
     ∙ ap (head_of a.version a.depth) b.ensures
 
 shared_slice_read_if2 : tie.Need-bounds-b-0
 shared_slice_read_if2 c =
-    let at_read = c.before.before.before.before in
-    let at_start = at_read.before in
-    omega (arith, c.before.before.head_len.ensures.0, head_some at_start.args.version)
+    omega (arith, c.before.before.head_len.ensures.0, head_some c.before.before.before.before.before.args.version)
 
 returns_2 : tie.Need-returns-then-b-eq0
 returns_2 c =
-    let at_long = c.before.before in
-    let at_part = at_long.before.before in
-    let a = at_part.before.before.args in
-    let b = at_part.part-b in
-    ends_padded a.version a.depth b.result.now (rw at_long.before.head_len.ensures.0 at at_long.if-b-head_len.false) c.if-b-eq0.true
+    let a = c.before.before.before.before.before.before.args in
+    let b = c.before.before.before.before.part-b in
+    ends_padded a.version a.depth b.result.now (rw c.before.before.before.head_len.ensures.0 at c.before.before.if-b-head_len.false) c.if-b-eq0.true
     ∙ ap (head_of a.version a.depth) b.ensures
 
 returns_3 : tie.Need-returns-then-refusal-ne0
 returns_3 c =
-    let at_if2 = c.before.before in
-    let at_part = at_if2.before.before.before.before in
-    let a = at_part.before.before.args in
-    refused_first (checked c.before) c.if-refusal-ne0.true ∙ ap (head_of a.version a.depth) at_part.part-b.ensures
+    let a = c.before.before.before.before.before.before.before.before.args in
+    refused_first (checked c.before) c.if-refusal-ne0.true ∙ ap (head_of a.version a.depth) c.before.before.before.before.before.before.part-b.ensures
 
 with_body_requires : tie.Need-with_body-requires
 with_body_requires c κs = passed c.before.before Version.Id3v22 c.in-Id3v22.is

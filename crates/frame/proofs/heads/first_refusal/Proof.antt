@@ -14,43 +14,39 @@ returns c = let a = c.before.before.args in too_deep a.version a.depth a.b.now c
 
 is_id_3_requires : tie.Need-is_id_3-requires
 is_id_3_requires c κs =
-    let a = c.before.before.before.before in omega (arith, head_some a.args.version, a.requires)
+    omega (arith, head_some c.before.before.before.args.version, c.before.before.before.requires)
 
 id_refusal_requires : tie.Need-id_refusal-requires
 id_refusal_requires c κs =
-    let at_start = c.before.before.before.before in rw c.in-Id3v23.is at at_start.requires
+    rw c.in-Id3v23.is at c.before.before.before.requires
 
 id_refusal_requires_2 : tie.Need-id_refusal-requires-in-Id3v24
 id_refusal_requires_2 c κs =
-    let at_start = c.before.before.before.before in rw c.in-Id3v24.is at at_start.requires
+    rw c.in-Id3v24.is at c.before.before.before.requires
 
 returns_2 : tie.Need-returns-then-is_id_3
 unfolding first
 returns_2 c =
-    let at_match = c.before.before in
-    let a = at_match.before.before.before.before.args in
+    let a = c.before.before.before.before.before.args in
     let utf8 = sym c.before.is_id_3.ensures ∙ c.if-is_id_3.true in
-    rw (at_match.in-Id3v22.is, le-ltb 8 a.depth at_match.before.before.if-depth-gt-DEEPEST.false, utf8)
+    rw (c.before.before.in-Id3v22.is, le-ltb 8 a.depth c.before.before.before.if-depth-gt-DEEPEST.false, utf8)
 
 returns_3 : tie.Need-returns-else-is_id_3
 unfolding first
 returns_3 c =
-    let at_match = c.before.before in
-    let a = at_match.before.before.before.before.args in
+    let a = c.before.before.before.before.before.args in
     let utf8 = sym c.before.is_id_3.ensures ∙ c.if-is_id_3.false in
-    rw (at_match.in-Id3v22.is, le-ltb 8 a.depth at_match.before.before.if-depth-gt-DEEPEST.false, utf8)
+    rw (c.before.before.in-Id3v22.is, le-ltb 8 a.depth c.before.before.before.if-depth-gt-DEEPEST.false, utf8)
 
 returns_4 : tie.Need-returns-in-Id3v23
 returns_4 c =
-    let at_match = c.before in
-    let a = at_match.before.before.before.before.args in
-    rw at_match.in-Id3v23.is (c.id_refusal.ensures ∙ not_deep Id3v23 a.depth a.b.now at_match.before.before.if-depth-gt-DEEPEST.false)
+    let a = c.before.before.before.before.args in
+    rw c.before.in-Id3v23.is (c.id_refusal.ensures ∙ not_deep Id3v23 a.depth a.b.now c.before.before.if-depth-gt-DEEPEST.false)
 
 returns_5 : tie.Need-returns-in-Id3v24
 returns_5 c =
-    let at_match = c.before in
-    let a = at_match.before.before.before.before.args in
-    rw at_match.in-Id3v24.is (c.id_refusal-in-Id3v24.ensures ∙ not_deep Id3v24 a.depth a.b.now at_match.before.before.if-depth-gt-DEEPEST.false)
+    let a = c.before.before.before.before.args in
+    rw c.before.in-Id3v24.is (c.id_refusal-in-Id3v24.ensures ∙ not_deep Id3v24 a.depth a.b.now c.before.before.if-depth-gt-DEEPEST.false)
 
 pub first_refusal_spec : {M : Type 1} → statement M
 first_refusal_spec =

@@ -13,28 +13,23 @@ returns c = rw (sym c.before.is_id_4.ensures ∙ not-true _ c.if-not-is_id_4.tru
 returns_2 : tie.Need-returns-then-has
 unfolding first
 returns_2 c =
-    let at_id = c.before.before.before in
-    rw (sym at_id.before.is_id_4.ensures ∙ not-false _ at_id.if-not-is_id_4.false-raw, sym c.before.has.ensures ∙ c.if-has.true)
+    rw (sym c.before.before.before.before.is_id_4.ensures ∙ not-false _ c.before.before.before.if-not-is_id_4.false-raw, sym c.before.has.ensures ∙ c.if-has.true)
 
 returns_3 : tie.Need-returns-then-has-2
 unfolding first
 returns_3 c =
-    let at_encrypted = c.before.before.before in
-    let at_id = at_encrypted.before.before.before in
     rw (
-      sym at_id.before.is_id_4.ensures ∙ not-false _ at_id.if-not-is_id_4.false-raw,
-      sym at_encrypted.before.has.ensures ∙ at_encrypted.if-has.false,
+      sym c.before.before.before.before.before.before.before.is_id_4.ensures ∙ not-false _ c.before.before.before.before.before.before.if-not-is_id_4.false-raw,
+      sym c.before.before.before.before.has.ensures ∙ c.before.before.before.if-has.false,
       sym c.before.has-2.ensures ∙ c.if-has-2.true,
     )
 
 returns_4 : tie.Need-returns-else-has-2
 unfolding first
 returns_4 c =
-    let at_encrypted = c.before.before.before in
-    let at_id = at_encrypted.before.before.before in
     rw (
-      sym at_id.before.is_id_4.ensures ∙ not-false _ at_id.if-not-is_id_4.false-raw,
-      sym at_encrypted.before.has.ensures ∙ at_encrypted.if-has.false,
+      sym c.before.before.before.before.before.before.before.is_id_4.ensures ∙ not-false _ c.before.before.before.before.before.before.if-not-is_id_4.false-raw,
+      sym c.before.before.before.before.has.ensures ∙ c.before.before.before.if-has.false,
       sym c.before.has-2.ensures ∙ c.if-has-2.false,
     )
 

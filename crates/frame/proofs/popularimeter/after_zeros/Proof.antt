@@ -24,24 +24,21 @@ shared_slice_read_if1 c = let p = c.before.before.before.requires in omega arith
 
 returns : tie.Need-returns-then-s-i-ne0 invariant_loop decreases_loop
 returns c =
-    let at_loop = c.before.before.before in
-    let a = at_loop.before.args in
-    let L = at_loop.loop-i in
-    begins_large a.from a.to a.s.now at_loop.before.requires.1 L.i L.invariant (omega arith) (λ zero. omega (arith, c.if-s-i-ne0.true))
+    let a = c.before.before.before.before.args in
+    let L = c.before.before.before.loop-i in
+    begins_large a.from a.to a.s.now c.before.before.before.before.requires.1 L.i L.invariant (omega arith) (λ zero. omega (arith, c.if-s-i-ne0.true))
 
 loop_again : tie.Need-loop-i-preserved invariant_loop decreases_loop
 loop_again c =
-    let at_loop = c.before.before.before in
-    let a = at_loop.before.args in
-    let L = at_loop.loop-i in
-    skip a.from a.to a.s.now at_loop.before.requires.1 L.i L.invariant (omega arith) (omega (arith, c.if-s-i-ne0.false))
+    let a = c.before.before.before.before.args in
+    let L = c.before.before.before.loop-i in
+    skip a.from a.to a.s.now c.before.before.before.before.requires.1 L.i L.invariant (omega arith) (omega (arith, c.if-s-i-ne0.false))
 
 returns_2 : tie.Need-returns invariant_loop decreases_loop
 returns_2 c =
-    let at_loop = c.before in
-    let a = at_loop.before.args in
-    let L = at_loop.loop-i in
-    begins_last a.from a.to a.s.now at_loop.before.requires.1 L.i L.invariant (omega arith)
+    let a = c.before.before.args in
+    let L = c.before.loop-i in
+    begins_last a.from a.to a.s.now c.before.before.requires.1 L.i L.invariant (omega arith)
 
 pub after_zeros_spec : {M : Type 1} → statement M
 after_zeros_spec =

@@ -19,8 +19,7 @@ add_if1 c = omega (arith, zero_le c.before.part-b.result.now, c.before.part-b.ty
 
 returns : tie.Need-returns-then-b-len
 returns c v =
-    let at_start = c.before.before.before.before in
-    let a = at_start.args in
+    let a = c.before.before.before.before.args in
     let b = c.before.before.part-b in
     let z = c.before.zero_at-len in
     refused v Kind.Popularimeter a.from b.result.now _ b.ensures 10 (popularimeter_cut b.result.now z.result z.ensures c.if-b-len.true)
@@ -30,9 +29,8 @@ lies : (c : tie.Else-b-len) →
     let at_part = c.before.before in
     at_part.before.before.args.from + length at_part.part-b.result.now ≤ length at_part.before.before.args.s.now
 lies c =
-    let at_part = c.before.before in
-    let a = at_part.before.before.args in
-    let b = at_part.part-b in
+    let a = c.before.before.before.before.args in
+    let b = c.before.before.part-b in
     cut_lies a.from a.to a.s.now b.result.now b.ensures (omega arith)
 
 -- and the counter in it
@@ -43,9 +41,8 @@ counter_in_lem : (c : tie.Else-b-len) →
     let b = at_part.part-b.result.now in
     number (slice (a.from + len + 2) (a.from + length b) a.s.now) ≡ number (drop (len + 2) b)
 counter_in_lem c =
-    let at_part = c.before.before in
-    let a = at_part.before.before.args in
-    let b = at_part.part-b in
+    let a = c.before.before.before.before.args in
+    let b = c.before.before.part-b in
     ap number (counter_lies a.from a.to c.before.zero_at-len.result a.s.now b.result.now b.ensures c.if-b-len.false)
 
 add_start : tie.Need-overflow_add-start
@@ -65,30 +62,25 @@ sub_if2 c = let begins = c.after_zeros-first.ensures in omega arith
 
 returns_2 : tie.Need-returns-then-end-first-gt8
 returns_2 c v =
-    let at_if1 = c.before.before.before in
-    let at_part = at_if1.before.before in
-    let a = at_part.before.before.args in
-    let b = at_part.part-b in
-    let z = at_if1.before.zero_at-len in
+    let a = c.before.before.before.before.before.before.before.args in
+    let b = c.before.before.before.before.before.part-b in
+    let z = c.before.before.before.before.zero_at-len in
     let begins = c.before.after_zeros-first.ensures in
-    let large : 2 ^ 64 ≤ number (drop (z.result + 2) b.result.now) = omega (arith, begins.large c.if-end-first-gt8.true, begins.same, counter_in_lem at_if1) in
+    let large : 2 ^ 64 ≤ number (drop (z.result + 2) b.result.now) = omega (arith, begins.large c.if-end-first-gt8.true, begins.same, counter_in_lem c.before.before.before) in
     refused v Kind.Popularimeter a.from b.result.now _ b.ensures 34
-    (popularimeter_large b.result.now z.result z.ensures at_if1.if-b-len.false large)
+    (popularimeter_large b.result.now z.result z.ensures c.before.before.before.if-b-len.false large)
 
 returns_3 : tie.Need-returns
 returns_3 c v =
-    let at_zeros = c.before.before.before in
-    let at_if1 = at_zeros.before.before in
-    let at_part = at_if1.before.before in
-    let a = at_part.before.before.args in
-    let b = at_part.part-b in
-    let z = at_if1.before.zero_at-len in
+    let a = c.before.before.before.before.before.before.before.before.before.args in
+    let b = c.before.before.before.before.before.before.before.part-b in
+    let z = c.before.before.before.before.before.before.zero_at-len in
     let n = c.before.read64-counter in
-    let rated = at_if1.if-b-len.false in
+    let rated = c.before.before.before.before.before.if-b-len.false in
     let counter : n.result ≡ number (drop (z.result + 2) b.result.now) =
-    counter_read (a.from + z.result + 2) (a.from + length b.result.now) at_zeros.after_zeros-first.result n.result a.s.now
-    at_zeros.after_zeros-first.ensures (omega arith) n.ensures
-    ∙ counter_in_lem at_if1 in
+    counter_read (a.from + z.result + 2) (a.from + length b.result.now) c.before.before.before.after_zeros-first.result n.result a.s.now
+    c.before.before.before.after_zeros-first.ensures (omega arith) n.ensures
+    ∙ counter_in_lem c.before.before.before.before.before in
     let fits : number (drop (z.result + 2) b.result.now) < 2 ^ 64 = omega (arith, counter, n.type-inv) in
     accepted v Kind.Popularimeter a.from b.result.now _ b.ensures _
     (popularimeter_whole b.result.now z.result z.ensures rated fits)

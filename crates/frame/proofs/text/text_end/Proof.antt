@@ -5,26 +5,20 @@ use Rattle.frame.proofs.text.text_end.Tie as tie
 
 returns : tie.Need-returns-in-Id3v22
 returns c =
-    let at_is_paired = c.before.before.before in
-    let at_part = at_is_paired.before in
-    let text = at_part.part-text.ensures in
-    let paired = at_is_paired.is_paired-paired.ensures in
+    let text = c.before.before.before.part-text.ensures in
+    let paired = c.before.before.is_paired-paired.ensures in
     rw (c.before.in-Id3v22.is, ← text, ← paired) c.first_end.ensures
 
 returns_2 : tie.Need-returns-in-Id3v23
 returns_2 c =
-    let at_is_paired = c.before.before.before in
-    let at_part = at_is_paired.before in
-    let text = at_part.part-text.ensures in
-    let paired = at_is_paired.is_paired-paired.ensures in
+    let text = c.before.before.before.part-text.ensures in
+    let paired = c.before.before.is_paired-paired.ensures in
     rw (c.before.in-Id3v23.is, ← text, ← paired) c.first_end-in-Id3v23.ensures
 
 returns_3 : tie.Need-returns-in-Id3v24
 returns_3 c =
-    let at_is_paired = c.before.before.before in
-    let at_part = at_is_paired.before in
-    let text = at_part.part-text.ensures in
-    let paired = at_is_paired.is_paired-paired.ensures in
+    let text = c.before.before.before.part-text.ensures in
+    let paired = c.before.before.is_paired-paired.ensures in
     rw (c.before.in-Id3v24.is, ← text, ← paired) c.closing_end.ensures
 
 pub text_end_spec : {M : Type 1} → statement M

@@ -14,43 +14,27 @@ is_length c = c.length_bytes-n.ensures.0 ∙ ap (λ (t : Bool). pick t 4 0) c.be
 
 returns : tie.Need-returns-then-b-start
 returns c depth shallow =
-    let at_read = c.before.before.before.before in
-    let a = at_read.before in
-    let n = c.before in
-    no_length Id3v23 a.args.b.now a.requires depth shallow n.length_bytes-n.result (is_length n) c.if-b-start.true
+    no_length Id3v23 c.before.before.before.before.before.args.b.now c.before.before.before.before.before.requires depth shallow c.before.length_bytes-n.result (is_length c.before) c.if-b-start.true
 
 returns_2 : tie.Need-returns-then-whole-n
 returns_2 c depth shallow =
-    let at_length_bytes = c.before.before.before in
-    let a = at_length_bytes.before.before.before.before in
-    let n = c.before.before.before in
     let whole = c.before.read32-whole in
-    too_small Id3v23 a.args.b.now a.requires depth shallow n.length_bytes-n.result (is_length n) c.before.before.if-b-start.false
+    too_small Id3v23 c.before.before.before.before.before.before.before.args.b.now c.before.before.before.before.before.before.before.requires depth shallow c.before.before.before.length_bytes-n.result (is_length c.before.before.before) c.before.before.if-b-start.false
     whole.result whole.ensures refl c.if-whole-n.true
 
 returns_3 : tie.Need-returns-then-left-size
 returns_3 c depth shallow =
-    let at_if1 = c.before.before.before in
-    let at_read = at_if1.before.before.before.before in
-    let a = at_read.before in
-    let n = at_if1.before in
     let whole = c.before.before.read32-whole in
-    not_whole Id3v23 a.args.b.now a.requires depth shallow n.length_bytes-n.result (is_length n) at_if1.if-b-start.false
+    not_whole Id3v23 c.before.before.before.before.before.before.before.before.args.b.now c.before.before.before.before.before.before.before.before.requires depth shallow c.before.before.before.before.length_bytes-n.result (is_length c.before.before.before.before) c.before.before.before.if-b-start.false
     whole.result whole.ensures _ refl refl c.before.if-whole-n.false c.if-left-size.true
 
 returns_4 : tie.Need-returns
 returns_4 c depth shallow =
-    let at_if2 = c.before.before.before in
-    let at_read32 = at_if2.before in
-    let at_if1 = at_read32.before in
-    let at_has = at_if1.before.before in
-    let a = at_has.before.before.before in
-    let n = at_if1.before in
-    let whole = at_read32.read32-whole in
+    let whole = c.before.before.before.before.read32-whole in
     let id = c.before.read32 in
-    let compressed = at_has.has-compressed in
-    found Id3v23 a.args.b.now a.requires depth shallow n.length_bytes-n.result (is_length n) at_if1.if-b-start.false
-    whole.result whole.ensures _ refl (λ w. (at_if2.if-whole-n.false, c.before.before.if-left-size.false))
+    let compressed = c.before.before.before.before.before.before.before.has-compressed in
+    found Id3v23 c.before.before.before.before.before.before.before.before.before.before.args.b.now c.before.before.before.before.before.before.before.before.before.before.requires depth shallow c.before.before.before.before.before.before.length_bytes-n.result (is_length c.before.before.before.before.before.before) c.before.before.before.before.before.if-b-start.false
+    whole.result whole.ensures _ refl (λ w. (c.before.before.before.if-whole-n.false, c.before.before.if-left-size.false))
     id.result id.ensures compressed.result false compressed.ensures refl c.found.result c.found.ensures
 
 pub with_body_spec : {M : Type 1} → statement M

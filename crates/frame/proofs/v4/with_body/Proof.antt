@@ -15,27 +15,17 @@ is_length c = c.length_bytes-n.ensures.0 ∙ ap (λ (t : Bool). pick t 4 0) c.be
 
 returns : tie.Need-returns-then-b-start
 returns c depth shallow =
-    let at_length_bytes = c.before.before.before in
-    let a = at_length_bytes.before.before.before.before in
-    let n = c.before.before.before in
-    no_length Id3v24 a.args.b.now a.requires depth shallow n.length_bytes-n.result (is_length n) c.if-b-start.true
+    no_length Id3v24 c.before.before.before.before.before.before.before.args.b.now c.before.before.before.before.before.before.before.requires depth shallow c.before.before.before.length_bytes-n.result (is_length c.before.before.before) c.if-b-start.true
 
 returns_2 : tie.Need-returns
 returns_2 c depth shallow =
-    let at_has2 = c.before.before.before in
-    let at_if1 = at_has2.before in
-    let at_beyond = at_if1.before in
-    let at_frame_size = at_beyond.before in
-    let at_read = at_frame_size.before.before.before.before in
-    let a = at_read.before in
-    let n = at_frame_size.before in
-    let there = at_if1.if-b-start.false in
-    let whole = at_frame_size.frame_size in
-    let size = at_beyond.beyond-size in
+    let there = c.before.before.before.before.if-b-start.false in
+    let whole = c.before.before.before.before.before.before.frame_size in
+    let size = c.before.before.before.before.before.beyond-size in
     let id = c.before.read32 in
-    let compressed = at_has2.has-compressed in
+    let compressed = c.before.before.before.has-compressed in
     let flagged = c.before.before.has-flagged in
-    found Id3v24 a.args.b.now a.requires depth shallow n.length_bytes-n.result (is_length n) there
+    found Id3v24 c.before.before.before.before.before.before.before.before.before.before.before.args.b.now c.before.before.before.before.before.before.before.before.before.before.before.requires depth shallow c.before.before.before.before.before.before.before.length_bytes-n.result (is_length c.before.before.before.before.before.before.before) there
     whole.result whole.ensures size.result size.ensures (λ w. absurd (false_not_true w))
     id.result id.ensures compressed.result flagged.result compressed.ensures flagged.ensures c.found.result c.found.ensures
 

@@ -18,8 +18,7 @@ decreases_loop self work₀ tag r version at₀ frames₀ short₀ compressed₀
 
 loop_holds : tie.Need-loop-k-init invariant_loop decreases_loop
 loop_holds c =
-    let start = c.before.before.before in
-    (refl, begins start.args.self start.args.tag.now start.args.work.now start.requires)
+    (refl, begins c.before.before.before.args.self c.before.before.before.args.tag.now c.before.before.before.args.work.now c.before.before.before.requires)
 
 -- ---- after a look at the place: it was `met` that stood there
 
@@ -49,31 +48,31 @@ module _ (c : tie.After-meet invariant_loop decreases_loop) {met : Met} (is : c.
 returns : tie.Need-returns-in-Nothing invariant_loop decreases_loop
 returns c =
     let at_ended = c.before in
-    rw c.moved.ensures (rest_is at_ended.before.before.before.before at_ended.in-Nothing.is)
+    rw c.moved.ensures (rest_is at_ended.before.before.before.before c.before.in-Nothing.is)
 
 returns_2 : tie.Need-returns-in-Refused invariant_loop decreases_loop
 returns_2 c =
     let at_refused = c.before.before in
-    rw c.moved-in-Refused.ensures (rest_is at_refused.before.before.before.before at_refused.in-Refused.is)
+    rw c.moved-in-Refused.ensures (rest_is at_refused.before.before.before.before c.before.in-Refused.is)
 
 loop_less : tie.Need-loop-k-smaller invariant_loop decreases_loop
 loop_less c =
     let at_passed = c.before.before in
     let at_meet = at_passed.before.before.before.before in
-    let r = (at_start at_meet).args.self.reader in
-    let L = (at_loop at_meet).loop in
-    passed_less r.version r.in_work 0 L.at r.end _ L.work-1 _ _ _ (met_here at_meet at_passed.in-Passed.is 0)
+    let r = (at_start c.before.before.before.before).args.self.reader in
+    let L = (at_loop c.before.before.before.before).loop in
+    passed_less r.version r.in_work 0 L.at r.end _ L.work-1 _ _ _ (met_here at_meet c.before.in-Passed.is 0)
 
 loop_again : tie.Need-loop-k-preserved invariant_loop decreases_loop
 loop_again c =
     let at_passed = c.before.before in
     let at_meet = at_passed.before.before.before.before in
-    (at_meet.meet.auto.0 ∙ (at_loop at_meet).loop.invariant.0, rw c.one_more-frames.ensures (rest_is at_meet at_passed.in-Passed.is))
+    (c.before.before.before.before.meet.auto.0 ∙ (at_loop c.before.before.before.before).loop.invariant.0, rw c.one_more-frames.ensures (rest_is at_meet c.before.in-Passed.is))
 
 returns_3 : tie.Need-returns-in-Popularimeter invariant_loop decreases_loop
 returns_3 c =
     let at_found = c.before.before.before in
-    rw (c.moved-in-Popularimeter.ensures, c.before.one_more.ensures) (rest_is at_found.before.before.before.before at_found.in-Popularimeter.is)
+    rw (c.moved-in-Popularimeter.ensures, c.before.one_more.ensures) (rest_is at_found.before.before.before.before c.before.before.in-Popularimeter.is)
 
 pub run_spec : {M : Type 1} → statement M
 run_spec =

@@ -6,11 +6,9 @@ use Rattle.meter.proofs.glance.by_kind.Tie as tie
 
 returns_3 : tie.Need-returns-else-s-first-gt3
 returns_3 c =
-    let at_enum_told = c.before.before.before in
-    let start = at_enum_told.before.before in
-    let a = start.args in
-    rw at_enum_told.in-Text.is
-    (refl, text_at a.first a.size a.s.now start.requires c.before.before.if-size-eq0.false c.if-s-first-gt3.false)
+    let a = c.before.before.before.before.args in
+    rw c.before.before.before.in-Text.is
+    (refl, text_at a.first a.size a.s.now c.before.before.before.before.requires c.before.before.if-size-eq0.false c.if-s-first-gt3.false)
 
 returns_5 : tie.Need-returns-in-Raw
 returns_5 c = rw c.in-Raw.is (refl, tt {0})

@@ -7,23 +7,19 @@ use Rattle.meter.proofs.glance.glance10.Tie as tie
 
 returns : tie.Need-returns-then-id-lt16777216
 returns c =
-    let start = c.before.before.before in
-    let a = start.args in
-    ten_end a.at a.left a.s.now (λ i. omega (arith, c.before.before.shared_slice_known-1.given i)) start.requires c.before.read32-id.result c.before.read32-id.ensures a.v4 c.if-id-lt16777216.true
+    let a = c.before.before.before.args in
+    ten_end a.at a.left a.s.now (λ i. omega (arith, c.before.before.shared_slice_known-1.given i)) c.before.before.before.requires c.before.read32-id.result c.before.read32-id.ensures a.v4 c.if-id-lt16777216.true
 
 returns_4 : tie.Need-returns-then-flags-eq0
 returns_4 c =
     let at_kind_of = c.before in
     let at_if3 = at_kind_of.before.before.before in
     let at_size_of = at_if3.before in
-    let at_if2 = at_size_of.before.before in
-    let at_bytes = at_if2.before.before.before in
-    let start = at_bytes.before in
-    let a = start.args in
-    let id = at_if2.before.before.read32-id in
-    ten_says a.at a.left a.s.now (λ i. omega (arith, at_bytes.shared_slice_known-1.given i)) start.requires id.result id.ensures at_if2.before.if-id-lt16777216.false at_if2.if-id-ne0.false
-    at_size_of.type_size.result at_if3.if-left-size.false at_kind_of.kind_of.result at_kind_of.kind_of.ensures c.by_kind.result c.by_kind.ensures a.v4
-    (at_size_of.type_size.ensures ∙ ap (size_by a.v4) at_size_of.before.read32.ensures) at_kind_of.before.if-flags-eq0.true
+    let a = c.before.before.before.before.before.before.before.before.before.before.before.args in
+    let id = c.before.before.before.before.before.before.before.before.before.read32-id in
+    ten_says a.at a.left a.s.now (λ i. omega (arith, c.before.before.before.before.before.before.before.before.before.before.shared_slice_known-1.given i)) c.before.before.before.before.before.before.before.before.before.before.before.requires id.result id.ensures c.before.before.before.before.before.before.before.before.if-id-lt16777216.false c.before.before.before.before.before.before.before.if-id-ne0.false
+    at_size_of.type_size.result c.before.before.before.before.if-left-size.false c.before.kind_of.result c.before.kind_of.ensures c.by_kind.result c.by_kind.ensures a.v4
+    (at_size_of.type_size.ensures ∙ ap (size_by a.v4) c.before.before.before.before.before.before.read32.ensures) c.before.before.if-flags-eq0.true
 
 returns_5 : tie.Need-returns-then-v4
 returns_5 c =
@@ -32,15 +28,12 @@ returns_5 c =
     let at_if5 = at_kind_of2.before.before in
     let at_if3 = at_if5.before.before.before in
     let at_size_of = at_if3.before in
-    let at_if2 = at_size_of.before.before in
-    let at_bytes = at_if2.before.before.before in
-    let start = at_bytes.before in
-    let a = start.args in
-    let id = at_if2.before.before.read32-id in
+    let a = c.before.before.before.before.before.before.before.before.before.before.before.before.before.before.args in
+    let id = c.before.before.before.before.before.before.before.before.before.before.before.before.read32-id in
     rw c.with_flag.ensures
-    (ten_says_flagged a.at a.left a.s.now (λ i. omega (arith, at_bytes.shared_slice_known-1.given i)) start.requires id.result id.ensures at_if2.before.if-id-lt16777216.false at_if2.if-id-ne0.false
-    at_size_of.type_size.result at_if3.if-left-size.false at_kind_of2.kind_of-then-v4.result at_kind_of2.kind_of-then-v4.ensures at_by_kind2.by_kind-then-v4.result at_by_kind2.by_kind-then-v4.ensures a.v4 at_kind_of2.before.if-v4.true
-    (at_size_of.type_size.ensures ∙ ap (size_by a.v4) at_size_of.before.read32.ensures) at_if5.if-flags-eq-UNSYNCHRONISED.true)
+    (ten_says_flagged a.at a.left a.s.now (λ i. omega (arith, c.before.before.before.before.before.before.before.before.before.before.before.before.before.shared_slice_known-1.given i)) c.before.before.before.before.before.before.before.before.before.before.before.before.before.before.requires id.result id.ensures c.before.before.before.before.before.before.before.before.before.before.before.if-id-lt16777216.false c.before.before.before.before.before.before.before.before.before.before.if-id-ne0.false
+    at_size_of.type_size.result c.before.before.before.before.before.before.before.if-left-size.false c.before.before.kind_of-then-v4.result c.before.before.kind_of-then-v4.ensures c.before.by_kind-then-v4.result c.before.by_kind-then-v4.ensures a.v4 c.before.before.before.if-v4.true
+    (at_size_of.type_size.ensures ∙ ap (size_by a.v4) c.before.before.before.before.before.before.before.before.before.read32.ensures) c.before.before.before.before.if-flags-eq-UNSYNCHRONISED.true)
 
 pub glance10_spec : {M : Type 1} → statement M
 glance10_spec =

@@ -13,19 +13,16 @@ returns c =
 
 returns_3 : tie.Need-returns-then-is_22
 returns_3 c =
-    let at_if1 = c.before.before.before.before in
-    let a = at_if1.before.before.args in
+    let a = c.before.before.before.before.before.before.args in
     rw (is_22 a.version (sym c.before.before.is_22.ensures ∙ c.before.if-is_22.true))
     (says_from Id3v22 a.at 6 (a.last - a.at - 6) a.last a.s.now c.glance6.result (omega arith) c.glance6.ensures)
 
 returns_4 : tie.Need-returns
 returns_4 c =
-    let at_is_24 = c.before in
-    let at_is_22 = at_is_24.before.before in
-    let a = at_is_22.before.before.before.before.args in
-    let ten = is_ten a.version (sym at_is_22.is_22.ensures ∙ at_is_24.before.if-is_22.false) in
-    let said = says_from (ten_of at_is_24.is_24.result) a.at 10 (a.last - a.at - 10) a.last a.s.now c.glance10.result (omega arith) c.glance10.ensures in
-    rw ten at (rw at_is_24.is_24.ensures at said)
+    let a = c.before.before.before.before.before.before.before.args in
+    let ten = is_ten a.version (sym c.before.before.before.is_22.ensures ∙ c.before.before.if-is_22.false) in
+    let said = says_from (ten_of c.before.is_24.result) a.at 10 (a.last - a.at - 10) a.last a.s.now c.glance10.result (omega arith) c.glance10.ensures in
+    rw ten at (rw c.before.is_24.ensures at said)
 
 pub glance_at_spec : {M : Type 1} → statement M
 glance_at_spec =

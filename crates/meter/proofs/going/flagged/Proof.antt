@@ -8,18 +8,14 @@ use Rattle.meter.proofs.going.flagged.Tie as tie
 
 returns : tie.Need-returns-in-Refused
 returns c =
-    let at_work = c.before.before.before.before in
-    let at_put = at_work.before in
-    let a = at_put.before.before.before.before.args in
-    rw c.before.in-Refused.is at (flagged_put (resynchronised (slice a.first a.next a.tag.now)) a.next a.work.now at_put.resync_into.ensures)
+    let a = c.before.before.before.before.before.before.before.args in
+    rw c.in-Refused.is at (flagged_put (resynchronised (slice a.first a.next a.tag.now)) a.next a.work.now c.before.before.before.resync_into.ensures)
 
 returns_2 : tie.Need-returns-in-Bytes
 returns_2 c =
-    let at_work = c.before.before.before.before in
-    let at_put = at_work.before in
-    let a = at_put.before.before.before.before.args in
+    let a = c.before.before.before.before.before.before.before.before.args in
     rw c.passed.ensures
-    (rw c.before.in-Bytes.is at (flagged_put (resynchronised (slice a.first a.next a.tag.now)) a.next a.work.now at_put.resync_into.ensures))
+    (rw c.before.in-Bytes.is at (flagged_put (resynchronised (slice a.first a.next a.tag.now)) a.next a.work.now c.before.before.before.before.resync_into.ensures))
 
 pub flagged_spec : {M : Type 1} → statement M
 flagged_spec =

@@ -48,51 +48,51 @@ add_passed : tie.Need-overflow_add-at
 add_passed c =
     let at_plain = c.before.before in
     let at_glance = at_plain.before.before in
-    omega (arith, fits at_glance (says at_glance at_plain.in-Plain.is).0 c.head_len.ensures.0)
+    omega (arith, fits at_glance (says at_glance c.before.in-Plain.is).0 c.head_len.ensures.0)
 
 add_passed_2 : tie.Need-overflow_add-at-in-Plain
 add_passed_2 c =
     let at_plain = c.before.before in
     let at_glance = at_plain.before.before in
-    omega (arith, fits at_glance (says at_glance at_plain.in-Plain.is).0 c.head_len.ensures.0)
+    omega (arith, fits at_glance (says at_glance c.before.in-Plain.is).0 c.head_len.ensures.0)
 
 add_first : tie.Need-overflow_add-first
 add_first c =
     let at_flagged = c.before.before.before in
     let at_glance = at_flagged.before.before in
-    omega (arith, fits at_glance (says at_glance at_flagged.in-Flagged.is).0 c.head_len-in-Flagged.ensures.0)
+    omega (arith, fits at_glance (says at_glance c.before.before.in-Flagged.is).0 c.head_len-in-Flagged.ensures.0)
 
 add_flagged : tie.Need-overflow_add-first-in-Flagged
 add_flagged c =
     let at_flagged = c.before.before.before.before in
     let at_glance = at_flagged.before.before in
-    omega (arith, fits at_glance (says at_glance at_flagged.in-Flagged.is).0 c.before.head_len-in-Flagged.ensures.0)
+    omega (arith, fits at_glance (says at_glance c.before.before.before.in-Flagged.is).0 c.before.head_len-in-Flagged.ensures.0)
 
 add_first_2 : tie.Need-overflow_add-first-in-Meter
 add_first_2 c =
     let at_meter = c.before.before in
     let at_glance = at_meter.before.before in
-    omega (arith, fits at_glance (says at_glance at_meter.in-Meter.is).0 c.head_len-in-Meter.ensures.0)
+    omega (arith, fits at_glance (says at_glance c.before.in-Meter.is).0 c.head_len-in-Meter.ensures.0)
 
 add_next : tie.Need-overflow_add-next
 add_next c =
     let at_meter = c.before.before in
     let at_glance = at_meter.before.before in
-    omega (arith, fits at_glance (says at_glance at_meter.in-Meter.is).0 c.head_len-in-Meter.ensures.0)
+    omega (arith, fits at_glance (says at_glance c.before.in-Meter.is).0 c.head_len-in-Meter.ensures.0)
 
 returns_3 : tie.Need-returns-in-End
 returns_3 c =
     let at_glance = c.before.before in
-    let a = (at_start at_glance).args in
+    let a = (at_start c.before).args in
     λ begin. meets_end a.version a.in_work begin a.at a.end a.tag.now a.work-1.now (says at_glance c.in-End.is)
 
 returns_4 : tie.Need-returns-in-Plain
 returns_4 c =
     let at_plain = c.before.before.before in
     let at_glance = at_plain.before.before in
-    let a = (at_start at_glance).args in
+    let a = (at_start c.before.before.before).args in
     λ begin. rw (c.passed.ensures, c.before.head_len.ensures.0)
-    (meets_plain a.version a.in_work begin a.at a.end a.tag.now a.work-1.now _ (says at_glance at_plain.in-Plain.is))
+    (meets_plain a.version a.in_work begin a.at a.end a.tag.now a.work-1.now _ (says at_glance c.before.before.in-Plain.is))
 
 returns_5 : tie.Need-returns-else-in_work
 returns_5 c =
@@ -100,17 +100,17 @@ returns_5 c =
     let at_head_len = at_passed.before.before in
     let at_flagged = at_head_len.before.before.before in
     let at_glance = at_flagged.before.before in
-    let a = (at_start at_glance).args in
-    λ begin. meets_flagged a.version a.in_work begin a.at a.end a.tag.now a.work-1.now _ at_head_len.before.if-in_work.false (says at_glance at_flagged.in-Flagged.is)
-    (rw at_head_len.head_len-in-Flagged.ensures.0 at at_passed.flagged.ensures)
+    let a = (at_start c.before.before.before.before.before.before.before).args in
+    λ begin. meets_flagged a.version a.in_work begin a.at a.end a.tag.now a.work-1.now _ c.before.before.before.before.before.if-in_work.false (says at_glance c.before.before.before.before.before.before.in-Flagged.is)
+    (rw c.before.before.before.before.head_len-in-Flagged.ensures.0 at c.before.before.flagged.ensures)
 
 returns_6 : tie.Need-returns-in-Meter
 returns_6 c =
     let at_head_len = c.before.before in
     let at_meter = at_head_len.before.before in
     let at_glance = at_meter.before.before in
-    let a = (at_start at_glance).args in
-    λ begin. meets_meter a.version a.in_work begin a.at a.end a.tag.now a.work-1.now _ (says at_glance at_meter.in-Meter.is) at_head_len.head_len-in-Meter.ensures.0 (at_source at_glance).source.ensures
+    let a = (at_start c.before.before.before.before).args in
+    λ begin. meets_meter a.version a.in_work begin a.at a.end a.tag.now a.work-1.now _ (says at_glance c.before.before.before.in-Meter.is) c.before.before.head_len-in-Meter.ensures.0 (at_source c.before.before.before.before).source.ensures
     (c.before.parse.ensures a.version) (c.read_as.ensures a.version)
 
 pub meet_spec : {M : Type 1} → statement M

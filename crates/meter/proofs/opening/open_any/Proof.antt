@@ -10,20 +10,20 @@ returns : tie.Need-returns-in-Ready
 returns c =
     let at_opened = c.before.before.before in
     let at_open = at_opened.before.before.before.before in
-    let a = at_open.before.before.before.before.args in
+    let a = c.before.before.before.before.before.before.before.before.before.args in
     let made = at_open.«open» in
-    opens_any a.tag.now a.work.now made.new.0 at_opened.in-Ready.reader c.metered.result
-    (c.metered.ensures ∙ ap (λ (t : Bool). meter_at t at_opened.in-Ready.reader) c.before.is_missing.ensures)
-    (ap {B = Opened × List ℕ} (λ (x : Opened). (x, made.new.0)) (sym at_opened.in-Ready.is) ∙ made.ensures)
+    opens_any a.tag.now a.work.now made.new.0 c.before.before.in-Ready.reader c.metered.result
+    (c.metered.ensures ∙ ap (λ (t : Bool). meter_at t c.before.before.in-Ready.reader) c.before.is_missing.ensures)
+    (ap {B = Opened × List ℕ} (λ (x : Opened). (x, made.new.0)) (sym c.before.before.in-Ready.is) ∙ made.ensures)
 
 returns_2 : tie.Need-returns-in-Refused
 returns_2 c =
     let at_opened2 = c.before in
     let at_open = at_opened2.before.before.before.before in
-    let a = at_open.before.before.before.before.args in
+    let a = c.before.before.before.before.before.before.before.args in
     let made = at_open.«open» in
-    opens_refused a.tag.now a.work.now made.new.0 at_opened2.in-Refused.k
-    (ap {B = Opened × List ℕ} (λ (x : Opened). (x, made.new.0)) (sym at_opened2.in-Refused.is) ∙ made.ensures)
+    opens_refused a.tag.now a.work.now made.new.0 c.in-Refused.k
+    (ap {B = Opened × List ℕ} (λ (x : Opened). (x, made.new.0)) (sym c.in-Refused.is) ∙ made.ensures)
 
 pub open_any_spec : {M : Type 1} → statement M
 open_any_spec =

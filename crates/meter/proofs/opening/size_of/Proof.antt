@@ -7,10 +7,10 @@ use Rattle.meter.proofs.opening.size_of.Tie as tie
 
 returns : tie.Need-returns
 returns c =
-    let start = c.before.before.before in (
+    (
       c.decode_u32.ensures
           ∙ ap (λ (n : ℕ). from_synchsafe (bytes_of 4 n)) c.before.read32.ensures
-          ∙ synchsafe_four 6 start.args.tag.now (omega arith) (λ i. omega (arith, c.before.before.shared_slice_known-1.given i)),
+          ∙ synchsafe_four 6 c.before.before.before.args.tag.now (omega arith) (λ i. omega (arith, c.before.before.shared_slice_known-1.given i)),
       omega arith,
     )
 

@@ -19,34 +19,25 @@ small c = omega arith
 
 returns_2 : tie.Need-returns-then-stop-start
 returns_2 c =
-    let at_sum = c.before in
-    let a = at_sum.before.before.args in
-    sum_nowhere a.start a.stop a.counter a.amount a.tag.now (small at_sum) (field_back a.start a.stop a.tag.now c.if-stop-start.true)
+    let a = c.before.before.before.args in
+    sum_nowhere a.start a.stop a.counter a.amount a.tag.now (small c.before) (field_back a.start a.stop a.tag.now c.if-stop-start.true)
 
 returns_3 : tie.Need-returns-then-tag-stop
 returns_3 c =
-    let at_order = c.before in
-    let at_sum = at_order.before in
-    let a = at_sum.before.before.args in
-    sum_nowhere a.start a.stop a.counter a.amount a.tag.now (small at_sum) (field_past a.start a.stop a.tag.now (omega (arith, at_order.if-stop-start.false)) c.if-tag-stop.true)
+    let a = c.before.before.before.before.args in
+    sum_nowhere a.start a.stop a.counter a.amount a.tag.now (small c.before.before) (field_past a.start a.stop a.tag.now (omega (arith, c.before.if-stop-start.false)) c.if-tag-stop.true)
 
 returns_4 : tie.Need-returns-then-not-fits
 returns_4 c =
-    let at_sum = c.before.before.before.before in
-    let a = at_sum.before.before.args in
-    sum_wide a.start a.stop a.counter a.amount a.tag.now (small at_sum) (sym c.before.fits.ensures ∙ not-true _ c.if-not-fits.true-raw)
+    let a = c.before.before.before.before.before.before.args in
+    sum_wide a.start a.stop a.counter a.amount a.tag.now (small c.before.before.before.before) (sym c.before.fits.ensures ∙ not-true _ c.if-not-fits.true-raw)
 
 returns_5 : tie.Need-returns
 returns_5 c =
-    let at_put = c.before.before in
-    let at_if4 = at_put.before.before in
-    let at_there = at_if4.before.before in
-    let at_order = at_there.before in
-    let at_sum = at_order.before in
-    let a = at_sum.before.before.args in
-    sum_stored a.start a.stop a.counter a.amount a.tag.now (small at_sum)
-    (field_there a.start a.stop a.tag.now (omega (arith, at_order.if-stop-start.false)) (omega (arith, at_there.if-tag-stop.false)))
-    (sym at_if4.before.fits.ensures ∙ not-false _ at_if4.if-not-fits.false-raw) _ at_put.put_value.ensures
+    let a = c.before.before.before.before.before.before.before.before.before.before.args in
+    sum_stored a.start a.stop a.counter a.amount a.tag.now (small c.before.before.before.before.before.before.before.before)
+    (field_there a.start a.stop a.tag.now (omega (arith, c.before.before.before.before.before.before.before.if-stop-start.false)) (omega (arith, c.before.before.before.before.before.before.if-tag-stop.false)))
+    (sym c.before.before.before.before.before.fits.ensures ∙ not-false _ c.before.before.before.before.if-not-fits.false-raw) _ c.before.before.put_value.ensures
 
 pub raise_at_spec : {M : Type 1} → statement M
 raise_at_spec =

@@ -7,13 +7,11 @@ use Rattle.raise.proofs.frames.frames.Tie as tie
 
 frames_found_requires : tie.Need-frames_found-requires
 frames_found_requires c κs =
-    let at_header = c.before.before.before in
-    sym at_header.header-headed.ensures ∙ c.before.in-Found.is
+    sym c.before.header-headed.ensures ∙ c.in-Found.is
 
 returns : tie.Need-returns-in-Refused
 returns c =
-    let at_header = c.before.before.before in
-    header_refuses at_header.before.before.args.tag.now _ (sym at_header.header-headed.ensures ∙ c.before.in-Refused.is)
+    header_refuses c.before.before.before.args.tag.now _ (sym c.before.header-headed.ensures ∙ c.in-Refused.is)
 
 pub frames_spec : {M : Type 1} → statement M
 frames_spec = tie.close (tie.spec (λ c κs. search rules) (λ c. search rules) (λ c. search rules) frames_found_requires returns (λ c. search rules))

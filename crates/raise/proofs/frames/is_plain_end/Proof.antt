@@ -14,9 +14,8 @@ returns c =
 
 returns_2 : tie.Need-returns
 returns_2 c =
-    let at_if1 = c.before in
-    let a = at_if1.before.before.args in
-    c.all_zero.ensures ∙ sym (ap (λ (t : Bool). not t && all_zero (slice a.at a.end a.tag.now)) at_if1.if-odd.false)
+    let a = c.before.before.before.args in
+    c.all_zero.ensures ∙ sym (ap (λ (t : Bool). not t && all_zero (slice a.at a.end a.tag.now)) c.before.if-odd.false)
 
 pub is_plain_end_spec : {M : Type 1} → statement M
 is_plain_end_spec = tie.close (tie.spec returns (λ c κs. search rules) returns_2)

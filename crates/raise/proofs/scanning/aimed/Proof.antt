@@ -6,21 +6,18 @@ use Rattle.raise.proofs.scanning.aimed.Tie as tie
 
 returns : tie.Need-returns-then-n-eq0
 returns c =
-    let at_aim = c.before.before in
-    let a = at_aim.before.before.args in
-    aimed_first a.aim _ a.at a.next at_aim.in-Before.is c.if-n-eq0.true
+    let a = c.before.before.args in
+    aimed_first a.aim _ a.at a.next c.before.in-Before.is c.if-n-eq0.true
 
 returns_2 : tie.Need-returns-else-n-eq0
 returns_2 c =
-    let at_aim = c.before.before in
-    let a = at_aim.before.before.args in
-    aimed_before a.aim _ a.at a.next at_aim.in-Before.is c.if-n-eq0.false
+    let a = c.before.before.args in
+    aimed_before a.aim _ a.at a.next c.before.in-Before.is c.if-n-eq0.false
 
 returns_3 : tie.Need-returns-in-Frame
 returns_3 c =
-    let at_aim = c.before in
-    let a = at_aim.before.before.args in
-    aimed_found a.aim _ _ a.at a.next at_aim.in-Frame.is
+    let a = c.before.args in
+    aimed_found a.aim _ _ a.at a.next c.in-Frame.is
 
 pub aimed_spec : {M : Type 1} → statement M
 aimed_spec =

@@ -17,20 +17,18 @@ told : (c : tie.After-frames-framed) {x : Framed} → c.frames-framed.result ≡
 told c e = framed_as _ (sym e ∙ c.frames-framed.ensures)
 
 search_requires : tie.Need-search-requires
-search_requires c κs = framed_fits (told c.before.before.before c.before.in-Frames.is)
+search_requires c κs = framed_fits (told c.before.before.before c.in-Frames.is)
 
 returns : tie.Need-returns-in-Refused
 unfolding scanned_of
-returns c = framed_refused Scanned.Refused _ _ (told c.before.before.before c.before.in-Refused.is)
+returns c = framed_refused Scanned.Refused _ _ (told c.before.before.before c.in-Refused.is)
 
 returns_2 : tie.Need-returns-in-Frames
 unfolding scanned_of scanned_in
 returns_2 c =
-    let at_framed = c.before.before in
-    let at_frames = at_framed.before.before in
-    let a = at_frames.before.before.before.args in
+    let a = c.before.before.before.before.before.args in
     c.search.ensures
-    ∙ framed_looked Scanned.Refused _ (λ (v : Version) (begin end : ℕ) (s : List ℕ). scanned_on v a.user.now a.number begin end (blocks_in v s)) (told at_frames at_framed.in-Frames.is)
+    ∙ framed_looked Scanned.Refused _ (λ (v : Version) (begin end : ℕ) (s : List ℕ). scanned_on v a.user.now a.number begin end (blocks_in v s)) (told c.before.before c.before.in-Frames.is)
 
 pub scan_spec : {M : Type 1} → statement M
 scan_spec = tie.close (tie.spec (λ c κs. search rules) (λ c. search rules) (λ c. search rules) search_requires returns returns_2)

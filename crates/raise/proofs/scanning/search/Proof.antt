@@ -50,20 +50,18 @@ loop_holds c = (refl, λ e. (refl, (refl, refl)))
 returns : tie.Need-returns-in-Stops invariant_loop decreases_loop
 unfolding scanned_in
 returns c =
-    let at_seen = c.before.before.before in
-    let a = (start at_seen).args in
-    let L = (at_loop at_seen).loop in
+    let a = (start c.before).args in
+    let L = (at_loop c.before).loop in
     look_stops Scanned.Refused a.version (slice a.begin a.end a.tag.now) a.oddly (slice L.at a.end a.tag.now) L.odd L.invariant.0 _
-    _ (says_stops (says a.version L.at a.end a.tag.now (seen at_seen c.before.in-Stops.is)))
+    _ (says_stops (says a.version L.at a.end a.tag.now (seen c.before c.in-Stops.is)))
 
 returns_2 : tie.Need-returns-in-End invariant_loop decreases_loop
 unfolding scanned_in scanned_on
 returns_2 c =
-    let at_seen = c.before.before.before in
-    let a = (start at_seen).args in
-    let L = (at_loop at_seen).loop in
+    let a = (start c.before.before).args in
+    let L = (at_loop c.before.before).loop in
     let rest = slice L.at a.end a.tag.now in
-    let ends = says_end (says a.version L.at a.end a.tag.now (seen at_seen c.before.in-End.is)) in
+    let ends = says_end (says a.version L.at a.end a.tag.now (seen c.before.before c.before.in-End.is)) in
     c.after_last.ensures
     ∙ look_ends Scanned.Refused a.version (slice a.begin a.end a.tag.now) a.oddly rest L.odd L.invariant.0 _ ends _
     (λ even. all_scanned a.user.now L.at rest L.found L.aim ends (L.invariant.1 even))
@@ -74,25 +72,23 @@ other : (c : tie.In-Frame-2 invariant_loop decreases_loop)
     let a = (start at_seen).args in
     MetOther a.version (at_loop at_seen).loop.at a.end a.tag.now c.in-Frame.next c.in-Frame.itself
 other c =
-    let at_seen = c.before.before in
-    let a = (start at_seen).args in
-    says_other (says a.version (at_loop at_seen).loop.at a.end a.tag.now (seen at_seen c.in-Frame.is))
+    let a = (start c.before).args in
+    says_other (says a.version (at_loop c.before).loop.at a.end a.tag.now (seen c.before c.in-Frame.is))
 
 loop_less : tie.Need-loop-k-smaller-in-Frame invariant_loop decreases_loop
 loop_less c =
     let at_next = c.before.before in
     let le = (start at_next.before.before).pre in
-    let m = (other at_next).met in
+    let m = (other c.before).met in
     omega (arith, later le m, within le m)
 
 loop_again : tie.Need-loop-k-preserved-in-Frame invariant_loop decreases_loop
 loop_again c =
     let at_next = c.before.before in
-    let at_seen = at_next.before.before in
-    let a = (start at_seen).args in
-    let le = (start at_seen).requires in
-    let L = (at_loop at_seen).loop in
-    let m = other at_next in
+    let a = (start c.before.before).args in
+    let le = (start c.before.before).requires in
+    let L = (at_loop c.before.before).loop in
+    let m = other c.before in
     let g = at_next.next-1.given.0 in
     let rest = blocks_in a.version (slice g.0 a.end a.tag.now) in (
       look_again le m.met L.odd L.invariant.0,
@@ -113,9 +109,8 @@ meter : (c : tie.In-Popularimeter-2 invariant_loop decreases_loop)
     let g = c.next-in-Popularimeter-1.given.0 in
     MetMeter a.version (at_loop at_seen).loop.at a.end a.tag.now g.0 g.1.0 g.1.1.0 g.1.1.1.1.0
 meter c =
-    let at_seen = c.before.before in
-    let a = (start at_seen).args in
-    says_meter (says a.version (at_loop at_seen).loop.at a.end a.tag.now (seen at_seen c.in-Popularimeter.is))
+    let a = (start c.before).args in
+    says_meter (says a.version (at_loop c.before).loop.at a.end a.tag.now (seen c.before c.in-Popularimeter.is))
 
 user_in_lem : (c : tie.After-struct_known-1 invariant_loop decreases_loop) → let at_next = c.before.before in
     let name = at_next.in-Popularimeter.name in
@@ -123,7 +118,7 @@ user_in_lem : (c : tie.After-struct_known-1 invariant_loop decreases_loop) → l
 user_in_lem c =
     let at_next = c.before.before in
     let le = (start at_next.before.before).pre in
-    let m = meter at_next in
+    let m = meter c.before in
     omega (arith, user_fits le m, within le m.met)
 
 add_start : tie.Need-overflow_add-start invariant_loop decreases_loop
@@ -140,26 +135,25 @@ loop_less_2 c =
     let at_also = c.before in
     let at_next = at_also.before.before.before.before in
     let le = (start at_next.before.before).pre in
-    let m = (meter at_next).met in
+    let m = (meter c.before.before.before.before).met in
     omega (arith, later le m, within le m)
 
 loop_again_2 : tie.Need-loop-k-preserved invariant_loop decreases_loop
 loop_again_2 c =
     let at_also = c.before in
     let at_next = at_also.before.before.before.before in
-    let at_seen = at_next.before.before in
-    let a = (start at_seen).args in
-    let le = (start at_seen).requires in
-    let L = (at_loop at_seen).loop in
-    let m = meter at_next in
+    let a = (start c.before.before.before.before.before).args in
+    let le = (start c.before.before.before.before.before).requires in
+    let L = (at_loop c.before.before.before.before.before).loop in
+    let m = meter c.before.before.before.before in
     let g = at_next.next-in-Popularimeter-1.given.0 in
     let v = a.version in
     let rest = blocks_in v (slice g.0 a.end a.tag.now) in (
       look_again le m.met L.odd L.invariant.0,
       λ even. let p = or_false L.odd g.1.0 even in
           let before = L.invariant.1 p.0 in (
-            ap (λ (f : Found). found_on v a.user.now f g.0 rest) at_also.also-found.ensures
-                ∙ meter_turn v a.user.now L.found le m at_also.before.is_user-mine.result _ p.1 at_also.before.is_user-mine.ensures refl
+            ap (λ (f : Found). found_on v a.user.now f g.0 rest) c.before.also-found.ensures
+                ∙ meter_turn v a.user.now L.found le m c.before.before.is_user-mine.result _ p.1 c.before.before.is_user-mine.ensures refl
                 ∙ before.0,
             (
               ap (λ (x : Aim). aimed_on x g.0 rest) c.aimed-aim-in-Popularimeter.ensures ∙ aim_turn le m.met L.aim p.1 ∙ before.1.0,

@@ -16,17 +16,15 @@ returns c =
 
 returns_2 : tie.Need-returns-in-None
 returns_2 c =
-    let at_if1 = c.before.before in
-    let a = at_if1.before.args in
-    sym (ap (λ (t : Bool). also_of a.found t a.begin a.start a.stop a.counter) (not-false a.mine at_if1.if-not-mine.false-raw)
+    let a = c.before.before.args in
+    sym (ap (λ (t : Bool). also_of a.found t a.begin a.start a.stop a.counter) (not-false a.mine c.before.if-not-mine.false-raw)
     ∙ ap (λ (f : Found). also_of f true a.begin a.start a.stop a.counter) c.in-None.is)
 
 returns_3 : tie.Need-returns-in_default
 returns_3 c =
-    let at_if1 = c.before in
-    let a = at_if1.before.args in
+    let a = c.before.before.args in
     also_more a.found a.begin a.start a.stop a.counter c.in_default.in_default-own.keys2
-    ∙ sym (ap (λ (t : Bool). also_of a.found t a.begin a.start a.stop a.counter) (not-false a.mine at_if1.if-not-mine.false-raw))
+    ∙ sym (ap (λ (t : Bool). also_of a.found t a.begin a.start a.stop a.counter) (not-false a.mine c.before.if-not-mine.false-raw))
 
 pub also_spec : {M : Type 1} → statement M
 also_spec = tie.close (tie.spec returns (λ c. search rules) returns_2 returns_3)

@@ -31,16 +31,14 @@ loop_holds c =
 
 returns_2 : tie.Need-returns-then-s-start invariant_loop decreases_loop
 returns_2 c =
-    let at_loop = c.before.before.before.before in
-    let a = at_loop.before.before.args in
-    let L = at_loop.loop-i in
+    let a = c.before.before.before.before.before.before.args in
+    let L = c.before.before.before.before.loop-i in
     sym (same_not a.s.now a.start (a.start + a.len) a.user.now L.i (omega arith) L.invariant.2 (omega (arith, L.invariant.0)) c.if-s-start.true) ∙ L.invariant.3
 
 loop_again : tie.Need-loop-i-preserved invariant_loop decreases_loop
 loop_again c =
-    let at_loop = c.before.before.before.before in
-    let a = at_loop.before.before.args in
-    let L = at_loop.loop-i in (
+    let a = c.before.before.before.before.before.before.args in
+    let L = c.before.before.before.before.loop-i in (
       L.invariant.0,
       omega arith,
       L.invariant.2,
@@ -49,9 +47,8 @@ loop_again c =
 
 returns_3 : tie.Need-returns invariant_loop decreases_loop
 returns_3 c =
-    let at_loop = c.before in
-    let a = at_loop.before.before.args in
-    let L = at_loop.loop-i in
+    let a = c.before.before.before.args in
+    let L = c.before.loop-i in
     same_end a.s.now a.start (a.start + a.len) a.user.now L.i (omega arith) (omega (arith, L.invariant.0)) ∙ L.invariant.3
 
 pub is_user_spec : {M : Type 1} → statement M

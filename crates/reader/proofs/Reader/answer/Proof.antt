@@ -7,10 +7,10 @@ returns : tie.Need-returns-in-Nothing
 returns c = rw (c.before.in-Nothing.is, c.stopped.ensures)
 
 returns_2 : tie.Need-returns-in-Refused
-returns_2 c = rw (c.before.before.in-Refused.is, c.stopped-in-Refused.ensures)
+returns_2 c = rw (c.before.in-Refused.is, c.stopped-in-Refused.ensures)
 
 returns_3 : tie.Need-returns-in-Frame
-returns_3 c = rw (c.before.before.in-Frame.is, c.moved.ensures)
+returns_3 c = rw (c.before.in-Frame.is, c.moved.ensures)
 
 pub answer_spec : {M : Type 1} → statement M
 answer_spec =

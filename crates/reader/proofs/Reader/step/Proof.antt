@@ -6,20 +6,18 @@ use Rattle.reader.proofs.Reader.step.Tie as tie
 
 returns : tie.Need-returns-in-Running
 returns c =
-    let at_enum_told = c.before.before.before.before in
-    let a = at_enum_told.before.before.before.before.args in
-    running a.self a.tag.now a.work.now at_enum_told.in-Running.is c.before.before.go.ensures
+    let a = c.before.before.before.before.before.before.before.args in
+    running a.self a.tag.now a.work.now c.before.before.before.before.in-Running.is c.before.before.go.ensures
 
 returns_2 : tie.Need-returns-in-Ended
 returns_2 c =
-    let a = c.before.before.before.before.args in
+    let a = c.before.before.before.args in
     ended a.self a.tag.now a.work.now c.in-Ended.is
 
 returns_3 : tie.Need-returns-in-Failed
 returns_3 c =
-    let at_known = c.before.before.before.before in
-    let a = at_known.before.args in
-    failed a.self a.tag.now a.work.now c.before.in-Failed.is
+    let a = c.before.before.before.args in
+    failed a.self a.tag.now a.work.now c.in-Failed.is
 
 pub step_spec : {M : Type 1} → statement M
 step_spec =

@@ -28,10 +28,8 @@ synchsafe_requires c κs = omega (arith, taken c.before.before.before)
 returns_2 : tie.Need-returns
 unfolding header_of
 returns_2 c =
-    let at_version = c.before.before.before in
-    let at_accepted = at_version.before.before in
-    let none = sym at_accepted.before.refusal-k.ensures ∙ at_accepted.if-k-ne0.false in
-    rw (none, at_version.version_of.ensures, c.before.synchsafe.ensures, c.extended_size.ensures)
+    let none = sym c.before.before.before.before.before.before.refusal-k.ensures ∙ c.before.before.before.before.before.if-k-ne0.false in
+    rw (none, c.before.before.before.version_of.ensures, c.before.synchsafe.ensures, c.extended_size.ensures)
 
 pub header_spec : {M : Type 1} → statement M
 header_spec =

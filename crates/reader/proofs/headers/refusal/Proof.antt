@@ -44,8 +44,8 @@ begun c = record {
   says = c.before.before.before.has-extended.ensures;
 }
 
-ends : (c : tie.After-end_of) → c.end_of_lem.result ≡ length (cut_of (tag_there c))
-ends c = cut_end (tag_there c) c.before.synchsafe.ensures c.end_of_lem.ensures
+ends : (c : tie.After-end_of) → c.end_of.result ≡ length (cut_of (tag_there c))
+ends c = cut_end (tag_there c) c.before.synchsafe.ensures c.end_of.ensures
 
 is_there : (c : tie.Else-not-extended) → let at_clear = c.before.before in at_clear.before.before.before.has-extended.result ≡ true
 is_there c = not-false _ c.if-not-extended.false-raw
@@ -53,9 +53,7 @@ is_there c = not-false _ c.if-not-extended.false-raw
 sized : (c : tie.After-synchsafe-2)
     → (c.synchsafe-2.result < 6 → 6 ≡ header_refusal (tag_there c.before.before)) × (6 ≤ c.synchsafe-2.result → 0 ≡ header_refusal (tag_there c.before.before))
 sized c =
-    let at_end = c.before.before in
-    let at_there = at_end.before.before in
-    by_size (begun (at_clear at_end)) at_there.before.if-compressed.false (is_there at_there) (ends at_end) c.before.if-end_of-lt16.false c.synchsafe-2.ensures
+    by_size (begun (at_clear c.before.before)) c.before.before.before.before.before.if-compressed.false (is_there c.before.before.before.before) (ends c.before.before) c.before.if-end_of-lt16.false c.synchsafe-2.ensures
 
 returns : tie.Need-returns-then-not-begins
 returns c = no_tag _ (sym c.before.begins.ensures ∙ not-true _ c.if-not-begins.true-raw)
@@ -86,9 +84,7 @@ synchsafe_requires c κs = let at_clear = c.before.before in is_long (at_tag at_
 
 returns_6 : tie.Need-returns-then-end_of-lt16
 returns_6 c =
-    let at_end = c.before in
-    let at_there = at_end.before.before in
-    missing_bytes (begun (at_clear at_end)) at_there.before.if-compressed.false (is_there at_there) (ends at_end) c.if-end_of-lt16.true
+    missing_bytes (begun (at_clear c.before)) c.before.before.before.before.if-compressed.false (is_there c.before.before.before) (ends c.before) c.if-end_of-lt16.true
 
 returns_7 : tie.Need-returns-then-synchsafe-lt6
 returns_7 c = (sized c.before).0 c.if-synchsafe-lt6.true

@@ -4,10 +4,10 @@ use Rattle.reader.proofs.opening.is_whole.Statement.{statement}
 use Rattle.reader.proofs.opening.is_whole.Tie as tie
 
 returns : tie.Need-returns-in-Id3v22
-returns c = rw c.in-Id3v22.is c.before.before.has-on.ensures
+returns c = rw c.in-Id3v22.is c.before.has-on.ensures
 
 returns_2 : tie.Need-returns-in-Id3v23
-returns_2 c = rw c.in-Id3v23.is c.before.before.has-on.ensures
+returns_2 c = rw c.in-Id3v23.is c.before.has-on.ensures
 
 pub is_whole_spec : {M : Type 1} → statement M
 is_whole_spec =

@@ -6,13 +6,12 @@ use Rattle.reader.proofs.opening.open.Statement.{statement}
 use Rattle.reader.proofs.opening.open.Tie as tie
 
 open_found_requires : tie.Need-open_found-requires
-open_found_requires c κs = sym c.before.before.before.before.header-headed.ensures ∙ c.before.before.in-Found.is
+open_found_requires c κs = sym c.before.before.header-headed.ensures ∙ c.before.in-Found.is
 
 returns_2 : tie.Need-returns-in-Refused
 returns_2 c =
-    let at_header = c.before.before.before in
-    let a = at_header.before.before.before.args in
-    open_refused a.tag.now a.work.now _ (sym at_header.header-headed.ensures ∙ c.before.in-Refused.is)
+    let a = c.before.before.before.before.args in
+    open_refused a.tag.now a.work.now _ (sym c.before.header-headed.ensures ∙ c.in-Refused.is)
 
 pub open_spec : {M : Type 1} → statement M
 open_spec =

@@ -24,24 +24,17 @@ is_told c = record {
 
 returns : tie.Need-returns-then-not-is_whole
 returns c =
-    let at_whole = c.before.before in
-    in_tag (is_told at_whole) (work at_whole) (not-true _ c.before.if-not-is_whole.true-raw) c.ready.ensures
+    in_tag (is_told c.before.before) (work c.before.before) (not-true _ c.before.if-not-is_whole.true-raw) c.ready.ensures
 
 returns_2 : tie.Need-returns-in-Bytes
 returns_2 c =
-    let at_put = c.before.before in
-    let at_resync_into = at_put.before.before.before.before in
-    let at_whole = at_resync_into.before.before.before in
-    let on = not-false _ at_resync_into.before.before.if-not-is_whole.false-raw in
-    in_work (is_told at_whole) (work at_whole) on at_resync_into.resync_into-put.ensures at_put.in-Bytes.is c.ready-in-Bytes.ensures
+    let on = not-false _ c.before.before.before.before.before.before.if-not-is_whole.false-raw in
+    in_work (is_told c.before.before.before.before.before.before.before) (work c.before.before.before.before.before.before.before) on c.before.before.before.before.resync_into-put.ensures c.before.in-Bytes.is c.ready-in-Bytes.ensures
 
 returns_3 : tie.Need-returns-in-Refused
 returns_3 c =
-    let at_work = c.before.before.before.before in
-    let at_if1 = at_work.before.before.before in
-    let at_whole = at_if1.before in
-    let on = not-false _ at_if1.if-not-is_whole.false-raw in
-    too_small (is_told at_whole) (work at_whole) on at_work.before.resync_into-put.ensures c.before.in-Refused.is
+    let on = not-false _ c.before.before.before.before.before.if-not-is_whole.false-raw in
+    too_small (is_told c.before.before.before.before.before.before) (work c.before.before.before.before.before.before) on c.before.before.before.resync_into-put.ensures c.in-Refused.is
 
 pub open_found_spec : {M : Type 1} → statement M
 open_found_spec =

@@ -7,14 +7,11 @@ use Rattle.show.proofs.cases.show_tag.Tie as tie
 
 slice_aggregate_show : tie.Need-slice_bounds-show-end-2
 slice_aggregate_show c =
-    let at_start = c.before.before.before.before in
-    omega (arith, length-take at_start.args.room at_start.args.work.now)
+    omega (arith, length-take c.before.before.before.before.args.room c.before.before.before.before.args.work.now)
 
 slice_aggregate_show_2 : tie.Need-slice_bounds-show-end-3
 slice_aggregate_show_2 c =
-    let at_work = c.before.before in
-    let at_start = at_work.before.before.before.before in
-    omega (arith, length-take at_start.args.len at_start.args.area.now)
+    omega (arith, length-take c.before.before.before.before.before.args.len c.before.before.before.before.before.args.area.now)
 
 pub show_tag_spec : {M : Type 1} → statement M
 show_tag_spec =

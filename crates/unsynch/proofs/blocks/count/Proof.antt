@@ -32,9 +32,8 @@ add_n c = omega (arith, number c.hit.result)
 
 loop_again : tie.Need-loop-k-preserved invariant_loop decreases_loop
 loop_again c =
-    let at_loop = c.before.before.before.before in
-    let a = at_loop.before.before.args in
-    let L = at_loop.loop-k in
+    let a = c.before.before.before.before.before.before.args in
+    let L = c.before.before.before.before.loop-k in
     let here : a.i + L.k + 1 ≡ a.i + (L.k + 1) = omega arith in
     let one = counts a.how a.s.now (a.i + L.k) (a.i + 64 + 1) (omega arith) (omega arith) c.hit.result c.hit.ensures in
     let same = ap (λ (j : ℕ). hits_after a.how a.s.now j (a.i + 64 + 1)) here in

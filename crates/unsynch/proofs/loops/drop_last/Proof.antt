@@ -36,8 +36,7 @@ returns c =
 
 returns_2 : tie.Need-returns-else-stays
 returns_2 c =
-    let at_test = c.before.before.before.before in
-    let a = at_test.before.before.before.args in
+    let a = c.before.before.before.before.before.before.before.args in
     let goes = stays a.s.now a.from a.to (omega arith) (omega arith) false (sym c.if-stays.false ∙ c.before.stays.ensures) in
     done (goes ∙ edited_end resync_by a.s.now (a.from + 1) a.to (omega arith)) (begin _ _ _ (omega arith))
 

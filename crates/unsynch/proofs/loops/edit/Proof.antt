@@ -30,33 +30,31 @@ slice_write_buf c = next_lies (first c)
 
 edit_after_requires : tie.Need-edit_after-requires
 edit_after_requires c κs =
-    let at_first = c.before.before in
-    (omega arith, (lies (put (first at_first)), (start at_first).requires.1.1))
+    (omega arith, (lies (put (first c.before.before)), (start c.before.before).requires.1.1))
 
 same_length : tie.Need-shape_of-buf-then-how
 same_length c =
     let at_edit = c.before.before in
-    at_edit.edit_after.auto.buf ∙ (put (first at_edit.before.before.before)).long
+    c.before.before.edit_after.auto.buf ∙ (put (first at_edit.before.before.before)).long
 
 returns : tie.Need-returns-then-how
 returns c =
     let at_edit = c.before.before in
-    at_edit.edit_after.ensures ∙ rest (put (first at_edit.before.before.before))
+    c.before.before.edit_after.ensures ∙ rest (put (first at_edit.before.before.before))
 
 edit_by_byte_requires : tie.Need-edit_by_byte-requires
 edit_by_byte_requires c κs =
-    let at_first = c.before.before in
-    (omega arith, (lies (put (first at_first)), (start at_first).requires.1.1))
+    (omega arith, (lies (put (first c.before.before)), (start c.before.before).requires.1.1))
 
 same_length_2 : tie.Need-shape_of-buf
 same_length_2 c =
     let at_edit = c.before.before in
-    at_edit.edit_by_byte.auto.buf ∙ (put (first at_edit.before.before.before)).long
+    c.before.before.edit_by_byte.auto.buf ∙ (put (first at_edit.before.before.before)).long
 
 returns_2 : tie.Need-returns
 returns_2 c =
     let at_edit = c.before.before in
-    at_edit.edit_by_byte.ensures ∙ rest (put (first at_edit.before.before.before))
+    c.before.before.edit_by_byte.ensures ∙ rest (put (first at_edit.before.before.before))
 
 pub edit_spec : {M : Type 1} → statement M
 edit_spec =

@@ -24,19 +24,15 @@ loop_holds c = (omega arith, omega arith, omega arith, refl, begin _ _ _ (omega 
 
 edit_chunk_requires : tie.Need-edit_chunk-o-requires invariant_loop decreases_loop
 edit_chunk_requires c κs =
-    let at_loop = c.before.before.before in
-    let at_start = at_loop.before.before in
-    let a = at_start.args in
-    let L = at_loop.loop-i in
-    (omega (arith, L.invariant.4.long), ((piece_in a.how a.area.now L.i (L.i + c.before.least.result) a.to (omega arith) (omega arith) (omega arith) a.at (omega arith) (omega arith) L.invariant.2 L.invariant.4.long L.invariant.3 L.invariant.4).0, at_start.requires.1.1))
+    let a = c.before.before.before.before.before.args in
+    let L = c.before.before.before.loop-i in
+    (omega (arith, L.invariant.4.long), ((piece_in a.how a.area.now L.i (L.i + c.before.least.result) a.to (omega arith) (omega arith) (omega arith) a.at (omega arith) (omega arith) L.invariant.2 L.invariant.4.long L.invariant.3 L.invariant.4).0, c.before.before.before.before.before.requires.1.1))
 
 loop_again : tie.Need-loop-i-preserved invariant_loop decreases_loop
 loop_again c =
-    let at_least_lem = c.before.before.before.before in
-    let at_loop = at_least_lem.before.before in
-    let a = at_loop.before.before.args in
-    let L = at_loop.loop-i in
-    let t = (piece_in a.how a.area.now L.i (L.i + at_least_lem.least.result) a.to (omega arith) (omega arith) (omega arith) a.at (omega arith) (omega arith) L.invariant.2 L.invariant.4.long L.invariant.3 L.invariant.4).1 c.before.before.edit_chunk-o.result c.before.before.edit_chunk-o.new.0 c.before.before.edit_chunk-o.ensures in
+    let a = c.before.before.before.before.before.before.before.before.args in
+    let L = c.before.before.before.before.before.before.loop-i in
+    let t = (piece_in a.how a.area.now L.i (L.i + c.before.before.before.before.least.result) a.to (omega arith) (omega arith) (omega arith) a.at (omega arith) (omega arith) L.invariant.2 L.invariant.4.long L.invariant.3 L.invariant.4).1 c.before.before.edit_chunk-o.result c.before.before.edit_chunk-o.new.0 c.before.before.edit_chunk-o.ensures in
     (omega arith, omega arith, omega arith, t.1, t.2)
 
 same_length : tie.Need-shape_of-area invariant_loop decreases_loop

@@ -19,12 +19,11 @@ most_requires c κs = omega (arith, c.before.well_formed)
 
 returns : tie.Need-returns-then-most-room
 returns c =
-    let at_start = c.before.before.before in
-    let a = at_start.args in
+    let a = c.before.before.before.args in
     let part = slice a.from a.to a.s.now in
     let long = length-slice a.from a.to a.s.now (omega arith) in
     let most : length (edited a.how false part) ≤ a.room =
-    omega (arith, length_most a.how at_start.requires.1 part, ap (λ (n : ℕ). pick (a.how.insert && a.how.zero) (n + n) n) long) in
+    omega (arith, length_most a.how c.before.before.before.requires.1 part, ap (λ (n : ℕ). pick (a.how.insert && a.how.zero) (n + n) n) long) in
     sym (le-leb _ _ most)
 
 returns_2 : tie.Need-returns

@@ -16,11 +16,9 @@ decreases_loop s from to how n₀ k₀ n k = to - k
 
 loop_again : tie.Need-loop-k-preserved invariant_loop decreases_loop
 loop_again c =
-    let at_hit = c.before in
-    let at_loop = at_hit.before.before.before.before in
-    let a = at_loop.before.before.args in
-    let L = at_loop.loop-k in
-    omega (arith, counts a.how a.s.now L.k a.to (omega arith) (omega arith) at_hit.hit.result at_hit.hit.ensures)
+    let a = c.before.before.before.before.before.before.before.args in
+    let L = c.before.before.before.before.before.loop-k in
+    omega (arith, counts a.how a.s.now L.k a.to (omega arith) (omega arith) c.before.hit.result c.before.hit.ensures)
 
 returns : tie.Need-returns invariant_loop decreases_loop
 returns c =

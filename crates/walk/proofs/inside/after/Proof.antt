@@ -12,12 +12,12 @@ use Rattle.walk.proofs.inside.after.Tie as tie
 -- src/inside.rt:38:1
 returns : tie.Need-returns-in-Refused
 unfolding after_parsed
-returns c = rw c.before.in-Refused.is
+returns c = rw c.in-Refused.is
 
 -- src/inside.rt:38:1
 returns_2 : tie.Need-returns-in-Parts
 unfolding after_parsed
-returns_2 c = rw c.before.before.in-Parts.is (ap Inside.Run c.place.ensures)
+returns_2 c = rw c.before.in-Parts.is (ap Inside.Run c.place.ensures)
 
 pub after_spec : {M : Type 1} → statement M
 after_spec =

@@ -33,54 +33,45 @@ returns c = rw c.before.in-Text.is c.text.ensures
 -- src/inside.rt:62:1
 returns_2 : tie.Need-returns-in-Popularimeter
 returns_2 c =
-    let at_parse = c.before in
-    let at_start = at_parse.before.before.before.before in
-    let a = at_start.args in
+    let a = c.before.before.before.before.args in
     let b = slice a.from a.to a.s.now in
-    let l = length-slice a.from a.to a.s.now at_start.requires.1 in
+    let l = length-slice a.from a.to a.s.now c.before.before.before.before.requires.1 in
     let ends : a.from + length b ≡ a.to = omega arith in
     c.after.ensures ∙ after_as Id3v24 a.from a.to b ends a.kind Kind.Popularimeter c.before.parse.result c.before.before.in-Popularimeter.is (c.before.parse.ensures Id3v24)
 
 -- src/inside.rt:62:1
 returns_3 : tie.Need-returns-in-Table
 returns_3 c =
-    let at_parse2 = c.before in
-    let at_start = at_parse2.before.before.before.before in
-    let a = at_start.args in
+    let a = c.before.before.before.before.args in
     let b = slice a.from a.to a.s.now in
-    let l = length-slice a.from a.to a.s.now at_start.requires.1 in
+    let l = length-slice a.from a.to a.s.now c.before.before.before.before.requires.1 in
     let ends : a.from + length b ≡ a.to = omega arith in
     c.after-in-Table.ensures ∙ after_as Id3v24 a.from a.to b ends a.kind Kind.Table c.before.parse-in-Table.result c.before.before.in-Table.is (c.before.parse-in-Table.ensures Id3v24)
 
 -- src/inside.rt:62:1
 returns_4 : tie.Need-returns-in-Chapter
 returns_4 c =
-    let at_parse_chapter = c.before in
-    let at_start = at_parse_chapter.before.before.before.before in
-    let a = at_start.args in
+    let a = c.before.before.before.before.args in
     let b = slice a.from a.to a.s.now in
-    let l = length-slice a.from a.to a.s.now at_start.requires.1 in
+    let l = length-slice a.from a.to a.s.now c.before.before.before.before.requires.1 in
     let ends : a.from + length b ≡ a.to = omega arith in
     c.after-in-Chapter.ensures ∙ after_as Id3v24 a.from a.to b ends a.kind Kind.Chapter c.before.parse_chapter.result c.before.before.in-Chapter.is (c.before.parse_chapter.ensures Id3v24)
 
 -- src/inside.rt:62:1
 returns_5 : tie.Need-returns-in-Contents
 returns_5 c =
-    let at_parse_contents = c.before in
-    let at_start = at_parse_contents.before.before.before.before in
-    let a = at_start.args in
+    let a = c.before.before.before.before.args in
     let b = slice a.from a.to a.s.now in
-    let l = length-slice a.from a.to a.s.now at_start.requires.1 in
+    let l = length-slice a.from a.to a.s.now c.before.before.before.before.requires.1 in
     let ends : a.from + length b ≡ a.to = omega arith in
     c.after-in-Contents.ensures ∙ after_as Id3v24 a.from a.to b ends a.kind Kind.Contents c.before.parse_contents.result c.before.before.in-Contents.is (c.before.parse_contents.ensures Id3v24)
 
 -- src/inside.rt:62:1
 returns_6 : tie.Need-returns-in-Raw
 returns_6 c =
-    let at_start = c.before.before.before in
-    let a = at_start.args in
+    let a = c.before.before.args in
     let b = slice a.from a.to a.s.now in
-    let l = length-slice a.from a.to a.s.now at_start.requires.1 in
+    let l = length-slice a.from a.to a.s.now c.before.before.requires.1 in
     let ends : a.from + length b ≡ a.to = omega arith in
     raw_inside a.kind a.from b a.to ends c.in-Raw.is
 

@@ -14,22 +14,16 @@ use Rattle.walk.proofs.passing.flagged.Tie as tie
 
 returns : tie.Need-returns-in-Refused
 returns c =
-    let at_k = c.before in
-    let at_resync_into = at_k.before.before.before.before in
-    let at_start = at_resync_into.before.before.before.before in
-    let a = at_start.args in
-    let R = at_resync_into.resync_into in
-    let e = ap {B = Put × List ℕ} (λ (x : Put). (x, R.new.0)) (sym c.before.in-Refused.is) ∙ R.ensures in
+    let a = c.before.before.before.before.before.before.before.args in
+    let R = c.before.before.before.resync_into in
+    let e = ap {B = Put × List ℕ} (λ (x : Put). (x, R.new.0)) (sym c.in-Refused.is) ∙ R.ensures in
     λ v id place from len. front_refused v (record_of id a.short false place true from len) a.next (resynchronised (slice a.first a.next a.s.now)) a.room.now R.new.0 e
 
 returns_2 : tie.Need-returns-in-Bytes
 returns_2 c =
-    let at_n = c.before.before.before.before in
-    let at_resync_into = at_n.before.before.before.before in
-    let at_start = at_resync_into.before.before.before.before in
-    let a = at_start.args in
-    let R = at_resync_into.resync_into in
-    let e = ap {B = Put × List ℕ} (λ (x : Put). (x, R.new.0)) (sym at_n.in-Bytes.is) ∙ R.ensures in
+    let a = c.before.before.before.before.before.before.before.before.before.args in
+    let R = c.before.before.before.before.before.resync_into in
+    let e = ap {B = Put × List ℕ} (λ (x : Put). (x, R.new.0)) (sym c.before.before.in-Bytes.is) ∙ R.ensures in
     λ v id place from len. front_read v (record_of id a.short false place true from len) a.next (resynchronised (slice a.first a.next a.s.now)) a.room.now R.new.0 e
     (c.before.parse.ensures v) (c.read_as.ensures v id place from len)
 

@@ -5,7 +5,7 @@ use Rattle.walk.proofs.passing.is_popularimeter.Statement.{statement}
 use Rattle.walk.proofs.passing.is_popularimeter.Tie as tie
 
 returns : tie.Need-returns-in-Popularimeter
-returns c = is_meter_lem c.before.before.args.kind c.in-Popularimeter.is
+returns c = is_meter_lem c.before.args.kind c.in-Popularimeter.is
 
 returns_2 : tie.Need-returns-in_default
 returns_2 c = no_meter c.before.args.kind c.in_default.in_default-own.keys2

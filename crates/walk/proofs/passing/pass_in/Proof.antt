@@ -22,21 +22,16 @@ found : (d : tie.In-Found)
     let h = d.before.id-1.given.0 in
     Here a.version a.at a.end a.s.now h.0 h.1.0 h.1.1.0 h.1.1.1.0 h.1.1.1.1.0 h.1.1.1.1.1.0
 found d =
-    let at_decode = d.before.before.before in
-    let a = at_decode.before.before.before.args in
-    here a.version a.at a.end a.s.now _ _ _ _ _ _ (sym d.before.in-Found.is ∙ d.before.before.before.decode.ensures)
+    let a = d.before.before.before.before.args in
+    here a.version a.at a.end a.s.now _ _ _ _ _ _ (sym d.in-Found.is ∙ d.before.decode.ensures)
 
 add_first : tie.Need-overflow_add-first
 add_first c =
-    let at_decode = c.before.before.before in
-    let at_start = at_decode.before.before.before in
-    omega (arith, (found c).within, at_start.ranges)
+    omega (arith, (found c).within, c.before.before.before.before.ranges)
 
 add_next : tie.Need-overflow_add-next
 add_next c =
-    let at_decode = c.before.before.before in
-    let at_start = at_decode.before.before.before in
-    omega (arith, (found c).within, at_start.ranges)
+    omega (arith, (found c).within, c.before.before.before.before.ranges)
 
 returns : tie.Need-returns-then-resynced
 returns c =
@@ -44,11 +39,10 @@ returns c =
     let at_if1 = at_if2.before in
     let q = at_if1.before in
     let d = q.before.before.before in
-    let at_decode = d.before.before.before in
-    let a = at_decode.before.before.before.args in
+    let a = c.before.before.before.before.before.before.before.before.before.before.before.before.before.args in
     let h = d.before.id-1.given.0 in
     let b = slice (a.at + h.1.1.1.1.0) (a.at + h.1.1.1.1.0 + h.1.1.1.1.1.0) a.s.now in
-    λ begin. pass_front a.version a.in_work begin a.at a.end a.s.now a.room.now (found d) _ _ q.before.before.shown_kind-kind.ensures q.before.is_resynced-resynced.ensures (sym q.is_popularimeter.ensures ∙ at_if1.if-is_popularimeter.true) at_if2.if-resynced.true
+    λ begin. pass_front a.version a.in_work begin a.at a.end a.s.now a.room.now (found c.before.before.before.before.before.before.before.before.before) _ _ c.before.before.before.before.before.before.before.before.shown_kind-kind.ensures c.before.before.before.before.before.before.before.is_resynced-resynced.ensures (sym c.before.before.before.before.before.before.is_popularimeter.ensures ∙ c.before.before.before.before.before.if-is_popularimeter.true) c.before.before.before.before.if-resynced.true
     (c.before.before.flagged.ensures a.version h.0 (a.at - begin) 0 (length (resynchronised b)))
 
 returns_2 : tie.Need-returns-then-is_popularimeter
@@ -56,11 +50,10 @@ returns_2 c =
     let at_if1 = c.before.before.before in
     let q = at_if1.before in
     let d = q.before.before.before in
-    let at_decode = d.before.before.before in
-    let a = at_decode.before.before.before.args in
+    let a = c.before.before.before.before.before.before.before.before.before.before.before.args in
     let h = d.before.id-1.given.0 in
     let b = slice (a.at + h.1.1.1.1.0) (a.at + h.1.1.1.1.0 + h.1.1.1.1.1.0) a.s.now in
-    λ begin. pass_meter a.version a.in_work begin a.at a.end a.s.now a.room.now (found d) _ _ q.before.before.shown_kind-kind.ensures q.before.is_resynced-resynced.ensures (sym q.is_popularimeter.ensures ∙ at_if1.if-is_popularimeter.true) c.before.before.if-resynced.false
+    λ begin. pass_meter a.version a.in_work begin a.at a.end a.s.now a.room.now (found c.before.before.before.before.before.before.before) _ _ c.before.before.before.before.before.before.shown_kind-kind.ensures c.before.before.before.before.before.is_resynced-resynced.ensures (sym c.before.before.before.before.is_popularimeter.ensures ∙ c.before.before.before.if-is_popularimeter.true) c.before.before.if-resynced.false
     (c.before.parse.ensures a.version) (c.read_as.ensures a.version h.0 (a.at - begin) (a.at + h.1.1.1.1.0) (length b))
 
 body_requires : tie.Need-body-r-requires
@@ -70,26 +63,18 @@ body_requires c κs =
 
 returns_3 : tie.Need-returns-then-r-ne0
 returns_3 c =
-    let at_body = c.before.before.before in
-    let q = at_body.before.before.before in
-    let d = q.before.before.before in
-    let at_decode = d.before.before.before in
-    let a = at_decode.before.before.before.args in
-    λ begin. pass_body_refused a.version a.in_work begin a.at a.end a.s.now a.room.now (found d) _ _ q.before.before.shown_kind-kind.ensures q.before.is_resynced-resynced.ensures at_body.body-r.ensures c.if-r-ne0.true
+    let a = c.before.before.before.before.before.before.before.before.before.before.before.before.before.args in
+    λ begin. pass_body_refused a.version a.in_work begin a.at a.end a.s.now a.room.now (found c.before.before.before.before.before.before.before.before.before) _ _ c.before.before.before.before.before.before.before.before.shown_kind-kind.ensures c.before.before.before.before.before.before.before.is_resynced-resynced.ensures c.before.before.before.body-r.ensures c.if-r-ne0.true
 
 returns_4 : tie.Need-returns-in-Nothing
 returns_4 c =
-    let at_decode = c.before.before in
-    let at_start = at_decode.before.before.before in
-    let a = at_start.args in
-    λ begin. pass_nothing a.version a.in_work begin a.at (slice a.at a.end a.s.now) a.room.now (sym c.in-Nothing.is ∙ c.before.before.decode.ensures)
+    let a = c.before.before.before.before.args in
+    λ begin. pass_nothing a.version a.in_work begin a.at (slice a.at a.end a.s.now) a.room.now (sym c.in-Nothing.is ∙ c.before.decode.ensures)
 
 returns_5 : tie.Need-returns-in-Refused
 returns_5 c =
-    let at_decode = c.before.before.before in
-    let at_start = at_decode.before.before.before in
-    let a = at_start.args in
-    λ begin. pass_refused a.version a.in_work begin a.at (slice a.at a.end a.s.now) a.room.now (sym c.before.in-Refused.is ∙ at_decode.decode.ensures)
+    let a = c.before.before.before.before.args in
+    λ begin. pass_refused a.version a.in_work begin a.at (slice a.at a.end a.s.now) a.room.now (sym c.in-Refused.is ∙ c.before.decode.ensures)
 
 returns_6 : tie.Need-returns-else-r-ne0
 returns_6 c =
@@ -98,11 +83,10 @@ returns_6 c =
     let at_if1 = at_body.before.before in
     let q = at_if1.before in
     let d = q.before.before.before in
-    let at_decode = d.before.before.before in
-    let a = at_decode.before.before.before.args in
+    let a = c.before.before.before.before.before.before.before.before.before.before.before.before.before.before.before.args in
     let h = d.before.id-1.given.0 in
     let packed = ap (λ (x : Bool). h.1.0 && x) (c.is_popularimeter-in-Found.ensures ∙ ap (λ (k : Kind). eqb (kind_number k) 1) c.before.kind_of.ensures) in
-    λ begin. pass_over a.version a.in_work begin a.at a.end a.s.now a.room.now (found d) _ _ q.before.before.shown_kind-kind.ensures q.before.is_resynced-resynced.ensures at_body.body-r.ensures c.before.before.if-r-ne0.false (sym q.is_popularimeter.ensures ∙ at_if1.if-is_popularimeter.false) _ packed
+    λ begin. pass_over a.version a.in_work begin a.at a.end a.s.now a.room.now (found c.before.before.before.before.before.before.before.before.before.before.before) _ _ c.before.before.before.before.before.before.before.before.before.before.shown_kind-kind.ensures c.before.before.before.before.before.before.before.before.before.is_resynced-resynced.ensures c.before.before.before.before.before.body-r.ensures c.before.before.if-r-ne0.false (sym c.before.before.before.before.before.before.before.before.is_popularimeter.ensures ∙ c.before.before.before.before.before.before.before.if-is_popularimeter.false) _ packed
 
 pub pass_in_spec : {M : Type 1} → statement M
 pass_in_spec =

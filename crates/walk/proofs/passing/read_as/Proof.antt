@@ -6,30 +6,23 @@ use Rattle.walk.proofs.passing.read_as.Tie as tie
 
 returns : tie.Need-returns-then-short
 returns c =
-    let at_start = c.before.before.before.before in
-    let a = at_start.args in
-    λ v id place from len. read_short v id a.short place a.in_work from len a.next c.before.before.in-Parts.is c.if-short.true
+    let a = c.before.before.args in
+    λ v id place from len. read_short v id a.short place a.in_work from len a.next c.before.in-Parts.is c.if-short.true
 
 returns_2 : tie.Need-returns-in-Refused
 returns_2 c =
-    let at_start = c.before.before.before in
-    let a = at_start.args in
-    λ v id place from len. read_refused v id a.short place a.in_work from len a.next c.before.in-Refused.is
+    let a = c.before.args in
+    λ v id place from len. read_refused v id a.short place a.in_work from len a.next c.in-Refused.is
 
 returns_3 : tie.Need-returns-in-Popularimeter
 returns_3 c =
-    let at_if1 = c.before.before.before.before in
-    let at_parsed2 = at_if1.before.before in
-    let at_start = at_parsed2.before.before in
-    let a = at_start.args in
-    λ v id place from len. read_whole v id a.short place a.in_work from len a.next at_parsed2.in-Parts.is at_if1.if-short.false c.before.in-Popularimeter.is
+    let a = c.before.before.before.before.args in
+    λ v id place from len. read_whole v id a.short place a.in_work from len a.next c.before.before.before.in-Parts.is c.before.before.if-short.false c.in-Popularimeter.is
 
 returns_4 : tie.Need-returns-in_default
 returns_4 c =
-    let at_parsed2 = c.before.before.before.before in
-    let at_start = at_parsed2.before.before in
-    let a = at_start.args in
-    λ v id place from len. read_other v id a.short place a.in_work from len a.next at_parsed2.in-Parts.is c.in_default.in_default-own.keys2
+    let a = c.before.before.before.before.args in
+    λ v id place from len. read_other v id a.short place a.in_work from len a.next c.before.before.before.in-Parts.is c.in_default.in_default-own.keys2
 
 pub read_as_spec : {M : Type 1} → statement M
 read_as_spec =

@@ -73,34 +73,32 @@ body_add_look_run t c = omega arith
 run_begins : (t : ℕ) (c : look-body-lts.In-Run-2 (body_calls t) (look_body_at t) look-body.Post)
     → let a = c.before.before.before.before.args in
     Inside.Run c.in-Run.at ≡ inside_at a.kind a.from (slice a.from a.to a.s.now)
-run_begins t c = sym c.in-Run.is ∙ c.before.before.look.ensures
+run_begins t c = sym c.in-Run.is ∙ c.before.look.ensures
 
 body_returns : (t : ℕ) → look-body-lts.Need-returns-then-to-at (body_calls t) (look_body_at t) look-body.Post
 body_returns t c =
     let at_run = c.before.before in
-    let a = at_run.before.before.before.before.args in
+    let a = c.before.before.before.before.args in
     body_none a.version (a.depth + 1) a.kind a.from a.to a.s.now _ (run_begins t at_run) (omega (arith, c.if-to-at.true))
 
 body_look_run_requires : (t : ℕ) → look-body-lts.Need-look_run-requires (body_calls t) (look_body_at t) look-body.Post
 body_look_run_requires t c κs =
     let at_run = c.before.before in
-    let at_start = at_run.before.before.before.before in
-    let a = at_start.args in
-    let at = at_run.in-Run.at in
-    let m : 2 * (a.to - a.from) + 1 ≡ t = at_start.requires.0 in
+    let a = c.before.before.before.before.args in
+    let at = c.before.in-Run.at in
+    let m : 2 * (a.to - a.from) + 1 ≡ t = c.before.before.before.before.requires.0 in
     let less : 2 * (a.to - at) < t = omega (arith, run_from a.kind a.from a.to at a.s.now (run_begins t at_run)) in
     (less, omega arith)
 
 body_returns_2 : (t : ℕ) → look-body-lts.Need-returns-in-Refused (body_calls t) (look_body_at t) look-body.Post
 body_returns_2 t c =
-    let at_look = c.before.before.before in
-    let a = at_look.before.before.args in
-    body_stopped a.version (a.depth + 1) a.kind a.from a.to a.s.now _ (sym c.before.in-Refused.is ∙ at_look.look.ensures)
+    let a = c.before.before.before.args in
+    body_stopped a.version (a.depth + 1) a.kind a.from a.to a.s.now _ (sym c.in-Refused.is ∙ c.before.look.ensures)
 
 body_returns_3 : (t : ℕ) → look-body-lts.Need-returns-else-to-at (body_calls t) (look_body_at t) look-body.Post
 body_returns_3 t c =
     let at_run = c.before.before.before in
-    let a = at_run.before.before.before.before.args in
+    let a = c.before.before.before.before.before.args in
     c.look_run.ensures ∙ body_run a.version (a.depth + 1) a.kind a.from a.to a.s.now _ (run_begins t at_run)
 
 -- ---- a run
@@ -147,22 +145,17 @@ run_look_ahead_requires t c κs = c.loop-k.invariant.1
 
 run_returns : (t : ℕ) → look-run-lts.Need-returns-in-Stop (run_calls t) (look_run_at t) look-run.Post invariant_loop decreases_loop
 run_returns t c =
-    let at_ahead = c.before.before.before in
-    let at_loop = at_ahead.before in
-    let a = at_loop.before.before.before.args in
-    let L = at_loop.loop-k in
-    let k = c.before.in-Stop.k in
-    let stops = look_stopped a.version a.depth L.at (slice L.at at_loop.before.least-end.result a.s.now) k (sym c.before.in-Stop.is ∙ at_ahead.look_ahead.ensures) in
+    let a = c.before.before.before.before.before.args in
+    let L = c.before.before.loop-k in
+    let k = c.in-Stop.k in
+    let stops = look_stopped a.version a.depth L.at (slice L.at c.before.before.before.least-end.result a.s.now) k (sym c.in-Stop.is ∙ c.before.look_ahead.ensures) in
     sym (both_stop (not L.odd) k) ∙ ap (both (plain_if (not L.odd))) (sym stops) ∙ L.invariant.3
 
 run_returns_2 : (t : ℕ) → look-run-lts.Need-returns-in-End (run_calls t) (look_run_at t) look-run.Post invariant_loop decreases_loop
 run_returns_2 t c =
-    let at_ahead = c.before.before.before in
-    let at_loop = at_ahead.before in
-    let at_start = at_loop.before.before.before in
-    let a = at_start.args in
-    let L = at_loop.loop-k in
-    let ends = look_ended a.version a.depth L.at (slice L.at at_loop.before.least-end.result a.s.now) at_start.requires.1 (sym c.before.in-End.is ∙ at_ahead.look_ahead.ensures) in
+    let a = c.before.before.before.before.before.before.args in
+    let L = c.before.before.before.loop-k in
+    let ends = look_ended a.version a.depth L.at (slice L.at c.before.before.before.before.least-end.result a.s.now) c.before.before.before.before.before.before.requires.1 (sym c.before.in-End.is ∙ c.before.before.look_ahead.ensures) in
     c.ended.ensures ∙ sym (both_end (plain_if (not L.odd))) ∙ ap (both (plain_if (not L.odd))) (sym ends) ∙ L.invariant.3
 
 -- where the look goes on
@@ -172,23 +165,20 @@ run_goes : (t : ℕ) (c : look-run-lts.In-Body-2 (run_calls t) (look_run_at t) l
     let g = c.kind-1.given.0 in
     Goes a.version a.depth at_loop.loop-k.at at_loop.before.least-end.result a.s.now g.0 g.1.0 g.1.1.0 g.1.1.1.0
 run_goes t c =
-    let at_loop = c.before.before.before in
-    let a = at_loop.before.before.before.args in
-    goes a.version a.depth at_loop.loop-k.at at_loop.before.least-end.result a.s.now at_loop.loop-k.invariant.1 _ _ _ _
-    (sym c.in-Body.is ∙ c.before.before.look_ahead.ensures)
+    let a = c.before.before.before.before.before.args in
+    goes a.version a.depth c.before.before.loop-k.at c.before.before.before.least-end.result a.s.now c.before.before.loop-k.invariant.1 _ _ _ _
+    (sym c.in-Body.is ∙ c.before.look_ahead.ensures)
 
 run_look_body_requires : (t : ℕ) → look-run-lts.Need-look_body-body-requires (run_calls t) (look_run_at t) look-run.Post invariant_loop decreases_loop
 run_look_body_requires t c κs =
     let at_kind = c.before in
-    let at_loop = at_kind.before.before.before in
-    let at_start = at_loop.before.before.before in
-    let a = at_start.args in
-    let L = at_loop.loop-k in
+    let a = c.before.before.before.before.before.args in
+    let L = c.before.before.loop-k in
     let g = at_kind.kind-1.given.0 in
     let on = run_goes t at_kind in
-    let m : 2 * (a.to - a.from) ≡ t = at_start.requires.0 in
+    let m : 2 * (a.to - a.from) ≡ t = c.before.before.before.before.before.requires.0 in
     let less : 2 * (g.1.1.1.0 - g.1.1.0) + 1 < t = omega (arith, on.begins, on.ordered, on.within, L.invariant) in
-    (less, (on.ordered, omega (arith, on.within, L.invariant), omega (arith, at_start.requires.1), on.shallow))
+    (less, (on.ordered, omega (arith, on.within, L.invariant), omega (arith, c.before.before.before.before.before.requires.1), on.shallow))
 
 -- the body's look and the turn after it, at a turn
 run_turned : (t : ℕ) (c : look-run-lts.After-turned (run_calls t) (look_run_at t) look-run.Post invariant_loop decreases_loop)
@@ -199,22 +189,20 @@ run_turned : (t : ℕ) (c : look-run-lts.After-turned (run_calls t) (look_run_at
     c.turned.result ≡ turn_of at_loop.loop-k.odd (inside_look (look_at a.version (a.depth + 1)) g.0 (slice g.1.1.0 g.1.1.1.0 a.s.now)) g.1.0
 run_turned t c =
     let at_kind = c.before.before.before in
-    let at_loop = at_kind.before.before.before in
     let g = at_kind.kind-1.given.0 in
-    c.turned.ensures ∙ ap (λ (x : Look). turn_of at_loop.loop-k.odd x g.1.0) c.before.look_body-body.ensures
+    c.turned.ensures ∙ ap (λ (x : Look). turn_of c.before.before.before.before.loop-k.odd x g.1.0) c.before.look_body-body.ensures
 
 run_returns_3 : (t : ℕ) → look-run-lts.Need-returns-in-Stop-turned (run_calls t) (look_run_at t) look-run.Post invariant_loop decreases_loop
 run_returns_3 t c =
     let at_turned = c.before.before.before in
     let at_kind = at_turned.before.before.before in
-    let at_loop = at_kind.before.before.before in
-    let a = at_loop.before.before.before.args in
-    let L = at_loop.loop-k in
+    let a = c.before.before.before.before.before.before.before.before.args in
+    let L = c.before.before.before.before.before.loop-k in
     let g = at_kind.kind-1.given.0 in
     let on = run_goes t at_kind in
     let inside = inside_look (look_at a.version (a.depth + 1)) g.0 (slice g.1.1.0 g.1.1.1.0 a.s.now) in
-    let rest = look_at a.version a.depth (slice g.1.1.1.0 at_loop.before.least-end.result a.s.now) in
-    sym (turn_stop L.odd inside g.1.0 _ rest (sym c.before.in-Stop-turned.is ∙ run_turned t at_turned))
+    let rest = look_at a.version a.depth (slice g.1.1.1.0 c.before.before.before.before.before.before.least-end.result a.s.now) in
+    sym (turn_stop L.odd inside g.1.0 _ rest (sym c.in-Stop-turned.is ∙ run_turned t at_turned))
     ∙ ap (both (plain_if (not L.odd))) (sym on.same) ∙ L.invariant.3
 
 run_loop_less : (t : ℕ) → look-run-lts.Need-loop-k-smaller (run_calls t) (look_run_at t) look-run.Post invariant_loop decreases_loop
@@ -227,17 +215,16 @@ run_loop_again : (t : ℕ) → look-run-lts.Need-loop-k-preserved (run_calls t) 
 run_loop_again t c =
     let at_turned = c.before.before.before in
     let at_kind = at_turned.before.before.before in
-    let at_loop = at_kind.before.before.before in
-    let a = at_loop.before.before.before.args in
-    let L = at_loop.loop-k in
+    let a = c.before.before.before.before.before.before.before.before.args in
+    let L = c.before.before.before.before.before.loop-k in
     let g = at_kind.kind-1.given.0 in
     let on = run_goes t at_kind in
     let inside = inside_look (look_at a.version (a.depth + 1)) g.0 (slice g.1.1.0 g.1.1.1.0 a.s.now) in
-    let rest = look_at a.version a.depth (slice g.1.1.1.0 at_loop.before.least-end.result a.s.now) in (
+    let rest = look_at a.version a.depth (slice g.1.1.1.0 c.before.before.before.before.before.before.least-end.result a.s.now) in (
       omega (arith, on.begins, on.ordered, L.invariant.0),
       L.invariant.1,
       L.invariant.2,
-      sym (turn_on L.odd inside g.1.0 _ rest (sym c.before.in-On.is ∙ run_turned t at_turned))
+      sym (turn_on L.odd inside g.1.0 _ rest (sym c.in-On.is ∙ run_turned t at_turned))
           ∙ ap (both (plain_if (not L.odd))) (sym on.same) ∙ L.invariant.3,
     )
 

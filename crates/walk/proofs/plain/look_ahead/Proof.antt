@@ -17,54 +17,48 @@ found : (c : tie.In-Found-2)
     → let a = c.before.before.before.before.args in
     let h = c.id-1.given.0 in
     Head.Found h.0 h.1.0 h.1.1.0 h.1.1.1.0 h.1.1.1.1.0 h.1.1.1.1.1.0 ≡ head_of a.version a.depth (slice a.at a.end a.s.now)
-found c = sym c.in-Found.is ∙ c.before.before.decode.ensures
+found c = sym c.in-Found.is ∙ c.before.decode.ensures
 
 within : (c : tie.In-Found-2)
     → let a = c.before.before.before.before.args in
     let h = c.id-1.given.0 in
     a.at + h.1.1.1.1.0 + h.1.1.1.1.1.0 ≤ a.end
 within c =
-    let at_start = c.before.before.before.before in
-    let a = at_start.args in
-    (placed a.version a.depth a.at a.end a.s.now at_start.requires _ _ _ _ _ _ (sym (found c))).within
+    let a = c.before.before.before.args in
+    (placed a.version a.depth a.at a.end a.s.now c.before.before.before.requires _ _ _ _ _ _ (sym (found c))).within
 
 returns : tie.Need-returns-then-is_resynced
 returns c =
-    let at_found = c.before.before.before in
-    let a = at_found.before.before.before.before.args in
-    ahead_resynced a.version a.depth a.at (slice a.at a.end a.s.now) _ _ _ _ _ _ (found at_found)
+    let a = c.before.before.before.before.before.args in
+    ahead_resynced a.version a.depth a.at (slice a.at a.end a.s.now) _ _ _ _ _ _ (found c.before.before)
     (sym c.before.is_resynced.ensures ∙ c.if-is_resynced.true)
 
 add_first : tie.Need-overflow_add-first
 add_first c =
-    let at_found = c.before.before.before in
-    omega (arith, within at_found, at_found.before.before.before.before.ranges)
+    omega (arith, within c.before.before, c.before.before.before.before.before.ranges)
 
 add_t20 : tie.Need-overflow_add-result
 add_t20 c =
-    let at_found = c.before.before.before.before.before.before in
-    omega (arith, within at_found, at_found.before.before.before.before.ranges)
+    omega (arith, within c.before.before.before.before.before, c.before.before.before.before.before.before.before.before.ranges)
 
 returns_2 : tie.Need-returns-in-Nothing
 returns_2 c =
-    let at_decode = c.before.before in
-    let a = at_decode.before.before.args in
-    ahead_nothing a.version a.depth a.at (slice a.at a.end a.s.now) (sym c.in-Nothing.is ∙ at_decode.decode.ensures)
+    let a = c.before.before.before.args in
+    ahead_nothing a.version a.depth a.at (slice a.at a.end a.s.now) (sym c.in-Nothing.is ∙ c.before.decode.ensures)
 
 returns_3 : tie.Need-returns-in-Refused
 returns_3 c =
-    let at_decode = c.before.before.before in
-    let a = at_decode.before.before.args in
-    ahead_refused a.version a.depth a.at (slice a.at a.end a.s.now) _ (sym c.before.in-Refused.is ∙ at_decode.decode.ensures)
+    let a = c.before.before.before.args in
+    ahead_refused a.version a.depth a.at (slice a.at a.end a.s.now) _ (sym c.in-Refused.is ∙ c.before.decode.ensures)
 
 returns_4 : tie.Need-returns-else-is_resynced
 returns_4 c =
     let at_else = c.before.before.before in
     let at_found = at_else.before.before.before in
-    let a = at_found.before.before.before.before.args in
+    let a = c.before.before.before.before.before.before.before.before.args in
     let h = at_found.id-1.given.0 in
-    ahead_body a.version a.depth a.at (slice a.at a.end a.s.now) _ _ _ _ _ _ (found at_found)
-    (sym at_else.before.is_resynced.ensures ∙ at_else.if-is_resynced.false) _ _ c.before.before.shown_kind.ensures
+    ahead_body a.version a.depth a.at (slice a.at a.end a.s.now) _ _ _ _ _ _ (found c.before.before.before.before.before)
+    (sym c.before.before.before.before.is_resynced.ensures ∙ c.before.before.before.if-is_resynced.false) _ _ c.before.before.shown_kind.ensures
     (c.either-in-Found.ensures ∙ ap (λ (t : Bool). h.1.0 || t) c.before.either.ensures)
 
 pub look_ahead_spec : {M : Type 1} → statement M

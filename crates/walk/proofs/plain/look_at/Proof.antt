@@ -68,20 +68,20 @@ look_body_requires c κs =
 returns : tie.Need-returns-in-Stop
 returns c =
     let at_ahead = c.before.before.before in
-    let a = at_ahead.before.before.before.args in
-    seen_stopped a.version a.at _ _ (here at_ahead c.before.in-Stop.is) ∙ ap (seen_of a.version a.at) (same_end at_ahead)
+    let a = c.before.before.before.before.args in
+    seen_stopped a.version a.at _ _ (here at_ahead c.in-Stop.is) ∙ ap (seen_of a.version a.at) (same_end at_ahead)
 
 returns_2 : tie.Need-returns-in-End
 returns_2 c =
     let at_ahead = c.before.before in
-    let a = at_ahead.before.before.before.args in
+    let a = c.before.before.before.before.args in
     seen_ended a.version a.at _ (here at_ahead c.in-End.is) ∙ ap (seen_of a.version a.at) (same_end at_ahead)
 
 returns_3 : tie.Need-returns-in-Popularimeter
 returns_3 c =
     let at_kind = c.before.before.before.before.before in
     let a = (met at_kind).args in
-    let odd = at_kind.in-Body.odd in
+    let odd = c.before.before.before.in-Body.odd in
     let b = slice (first at_kind) (next at_kind) a.s.now in
     c.counted.ensures
     ∙ ap (λ (p : Parsed). counted_as p (next at_kind) odd) (c.before.parse.ensures a.version)
@@ -93,7 +93,7 @@ returns_4 : tie.Need-returns-in_default
 returns_4 c =
     let at_kind = c.before.before.before.before in
     let a = (met at_kind).args in
-    let odd = at_kind.in-Body.odd in
+    let odd = c.before.before.before.in-Body.odd in
     let b = slice (first at_kind) (next at_kind) a.s.now in
     c.passed.ensures
     ∙ ap (λ (x : Look). passed_as x (next at_kind) odd) c.before.look_body.ensures

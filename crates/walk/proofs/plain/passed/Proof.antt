@@ -8,15 +8,13 @@ use Rattle.walk.proofs.plain.passed.Tie as tie
 
 returns : tie.Need-returns-in-Stop
 returns c =
-    let at_turned = c.before.before.before in
-    let a = at_turned.before.args in
-    ap (λ (t : Turn). passed_by t a.next) (sym c.before.in-Stop.is ∙ at_turned.turned.ensures)
+    let a = c.before.before.args in
+    ap (λ (t : Turn). passed_by t a.next) (sym c.in-Stop.is ∙ c.before.turned.ensures)
 
 returns_2 : tie.Need-returns-in-On
 returns_2 c =
-    let at_turned = c.before.before.before in
-    let a = at_turned.before.args in
-    ap (λ (t : Turn). passed_by t a.next) (sym c.before.in-On.is ∙ at_turned.turned.ensures)
+    let a = c.before.before.args in
+    ap (λ (t : Turn). passed_by t a.next) (sym c.in-On.is ∙ c.before.turned.ensures)
 
 pub passed_spec : {M : Type 1} → statement M
 passed_spec = tie.close (tie.spec (λ c κs. search rules) (λ c. search rules) (λ c. search rules) returns returns_2)

@@ -9,12 +9,12 @@ use Rattle.walk.proofs.plain.turned.Tie as tie
 
 returns : tie.Need-returns-in-Stops
 returns c =
-    let a = c.before.before.before.args in
-    sym (ap (λ (x : Look). turn_of a.before x a.odd) c.before.in-Stops.is)
+    let a = c.before.args in
+    sym (ap (λ (x : Look). turn_of a.before x a.odd) c.in-Stops.is)
 
 returns_3 : tie.Need-returns-in-Plain
 returns_3 c =
-    let a = c.before.before.before.args in
+    let a = c.before.before.args in
     ap Turn.On c.either.ensures ∙ sym (ap (λ (x : Look). turn_of a.before x a.odd) c.before.in-Plain.is)
 
 pub turned_spec : {M : Type 1} → statement M

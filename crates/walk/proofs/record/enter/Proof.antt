@@ -10,34 +10,26 @@ use Rattle.walk.proofs.record.enter.Tie as tie
 
 shown_body_requires : tie.Need-shown_body-requires
 shown_body_requires c κs =
-    let at_lies = c.before.before in
-    let at_ready = at_lies.before.before.before.before in
-    let at_start = at_ready.before.before.before.before in
-    let a = at_start.args in
+    let a = c.before.before.before.before.before.before.before.before.args in
     let q = c.before.before.start-1.given.0 in
-    let e = ap {B = Lies × List ℕ} (λ (x : Lies). (x, at_ready.ready.new.0)) (sym c.before.before.in-At.is) ∙ at_ready.ready.ensures in
-    ready_within a.version a.kind a.from a.to a.tag.now a.work.now a.in_work a.resynced q.0 q.1.0 at_ready.ready.new.0 e at_start.requires.0 at_start.requires.1
+    let e = ap {B = Lies × List ℕ} (λ (x : Lies). (x, c.before.before.before.before.ready.new.0)) (sym c.before.in-At.is) ∙ c.before.before.before.before.ready.ensures in
+    ready_within a.version a.kind a.from a.to a.tag.now a.work.now a.in_work a.resynced q.0 q.1.0 c.before.before.before.before.ready.new.0 e c.before.before.before.before.before.before.before.before.requires.0 c.before.before.before.before.before.before.before.before.requires.1
 
 returns : tie.Need-returns-in-Refused
 returns c =
-    let at_k = c.before in
-    let at_ready = at_k.before.before.before.before in
-    let at_start = at_ready.before.before.before.before in
-    let a = at_start.args in
-    let e = ap {B = Lies × List ℕ} (λ (x : Lies). (x, at_ready.ready.new.0)) (sym c.before.in-Refused.is) ∙ at_ready.ready.ensures in
-    ready_refused a.version a.kind a.from a.to a.tag.now a.work.now a.in_work a.resynced c.before.in-Refused.k at_ready.ready.new.0 e
+    let a = c.before.before.before.before.before.before.before.args in
+    let e = ap {B = Lies × List ℕ} (λ (x : Lies). (x, c.before.before.before.ready.new.0)) (sym c.in-Refused.is) ∙ c.before.before.before.ready.ensures in
+    ready_refused a.version a.kind a.from a.to a.tag.now a.work.now a.in_work a.resynced c.in-Refused.k c.before.before.before.ready.new.0 e
 
 returns_2 : tie.Need-returns-in-At
 returns_2 c =
     let at_shown_body = c.before.before in
     let at_start = at_shown_body.before.before.before in
-    let at_ready = at_start.before.before.before.before in
-    let at_start_2 = at_ready.before.before.before.before in
-    let a = at_start_2.args in
+    let a = c.before.before.before.before.before.before.before.before.before.before.before.args in
     let q = at_start.start-1.given.0 in
-    let e = ap {B = Lies × List ℕ} (λ (x : Lies). (x, at_ready.ready.new.0)) (sym at_start.in-At.is) ∙ at_ready.ready.ensures in
+    let e = ap {B = Lies × List ℕ} (λ (x : Lies). (x, c.before.before.before.before.before.before.before.ready.new.0)) (sym c.before.before.before.before.in-At.is) ∙ c.before.before.before.before.before.before.before.ready.ensures in
     c.before.before.shown_body.ensures
-    ∙ ready_shown a.version a.kind a.from a.to a.tag.now a.work.now a.in_work a.resynced q.0 q.1.0 at_ready.ready.new.0 e
+    ∙ ready_shown a.version a.kind a.from a.to a.tag.now a.work.now a.in_work a.resynced q.0 q.1.0 c.before.before.before.before.before.before.before.ready.new.0 e
 
 pub enter_spec : {M : Type 1} → statement M
 enter_spec =

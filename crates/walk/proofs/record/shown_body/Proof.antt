@@ -22,42 +22,30 @@ within : (d : tie.After-run_inside-r)
     × (length (slice a.from a.to S) ≡ a.to - a.from)
     × (a.from + length (slice a.from a.to S) ≡ a.to)
 within d =
-    let at_parts = d.before.before.before.before in
-    let at_source = at_parts.before.before.before in
-    let at_either = at_source.before.before in
-    let at_start = at_either.before.before.before in
-    let a = at_start.args in
-    let S = at_source.source.result.now in
+    let a = d.before.before.before.before.before.before.before.before.before.args in
+    let S = d.before.before.before.before.before.source.result.now in
     let es : S ≡ source_of (a.in_work || a.resynced) a.work.now a.tag.now =
-    at_source.source.ensures ∙ ap (λ (x : Bool). source_of x a.work.now a.tag.now) at_either.either.ensures in
-    let long : length (slice a.from a.to S) ≡ a.to - a.from = length-slice a.from a.to S (omega (arith, ap length es, at_start.requires.1)) in
-    (es, long, omega (arith, at_start.requires.0))
+    d.before.before.before.before.before.source.ensures ∙ ap (λ (x : Bool). source_of x a.work.now a.tag.now) d.before.before.before.before.before.before.either.ensures in
+    let long : length (slice a.from a.to S) ≡ a.to - a.from = length-slice a.from a.to S (omega (arith, ap length es, d.before.before.before.before.before.before.before.before.before.requires.1)) in
+    (es, long, omega (arith, d.before.before.before.before.before.before.before.before.before.requires.0))
 
 returns : tie.Need-returns-then-r-ne0
 returns c =
-    let d = c.before.before.before in
-    let at_parts = d.before.before.before.before in
-    let k = within d in
-    shows_run _ _ _ _ _ _ _ _ _ k.0 k.2 _ (sym at_parts.in-Parts.is ∙ at_parts.before.before.parse.ensures) _ d.before.before.place-run.ensures _ _ d.run_inside-r.ensures c.if-r-ne0.true
+    let k = within c.before.before.before in
+    shows_run _ _ _ _ _ _ _ _ _ k.0 k.2 _ (sym c.before.before.before.before.before.before.in-Parts.is ∙ c.before.before.before.before.before.before.before.parse.ensures) _ c.before.before.before.before.before.place-run.ensures _ _ c.before.before.before.run_inside-r.ensures c.if-r-ne0.true
 
 returns_2 : tie.Need-returns-in-Refused
 returns_2 c =
-    let at_parse = c.before.before.before in
-    let at_source = at_parse.before in
-    let at_either = at_source.before.before in
-    let at_start = at_either.before.before.before in
-    let a = at_start.args in
-    let S = at_source.source.result.now in
+    let a = c.before.before.before.before.before.before.args in
+    let S = c.before.before.source.result.now in
     let es : S ≡ source_of (a.in_work || a.resynced) a.work.now a.tag.now =
-    at_source.source.ensures ∙ ap (λ (x : Bool). source_of x a.work.now a.tag.now) at_either.either.ensures in
-    shows_refused a.in_work a.resynced a.version a.kind a.from a.to a.tag.now a.work.now S es c.before.in-Refused.k (sym c.before.in-Refused.is ∙ at_parse.parse.ensures)
+    c.before.before.source.ensures ∙ ap (λ (x : Bool). source_of x a.work.now a.tag.now) c.before.before.before.either.ensures in
+    shows_refused a.in_work a.resynced a.version a.kind a.from a.to a.tag.now a.work.now S es c.in-Refused.k (sym c.in-Refused.is ∙ c.before.parse.ensures)
 
 returns_3 : tie.Need-returns-else-r-ne0
 returns_3 c =
-    let d = c.before.before.before in
-    let at_parts = d.before.before.before.before in
-    let k = within d in
-    shows_parts _ _ _ _ _ _ _ _ _ k.0 k.2 _ (sym at_parts.in-Parts.is ∙ at_parts.before.before.parse.ensures) _ d.before.before.place-run.ensures _ _ d.run_inside-r.ensures c.if-r-ne0.false _ (sym k.1)
+    let k = within c.before.before.before in
+    shows_parts _ _ _ _ _ _ _ _ _ k.0 k.2 _ (sym c.before.before.before.before.before.before.in-Parts.is ∙ c.before.before.before.before.before.before.before.parse.ensures) _ c.before.before.before.before.before.place-run.ensures _ _ c.before.before.before.run_inside-r.ensures c.if-r-ne0.false _ (sym k.1)
 
 pub shown_body_spec : {M : Type 1} → statement M
 shown_body_spec =

@@ -85,118 +85,93 @@ body_in_enum_known_n t c = search rules
 
 body_in_sub_shown_in : (t : ℕ) → body-in-lts.Need-slice_bounds-shown_in-count (body_in_calls t) (body_in_at t) body_in_lem.Post
 body_in_sub_shown_in t c =
-    let at_bytes = c.before in
-    let at_resync_in = at_bytes.before.before.before.before in
-    omega (arith, at_resync_in.resync_in.auto.0)
+    omega (arith, c.before.before.before.resync_in.auto.0)
 
 body_in_part_shown_in_start : (t : ℕ) → body-in-lts.Need-slice_bounds-shown_in-start (body_in_calls t) (body_in_at t) body_in_lem.Post
 body_in_part_shown_in_start t c =
-    let at_bytes = c.before in
-    let at_resync_in = at_bytes.before.before.before.before in
-    omega (arith, at_resync_in.resync_in.auto.0)
+    omega (arith, c.before.before.before.resync_in.auto.0)
 
 body_in_part_shown_in_end : (t : ℕ) → body-in-lts.Need-slice_bounds-shown_in-end (body_in_calls t) (body_in_at t) body_in_lem.Post
 body_in_part_shown_in_end t c = omega arith
 
 body_in_shown_in_requires : (t : ℕ) → body-in-lts.Need-shown_in-requires (body_in_calls t) (body_in_at t) body_in_lem.Post
 body_in_shown_in_requires t c κs =
-    let at_bytes = c.before.before in
-    let at_resync_in = at_bytes.before.before.before.before in
-    let at_start = at_resync_in.before.before.before.before in
-    let a = at_start.args in
+    let a = c.before.before.before.before.before.before.before.before.args in
     let b = slice a.from a.to a.area.now in
     let u = resynchronised b in
     let room = drop a.split a.area.now in
-    let a₁ = at_resync_in.resync_in.new.0 in
-    let put = in_area_lem a.from a.to a.split a.area.now at_start.requires.1.1 at_resync_in.resync_in.result a₁ at_resync_in.resync_in.ensures in
-    let n = c.before.before.in-Bytes.n in
-    let f = put_bytes u room n (sym put.0 ∙ c.before.before.in-Bytes.is) in
-    let back = part_back a₁ a.area.now (into_of u room).1 a₁ a.split at_start.requires.1.2 put.1 in
-    let m : 3 * (a.to - a.from) + 2 ≡ t = at_start.requires.0 in
-    let l = length-slice a.from a.to a.area.now (omega (arith, at_start.requires.1)) in
+    let a₁ = c.before.before.before.before.resync_in.new.0 in
+    let put = in_area_lem a.from a.to a.split a.area.now c.before.before.before.before.before.before.before.before.requires.1.1 c.before.before.before.before.resync_in.result a₁ c.before.before.before.before.resync_in.ensures in
+    let n = c.before.in-Bytes.n in
+    let f = put_bytes u room n (sym put.0 ∙ c.before.in-Bytes.is) in
+    let back = part_back a₁ a.area.now (into_of u room).1 a₁ a.split c.before.before.before.before.before.before.before.before.requires.1.2 put.1 in
+    let m : 3 * (a.to - a.from) + 2 ≡ t = c.before.before.before.before.before.before.before.before.requires.0 in
+    let l = length-slice a.from a.to a.area.now (omega (arith, c.before.before.before.before.before.before.before.before.requires.1)) in
     let less : 3 * (n - 0) + 1 < t = omega (arith, f.many, resync_shorter false b) in
-    (less, (omega arith, omega arith, omega (arith, fitted_room f, ap length back.0), at_start.requires.1.3))
+    (less, (omega arith, omega arith, omega (arith, fitted_room f, ap length back.0), c.before.before.before.before.before.before.before.before.requires.1.3))
 
 body_in_shown_in_requires_2 : (t : ℕ) → body-in-lts.Need-shown_in-requires-else-resynced (body_in_calls t) (body_in_at t) body_in_lem.Post
 body_in_shown_in_requires_2 t c κs =
-    let at_start = c.before.before.before in
-    let a = at_start.args in
-    let m : 3 * (a.to - a.from) + 2 ≡ t = at_start.requires.0 in
+    let a = c.before.before.before.args in
+    let m : 3 * (a.to - a.from) + 2 ≡ t = c.before.before.before.requires.0 in
     let less : 3 * (a.to - a.from) + 1 < t = omega arith in
-    (less, at_start.requires.1)
+    (less, c.before.before.before.requires.1)
 
 body_in_same_length : (t : ℕ) → body-in-lts.Need-shape_of-area-in-Refused (body_in_calls t) (body_in_at t) body_in_lem.Post
 body_in_same_length t c =
-    let at_k = c.before in
-    let at_resync_in = at_k.before.before.before.before in
-    at_resync_in.resync_in.auto.0
+    c.before.before.before.resync_in.auto.0
 
 body_in_returns : (t : ℕ) → body-in-lts.Need-returns-in-Refused (body_in_calls t) (body_in_at t) body_in_lem.Post
 body_in_returns t c =
-    let at_k = c.before in
-    let at_resync_in = at_k.before.before.before.before in
-    let at_if1 = at_resync_in.before.before in
-    let at_start = at_if1.before.before in
-    let a = at_start.args in
+    let a = c.before.before.before.before.before.before.before.args in
     let b = slice a.from a.to a.area.now in
     let u = resynchronised b in
     let room = drop a.split a.area.now in
     let go = walked a.strict a.version (a.depth + 1) in
-    let a₁ = at_resync_in.resync_in.new.0 in
-    let put = in_area_lem a.from a.to a.split a.area.now at_start.requires.1.1 at_resync_in.resync_in.result a₁ at_resync_in.resync_in.ensures in
-    let k = c.before.in-Refused.k in
+    let a₁ = c.before.before.before.resync_in.new.0 in
+    let put = in_area_lem a.from a.to a.split a.area.now c.before.before.before.before.before.before.before.requires.1.1 c.before.before.before.resync_in.result a₁ c.before.before.before.resync_in.ensures in
+    let k = c.in-Refused.k in
     ap {B = Out} (λ (z : List ℕ). (k, z)) put.1
     ∙ ap (behind (take a.split a.area.now))
-    (sym (put_refused u room go a.kind k (sym put.0 ∙ c.before.in-Refused.is)) ∙ as_resynced a.resynced go a.kind b room at_if1.if-resynced.true)
+    (sym (put_refused u room go a.kind k (sym put.0 ∙ c.in-Refused.is)) ∙ as_resynced a.resynced go a.kind b room c.before.before.before.before.before.if-resynced.true)
 
 body_in_same_length_2 : (t : ℕ) → body-in-lts.Need-shape_of-area-in-Bytes (body_in_calls t) (body_in_at t) body_in_lem.Post
 body_in_same_length_2 t c =
-    let at_shown_in = c.before.before in
-    let at_bytes = at_shown_in.before.before.before in
-    let at_resync_in = at_bytes.before.before.before.before in
-    let at_start = at_resync_in.before.before.before.before in
-    let a = at_start.args in
-    let a₁ : List ℕ = at_resync_in.resync_in.new.0 in
-    same_len_mid a.split (length a₁ - a.split) a₁ c.before.before.shown_in.new.0 c.before.before.shown_in.auto.0 ∙ at_resync_in.resync_in.auto.0
+    let a = c.before.before.before.before.before.before.before.before.before.before.before.args in
+    let a₁ : List ℕ = c.before.before.before.before.before.before.before.resync_in.new.0 in
+    same_len_mid a.split (length a₁ - a.split) a₁ c.before.before.shown_in.new.0 c.before.before.shown_in.auto.0 ∙ c.before.before.before.before.before.before.before.resync_in.auto.0
 
 body_in_returns_2 : (t : ℕ) → body-in-lts.Need-returns-in-Bytes (body_in_calls t) (body_in_at t) body_in_lem.Post
 body_in_returns_2 t c =
-    let at_shown_in = c.before.before in
-    let at_bytes = at_shown_in.before.before.before in
-    let at_resync_in = at_bytes.before.before.before.before in
-    let at_if1 = at_resync_in.before.before in
-    let at_start = at_if1.before.before in
-    let a = at_start.args in
+    let a = c.before.before.before.before.before.before.before.before.before.before.before.args in
     let b = slice a.from a.to a.area.now in
     let u = resynchronised b in
     let room = drop a.split a.area.now in
     let go = walked a.strict a.version (a.depth + 1) in
-    let a₁ = at_resync_in.resync_in.new.0 in
-    let put = in_area_lem a.from a.to a.split a.area.now at_start.requires.1.1 at_resync_in.resync_in.result a₁ at_resync_in.resync_in.ensures in
-    let n = at_bytes.in-Bytes.n in
-    let f = put_bytes u room n (sym put.0 ∙ at_bytes.in-Bytes.is) in
+    let a₁ = c.before.before.before.before.before.before.before.resync_in.new.0 in
+    let put = in_area_lem a.from a.to a.split a.area.now c.before.before.before.before.before.before.before.before.before.before.before.requires.1.1 c.before.before.before.before.before.before.before.resync_in.result a₁ c.before.before.before.before.before.before.before.resync_in.ensures in
+    let n = c.before.before.before.before.in-Bytes.n in
+    let f = put_bytes u room n (sym put.0 ∙ c.before.before.before.before.in-Bytes.is) in
     let r = c.before.before.shown_in.result in
     let p' = c.before.before.shown_in.new.0 in
-    let back = part_back a₁ a.area.now (into_of u room).1 p' a.split at_start.requires.1.2 put.1 in
+    let back = part_back a₁ a.area.now (into_of u room).1 p' a.split c.before.before.before.before.before.before.before.before.before.before.before.requires.1.2 put.1 in
     let e : ◌≡◌ {A = Out} (r, p') (resynced_of go a.kind u room) =
     c.before.before.shown_in.ensures
     ∙ ap (λ (p : List ℕ). inside_in go a.kind (slice 0 n p) n p) back.0
     ∙ put_inside u room go a.kind n (into_of u room).1 f in
     ap {B = Out} (λ (z : List ℕ). (r, z)) back.1
-    ∙ ap (behind (take a.split a.area.now)) (e ∙ as_resynced a.resynced go a.kind b room at_if1.if-resynced.true)
+    ∙ ap (behind (take a.split a.area.now)) (e ∙ as_resynced a.resynced go a.kind b room c.before.before.before.before.before.before.before.before.before.if-resynced.true)
 
 body_in_same_length_3 : (t : ℕ) → body-in-lts.Need-shape_of-area-else-resynced (body_in_calls t) (body_in_at t) body_in_lem.Post
 body_in_same_length_3 t c = c.before.before.shown_in-else-resynced.auto.0
 
 body_in_returns_3 : (t : ℕ) → body-in-lts.Need-returns-else-resynced (body_in_calls t) (body_in_at t) body_in_lem.Post
 body_in_returns_3 t c =
-    let at_if1 = c.before.before.before.before in
-    let at_start = at_if1.before.before in
-    let a = at_start.args in
+    let a = c.before.before.before.before.before.before.args in
     let go = walked a.strict a.version (a.depth + 1) in
     c.before.before.shown_in-else-resynced.ensures
     ∙ ap (behind (take a.split a.area.now))
-    (as_stored a.resynced go a.kind (slice a.from a.to a.area.now) (drop a.split a.area.now) at_if1.if-resynced.false)
+    (as_stored a.resynced go a.kind (slice a.from a.to a.area.now) (drop a.split a.area.now) c.before.before.before.before.if-resynced.false)
 
 shown_in_look_requires : (t : ℕ) → shown-in-lts.Need-look-requires (shown_in_calls t) (shown_in_at t) shown-in.Post
 shown_in_look_requires t c κs = omega arith
@@ -212,12 +187,10 @@ shown_in_add_walk_in t c = omega arith
 
 shown_in_walk_in_requires : (t : ℕ) → shown-in-lts.Need-walk_in-requires (shown_in_calls t) (shown_in_at t) shown-in.Post
 shown_in_walk_in_requires t c κs =
-    let at_look = c.before.before.before.before in
-    let at_start = at_look.before.before.before in
-    let a = at_start.args in
-    let at = c.before.before.in-Run.at in
-    let e : Inside.Run at ≡ inside_at a.kind a.from (slice a.from a.to a.area.now) = sym c.before.before.in-Run.is ∙ at_look.look.ensures in
-    let m : 3 * (a.to - a.from) + 1 ≡ t = at_start.requires.0 in
+    let a = c.before.before.before.before.args in
+    let at = c.before.in-Run.at in
+    let e : Inside.Run at ≡ inside_at a.kind a.from (slice a.from a.to a.area.now) = sym c.before.in-Run.is ∙ c.before.before.look.ensures in
+    let m : 3 * (a.to - a.from) + 1 ≡ t = c.before.before.before.before.requires.0 in
     let less : 3 * (a.to - at) < t = omega (arith, run_from a.kind a.from a.to at a.area.now e) in
     (less, tt)
 
@@ -226,33 +199,27 @@ shown_in_same_length t c = search rules
 
 shown_in_returns : (t : ℕ) → shown-in-lts.Need-returns-in-Refused (shown_in_calls t) (shown_in_at t) shown-in.Post
 shown_in_returns t c =
-    let at_look = c.before.before.before in
-    let at_start = at_look.before.before.before in
-    let a = at_start.args in
+    let a = c.before.before.before.args in
     let b = slice a.from a.to a.area.now in
     let go = walked a.strict a.version (a.depth + 1) in
     let room = drop a.split a.area.now in
-    let k = c.before.in-Refused.k in
+    let k = c.in-Refused.k in
     still a.split k a.area.now (inside_of go a.kind b room)
-    (looked_refused a.kind a.from b k go room (sym c.before.in-Refused.is ∙ at_look.look.ensures))
+    (looked_refused a.kind a.from b k go room (sym c.in-Refused.is ∙ c.before.look.ensures))
 
 shown_in_same_length_2 : (t : ℕ) → shown-in-lts.Need-shape_of-area-in-Run (shown_in_calls t) (shown_in_at t) shown-in.Post
 shown_in_same_length_2 t c = c.before.before.walk_in.auto.0
 
 shown_in_returns_2 : (t : ℕ) → shown-in-lts.Need-returns-in-Run (shown_in_calls t) (shown_in_at t) shown-in.Post
 shown_in_returns_2 t c =
-    let at_walk_in = c.before.before in
-    let at_run = at_walk_in.before.before.before in
-    let at_look = at_run.before.before in
-    let at_start = at_look.before.before.before in
-    let a = at_start.args in
+    let a = c.before.before.before.before.before.before.before.args in
     let A = a.area.now in
     let go = walked a.strict a.version (a.depth + 1) in
     let room = drop a.split A in
-    let at = at_run.in-Run.at in
-    let e : Inside.Run at ≡ inside_at a.kind a.from (slice a.from a.to A) = sym at_run.in-Run.is ∙ at_look.look.ensures in
+    let at = c.before.before.before.before.in-Run.at in
+    let e : Inside.Run at ≡ inside_at a.kind a.from (slice a.from a.to A) = sym c.before.before.before.before.in-Run.is ∙ c.before.before.before.before.before.look.ensures in
     c.before.before.walk_in.ensures
-    ∙ ap (λ (s : List ℕ). behind (take a.split A) (go s room)) (before_split at a.to a.split A at_start.requires.1.1)
+    ∙ ap (λ (s : List ℕ). behind (take a.split A) (go s room)) (before_split at a.to a.split A c.before.before.before.before.before.before.before.requires.1.1)
     ∙ ap (behind (take a.split A)) (sym (run_walked a.kind a.from a.to at A e go room))
 
 abbrev walk_in_Inv_loop : walk-in-lts.invariant-loop-k
@@ -271,8 +238,7 @@ walk_in_least_requires_2 t c κs = search rules
 
 walk_in_loop_holds : (t : ℕ) → walk-in-lts.Need-loop-k-init (walk_in_calls t) (walk_in_at t) walk-in.Post walk_in_Inv_loop walk-in-μ-loop
 walk_in_loop_holds t c =
-    let at_start = c.before.before.before in
-    let a = at_start.args in (
+    let a = c.before.before.before.args in (
       omega arith,
       omega arith,
       omega arith,
@@ -282,32 +248,25 @@ walk_in_loop_holds t c =
     )
 
 walk_in_step_at_requires : (t : ℕ) → walk-in-lts.Need-step_at-requires (walk_in_calls t) (walk_in_at t) walk-in.Post walk_in_Inv_loop walk-in-μ-loop
-walk_in_step_at_requires t c κs = omega (arith, c.before.loop-k.invariant)
+walk_in_step_at_requires t c κs = omega (arith, c.loop-k.invariant)
 
 walk_in_enum_known_k : (t : ℕ) → walk-in-lts.Need-enum_known-k (walk_in_calls t) (walk_in_at t) walk-in.Post walk_in_Inv_loop walk-in-μ-loop
 walk_in_enum_known_k t c = search rules
 
 walk_in_same_length : (t : ℕ) → walk-in-lts.Need-shape_of-area-in-Stop (walk_in_calls t) (walk_in_at t) walk-in.Post walk_in_Inv_loop walk-in-μ-loop
 walk_in_same_length t c =
-    let at_step_at = c.before.before.before in
-    let at_loop = at_step_at.before.before in
-    at_loop.loop-k.invariant.4
+    c.before.before.loop-k.invariant.4
 
 walk_in_returns : (t : ℕ) → walk-in-lts.Need-returns-in-Stop (walk_in_calls t) (walk_in_at t) walk-in.Post walk_in_Inv_loop walk-in-μ-loop
 walk_in_returns t c =
-    let at_step_at = c.before.before.before in
-    let at_loop = at_step_at.before.before in
-    let at_least2 = at_loop.before in
-    let at_least_lem = at_least2.before in
-    let at_start = at_least_lem.before.before in
-    let a = at_start.args in
-    let L = at_loop.loop-k in
-    let mid = at_least_lem.least-mid.result in
-    let end = at_least2.least-end.result in
-    let k = c.before.in-Stop.k in
+    let a = c.before.before.before.before.before.before.args in
+    let L = c.before.before.loop-k in
+    let mid = c.before.before.before.before.least-mid.result in
+    let end = c.before.before.before.least-end.result in
+    let k = c.in-Stop.k in
     let room = drop mid L.area in
     still mid k L.area (walked a.strict a.version a.depth (slice L.at end L.area) room)
-    (stopped a.strict a.version a.depth L.at end L.area k (sym c.before.in-Stop.is ∙ at_step_at.step_at.ensures) room)
+    (stopped a.strict a.version a.depth L.at end L.area k (sym c.in-Stop.is ∙ c.before.step_at.ensures) room)
     ∙ L.invariant.5
 
 walk_in_enum_known_kind : (t : ℕ) → walk-in-lts.Need-enum_known-kind (walk_in_calls t) (walk_in_at t) walk-in.Post walk_in_Inv_loop walk-in-μ-loop
@@ -320,53 +279,39 @@ walk_in_onward : (t : ℕ) (c : walk-in-lts.In-Body-2 (walk_in_calls t) (walk_in
     let g = c.kind-1.given.0 in
     Onward a.strict a.version a.depth at_loop.loop-k.at at_loop.before.least-end.result at_loop.loop-k.area g.0 g.1.0 g.1.1.0 g.1.1.1.0
 walk_in_onward t c =
-    let at_loop = c.before.before.before.before in
-    let a = at_loop.before.before.before.before.args in
-    let L = at_loop.loop-k in
-    let end = at_loop.before.least-end.result in
+    let a = c.before.before.before.before.before.before.args in
+    let L = c.before.before.loop-k in
+    let end = c.before.before.before.least-end.result in
     let le : end ≤ length L.area = omega (arith, L.invariant) in
-    onward a.strict a.version a.depth L.at end L.area le _ _ _ _ (sym c.in-Body.is ∙ c.before.before.step_at.ensures)
+    onward a.strict a.version a.depth L.at end L.area le _ _ _ _ (sym c.in-Body.is ∙ c.before.step_at.ensures)
 
 walk_in_body_in_requires : (t : ℕ) → walk-in-lts.Need-body_in-r-requires (walk_in_calls t) (walk_in_at t) walk-in.Post walk_in_Inv_loop walk-in-μ-loop
 walk_in_body_in_requires t c κs =
-    let at_step_at = c.before.before.before.before in
-    let at_loop = at_step_at.before.before in
-    let at_least2 = at_loop.before in
-    let at_least_lem = at_least2.before in
-    let at_start = at_least_lem.before.before in
-    let a = at_start.args in
-    let L = at_loop.loop-k in
+    let a = c.before.before.before.before.before.before.before.args in
+    let L = c.before.before.before.loop-k in
     let g = c.before.before.kind-1.given.0 in
     let on = walk_in_onward t c.before.before in
-    let m : 3 * (a.to - a.from) ≡ t = at_start.requires.0 in
+    let m : 3 * (a.to - a.from) ≡ t = c.before.before.before.before.before.before.before.requires.0 in
     let less : 3 * (g.1.1.1.0 - g.1.1.0) + 2 < t = omega (arith, on.begins, on.ordered, on.within, L.invariant) in
     (less, (on.ordered, omega (arith, on.within, L.invariant), omega (arith, L.invariant), on.shallow))
 
 walk_in_same_length_2 : (t : ℕ) → walk-in-lts.Need-shape_of-area-then-r-ne0 (walk_in_calls t) (walk_in_at t) walk-in.Post walk_in_Inv_loop walk-in-μ-loop
 walk_in_same_length_2 t c =
-    let at_body_in = c.before.before.before in
-    let at_kind = at_body_in.before.before.before in
-    let at_loop = at_kind.before.before.before.before in
-    at_body_in.body_in-r.auto.0 ∙ at_loop.loop-k.invariant.4
+    c.before.before.before.body_in-r.auto.0 ∙ c.before.before.before.before.before.before.before.loop-k.invariant.4
 
 walk_in_returns_2 : (t : ℕ) → walk-in-lts.Need-returns-then-r-ne0 (walk_in_calls t) (walk_in_at t) walk-in.Post walk_in_Inv_loop walk-in-μ-loop
 walk_in_returns_2 t c =
     let at_body_in = c.before.before.before in
     let at_kind = at_body_in.before.before.before in
-    let at_step_at = at_kind.before.before in
-    let at_loop = at_step_at.before.before in
-    let at_least2 = at_loop.before in
-    let at_least_lem = at_least2.before in
-    let at_start = at_least_lem.before.before in
-    let a = at_start.args in
-    let L = at_loop.loop-k in
-    let mid = at_least_lem.least-mid.result in
-    let end = at_least2.least-end.result in
+    let a = c.before.before.before.before.before.before.before.before.before.before.before.args in
+    let L = c.before.before.before.before.before.before.before.loop-k in
+    let mid = c.before.before.before.before.before.before.before.before.before.least-mid.result in
+    let end = c.before.before.before.before.before.before.before.before.least-end.result in
     let g = at_kind.kind-1.given.0 in
     let on = walk_in_onward t at_kind in
     let hm : mid ≤ length L.area = omega (arith, L.invariant) in
     let o = body_of g.1.0 (walked a.strict a.version (a.depth + 1)) g.0 (slice g.1.1.0 g.1.1.1.0 L.area) (drop mid L.area) in
-    halt a.strict a.version a.depth L.at end mid g.1.1.1.0 L.area at_body_in.body_in-r.new.0 at_body_in.body_in-r.result o hm L.invariant.1 (on.same (drop mid L.area)) at_body_in.body_in-r.ensures c.if-r-ne0.true ∙ L.invariant.5
+    halt a.strict a.version a.depth L.at end mid g.1.1.1.0 L.area c.before.before.before.body_in-r.new.0 c.before.before.before.body_in-r.result o hm L.invariant.1 (on.same (drop mid L.area)) c.before.before.before.body_in-r.ensures c.if-r-ne0.true ∙ L.invariant.5
 
 walk_in_loop_less : (t : ℕ) → walk-in-lts.Need-loop-k-smaller (walk_in_calls t) (walk_in_at t) walk-in.Post walk_in_Inv_loop walk-in-μ-loop
 walk_in_loop_less t c =
@@ -379,15 +324,10 @@ walk_in_loop_again : (t : ℕ) → walk-in-lts.Need-loop-k-preserved (walk_in_ca
 walk_in_loop_again t c =
     let at_body_in = c.before.before.before in
     let at_kind = at_body_in.before.before.before in
-    let at_step_at = at_kind.before.before in
-    let at_loop = at_step_at.before.before in
-    let at_least2 = at_loop.before in
-    let at_least_lem = at_least2.before in
-    let at_start = at_least_lem.before.before in
-    let a = at_start.args in
-    let L = at_loop.loop-k in
-    let mid = at_least_lem.least-mid.result in
-    let end = at_least2.least-end.result in
+    let a = c.before.before.before.before.before.before.before.before.before.before.before.args in
+    let L = c.before.before.before.before.before.before.before.loop-k in
+    let mid = c.before.before.before.before.before.before.before.before.before.least-mid.result in
+    let end = c.before.before.before.before.before.before.before.before.least-end.result in
     let g = at_kind.kind-1.given.0 in
     let on = walk_in_onward t at_kind in
     let hm : mid ≤ length L.area = omega (arith, L.invariant) in
@@ -396,8 +336,8 @@ walk_in_loop_again t c =
       L.invariant.1,
       L.invariant.2,
       L.invariant.3,
-      at_body_in.body_in-r.auto.0 ∙ L.invariant.4,
-      go_on_lem a.strict a.version a.depth L.at end mid g.1.1.1.0 L.area at_body_in.body_in-r.new.0 at_body_in.body_in-r.result o hm L.invariant.1 (on.same (drop mid L.area)) at_body_in.body_in-r.ensures c.if-r-ne0.false ∙ L.invariant.5,
+      c.before.before.before.body_in-r.auto.0 ∙ L.invariant.4,
+      go_on_lem a.strict a.version a.depth L.at end mid g.1.1.1.0 L.area c.before.before.before.body_in-r.new.0 c.before.before.before.body_in-r.result o hm L.invariant.1 (on.same (drop mid L.area)) c.before.before.before.body_in-r.ensures c.if-r-ne0.false ∙ L.invariant.5,
     )
 
 pub +body-in-shown-in-walk-in-spec : {M : Type 1} → statement M

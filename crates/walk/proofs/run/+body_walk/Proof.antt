@@ -66,73 +66,55 @@ body_enum_known_k t c = search rules
 
 body_same_length : (t : ℕ) → body-lts.Need-shape_of-room-in-Refused (body_calls t) (body_at t) body.Post
 body_same_length t c =
-    let at_k = c.before in
-    let at_resync_into = at_k.before.before.before.before in
-    at_resync_into.resync_into.auto.0
+    c.before.before.before.resync_into.auto.0
 
 body_returns : (t : ℕ) → body-lts.Need-returns-in-Refused (body_calls t) (body_at t) body.Post
 body_returns t c =
-    let at_k = c.before in
-    let at_resync_into = at_k.before.before.before.before in
-    let at_if1 = at_resync_into.before.before in
-    let at_start = at_if1.before.before.before in
-    let a = at_start.args in
+    let a = c.before.before.before.before.before.before.before.before.args in
     let b = slice a.from a.to a.s.now in
     let room = a.room.now in
     let go = walked a.strict a.version (a.depth + 1) in
     let u = resynchronised b in
-    let e0 : at_resync_into.resync_into.result ≡ (into_of u room).0 = ap (λ (o : Put × List ℕ). o.0) at_resync_into.resync_into.ensures in
-    let e1 : at_resync_into.resync_into.new.0 ≡ (into_of u room).1 = ap (λ (o : Put × List ℕ). o.1) at_resync_into.resync_into.ensures in
-    let k = c.before.in-Refused.k in
+    let e0 : c.before.before.before.resync_into.result ≡ (into_of u room).0 = ap (λ (o : Put × List ℕ). o.0) c.before.before.before.resync_into.ensures in
+    let e1 : c.before.before.before.resync_into.new.0 ≡ (into_of u room).1 = ap (λ (o : Put × List ℕ). o.1) c.before.before.before.resync_into.ensures in
+    let k = c.in-Refused.k in
     ap {B = Out} (λ (z : List ℕ). (k, z)) e1
-    ∙ sym (put_refused u room go a.kind k (sym e0 ∙ c.before.in-Refused.is))
-    ∙ as_resynced a.resynced go a.kind b room at_if1.if-resynced.true
+    ∙ sym (put_refused u room go a.kind k (sym e0 ∙ c.in-Refused.is))
+    ∙ as_resynced a.resynced go a.kind b room c.before.before.before.before.before.if-resynced.true
 
 body_enum_known_n : (t : ℕ) → body-lts.Need-enum_known-n (body_calls t) (body_at t) body.Post
 body_enum_known_n t c = search rules
 
 body_shown_in_requires : (t : ℕ) → body-lts.Need-shown_in-requires (body_calls t) (body_at t) body.Post
 body_shown_in_requires t c κs =
-    let at_bytes = c.before.before in
-    let at_resync_into = at_bytes.before.before.before.before in
-    let at_if1 = at_resync_into.before.before in
-    let at_start = at_if1.before.before.before in
-    let a = at_start.args in
+    let a = c.before.before.before.before.before.before.before.before.before.args in
     let b = slice a.from a.to a.s.now in
     let room = a.room.now in
     let u = resynchronised b in
-    let e0 : at_resync_into.resync_into.result ≡ (into_of u room).0 = ap (λ (o : Put × List ℕ). o.0) at_resync_into.resync_into.ensures in
-    let e1 : at_resync_into.resync_into.new.0 ≡ (into_of u room).1 = ap (λ (o : Put × List ℕ). o.1) at_resync_into.resync_into.ensures in
-    let f = put_bytes u room c.before.before.in-Bytes.n (sym e0 ∙ c.before.before.in-Bytes.is) in
-    (omega arith, omega arith, omega (arith, fitted_room f, ap length e1), at_start.requires.1.2)
+    let e0 : c.before.before.before.before.resync_into.result ≡ (into_of u room).0 = ap (λ (o : Put × List ℕ). o.0) c.before.before.before.before.resync_into.ensures in
+    let e1 : c.before.before.before.before.resync_into.new.0 ≡ (into_of u room).1 = ap (λ (o : Put × List ℕ). o.1) c.before.before.before.before.resync_into.ensures in
+    let f = put_bytes u room c.before.in-Bytes.n (sym e0 ∙ c.before.in-Bytes.is) in
+    (omega arith, omega arith, omega (arith, fitted_room f, ap length e1), c.before.before.before.before.before.before.before.before.before.requires.1.2)
 
 body_same_length_2 : (t : ℕ) → body-lts.Need-shape_of-room-in-Bytes (body_calls t) (body_at t) body.Post
 body_same_length_2 t c =
-    let at_shown_in = c.before.before in
-    let at_bytes = at_shown_in.before.before.before in
-    let at_resync_into = at_bytes.before.before.before.before in
-    c.before.before.shown_in.auto.0 ∙ at_resync_into.resync_into.auto.0
+    c.before.before.shown_in.auto.0 ∙ c.before.before.before.before.before.before.before.resync_into.auto.0
 
 body_returns_2 : (t : ℕ) → body-lts.Need-returns-in-Bytes (body_calls t) (body_at t) body.Post
 body_returns_2 t c =
-    let at_shown_in = c.before.before in
-    let at_bytes = at_shown_in.before.before.before in
-    let at_resync_into = at_bytes.before.before.before.before in
-    let at_if1 = at_resync_into.before.before in
-    let at_start = at_if1.before.before.before in
-    let a = at_start.args in
+    let a = c.before.before.before.before.before.before.before.before.before.before.before.before.args in
     let b = slice a.from a.to a.s.now in
     let room = a.room.now in
     let go = walked a.strict a.version (a.depth + 1) in
     let u = resynchronised b in
-    let e0 : at_resync_into.resync_into.result ≡ (into_of u room).0 = ap (λ (o : Put × List ℕ). o.0) at_resync_into.resync_into.ensures in
-    let e1 : at_resync_into.resync_into.new.0 ≡ (into_of u room).1 = ap (λ (o : Put × List ℕ). o.1) at_resync_into.resync_into.ensures in
-    let n = at_bytes.in-Bytes.n in
-    let f = put_bytes u room n (sym e0 ∙ at_bytes.in-Bytes.is) in
+    let e0 : c.before.before.before.before.before.before.before.resync_into.result ≡ (into_of u room).0 = ap (λ (o : Put × List ℕ). o.0) c.before.before.before.before.before.before.before.resync_into.ensures in
+    let e1 : c.before.before.before.before.before.before.before.resync_into.new.0 ≡ (into_of u room).1 = ap (λ (o : Put × List ℕ). o.1) c.before.before.before.before.before.before.before.resync_into.ensures in
+    let n = c.before.before.before.before.in-Bytes.n in
+    let f = put_bytes u room n (sym e0 ∙ c.before.before.before.before.in-Bytes.is) in
     c.before.before.shown_in.ensures
     ∙ ap (λ (p : List ℕ). inside_in go a.kind (slice 0 n p) n p) e1
     ∙ put_inside u room go a.kind n (into_of u room).1 f
-    ∙ as_resynced a.resynced go a.kind b room at_if1.if-resynced.true
+    ∙ as_resynced a.resynced go a.kind b room c.before.before.before.before.before.before.before.before.before.if-resynced.true
 
 body_look_requires : (t : ℕ) → body-lts.Need-look-requires (body_calls t) (body_at t) body.Post
 body_look_requires t c κs = omega arith
@@ -148,48 +130,38 @@ body_add_walk t c = omega arith
 
 body_walk_requires : (t : ℕ) → body-lts.Need-walk-requires (body_calls t) (body_at t) body.Post
 body_walk_requires t c κs =
-    let at_look = c.before.before.before.before in
-    let at_start = at_look.before.before.before.before in
-    let a = at_start.args in
+    let a = c.before.before.before.before.before.before.args in
     let b = slice a.from a.to a.s.now in
-    let at = c.before.before.in-Run.at in
-    let e : Inside.Run at ≡ inside_at a.kind a.from b = sym c.before.before.in-Run.is ∙ at_look.look.ensures in
-    let m : 2 * (a.to - a.from) + 1 ≡ t = at_start.requires.0 in
+    let at = c.before.in-Run.at in
+    let e : Inside.Run at ≡ inside_at a.kind a.from b = sym c.before.in-Run.is ∙ c.before.before.look.ensures in
+    let m : 2 * (a.to - a.from) + 1 ≡ t = c.before.before.before.before.before.before.requires.0 in
     let less : 2 * (a.to - at) < t = omega (arith, run_from a.kind a.from a.to at a.s.now e) in
     (less, tt)
 
 body_returns_3 : (t : ℕ) → body-lts.Need-returns-in-Refused-look (body_calls t) (body_at t) body.Post
 body_returns_3 t c =
-    let at_look = c.before.before.before in
-    let at_if1 = at_look.before in
-    let at_start = at_if1.before.before.before in
-    let a = at_start.args in
+    let a = c.before.before.before.before.before.args in
     let b = slice a.from a.to a.s.now in
     let room = a.room.now in
     let go = walked a.strict a.version (a.depth + 1) in
-    let k = c.before.in-Refused-look.k in
-    sym (looked_refused a.kind a.from b k go room (sym c.before.in-Refused-look.is ∙ at_look.look.ensures))
-    ∙ as_stored a.resynced go a.kind b room at_if1.if-resynced.false
+    let k = c.in-Refused-look.k in
+    sym (looked_refused a.kind a.from b k go room (sym c.in-Refused-look.is ∙ c.before.look.ensures))
+    ∙ as_stored a.resynced go a.kind b room c.before.before.if-resynced.false
 
 body_same_length_3 : (t : ℕ) → body-lts.Need-shape_of-room (body_calls t) (body_at t) body.Post
 body_same_length_3 t c = c.before.before.walk.auto.0
 
 body_returns_4 : (t : ℕ) → body-lts.Need-returns-in-Run (body_calls t) (body_at t) body.Post
 body_returns_4 t c =
-    let at_walk = c.before.before in
-    let at_run = at_walk.before.before.before in
-    let at_look = at_run.before.before in
-    let at_if1 = at_look.before in
-    let at_start = at_if1.before.before.before in
-    let a = at_start.args in
+    let a = c.before.before.before.before.before.before.before.before.before.args in
     let b = slice a.from a.to a.s.now in
     let room = a.room.now in
     let go = walked a.strict a.version (a.depth + 1) in
-    let at = at_run.in-Run.at in
-    let e : Inside.Run at ≡ inside_at a.kind a.from b = sym at_run.in-Run.is ∙ at_look.look.ensures in
+    let at = c.before.before.before.before.in-Run.at in
+    let e : Inside.Run at ≡ inside_at a.kind a.from b = sym c.before.before.before.before.in-Run.is ∙ c.before.before.before.before.before.look.ensures in
     c.before.before.walk.ensures
     ∙ sym (run_walked a.kind a.from a.to at a.s.now e go room)
-    ∙ as_stored a.resynced go a.kind b room at_if1.if-resynced.false
+    ∙ as_stored a.resynced go a.kind b room c.before.before.before.before.before.before.if-resynced.false
 
 abbrev walk_Inv_loop : walk-lts.invariant-loop-k
 walk_Inv_loop room₀ s from to version strict depth end at₀ room at =
@@ -204,8 +176,7 @@ walk_least_requires t c κs = search rules
 
 walk_loop_holds : (t : ℕ) → walk-lts.Need-loop-k-init (walk_calls t) (walk_at t) walk.Post walk_Inv_loop walk-μ-loop
 walk_loop_holds t c =
-    let at_start = c.before.before.before in
-    let a = at_start.args in
+    let a = c.before.before.before.args in
     let same = slice_cut a.from a.to c.least-end.result a.s.now c.least-end.ensures in
     (omega arith, omega arith, omega arith, refl, ap (λ (x : List ℕ). walked a.strict a.version a.depth x a.room.now) same)
 
@@ -217,18 +188,13 @@ walk_enum_known_k t c = search rules
 
 walk_same_length : (t : ℕ) → walk-lts.Need-shape_of-room-in-Stop (walk_calls t) (walk_at t) walk.Post walk_Inv_loop walk-μ-loop
 walk_same_length t c =
-    let at_loop = c.before.before.before.before in
-    at_loop.loop-k.invariant.3
+    c.before.before.loop-k.invariant.3
 
 walk_returns : (t : ℕ) → walk-lts.Need-returns-in-Stop (walk_calls t) (walk_at t) walk.Post walk_Inv_loop walk-μ-loop
 walk_returns t c =
-    let at_step_at = c.before.before.before in
-    let at_loop = at_step_at.before in
-    let at_least_lem = at_loop.before in
-    let at_start = at_least_lem.before.before.before in
-    let a = at_start.args in
-    let L = at_loop.loop-k in
-    sym (stopped a.strict a.version a.depth L.at at_least_lem.least-end.result a.s.now c.before.in-Stop.k (sym c.before.in-Stop.is ∙ at_step_at.step_at.ensures) L.room)
+    let a = c.before.before.before.before.before.before.args in
+    let L = c.before.before.loop-k in
+    sym (stopped a.strict a.version a.depth L.at c.before.before.before.least-end.result a.s.now c.in-Stop.k (sym c.in-Stop.is ∙ c.before.step_at.ensures) L.room)
     ∙ L.invariant.4
 
 walk_enum_known_kind : (t : ℕ) → walk-lts.Need-enum_known-kind (walk_calls t) (walk_at t) walk.Post walk_Inv_loop walk-μ-loop
@@ -241,48 +207,36 @@ walk_onward : (t : ℕ) (c : walk-lts.In-Body-2 (walk_calls t) (walk_at t) walk.
     let g = c.kind-1.given.0 in
     Onward a.strict a.version a.depth at_loop.loop-k.at at_loop.before.least-end.result a.s.now g.0 g.1.0 g.1.1.0 g.1.1.1.0
 walk_onward t c =
-    let at_loop = c.before.before.before in
-    let a = at_loop.before.before.before.before.args in
-    onward a.strict a.version a.depth at_loop.loop-k.at at_loop.before.least-end.result a.s.now at_loop.loop-k.invariant.1 _ _ _ _
-    (sym c.in-Body.is ∙ c.before.before.step_at.ensures)
+    let a = c.before.before.before.before.before.before.args in
+    onward a.strict a.version a.depth c.before.before.loop-k.at c.before.before.before.least-end.result a.s.now c.before.before.loop-k.invariant.1 _ _ _ _
+    (sym c.in-Body.is ∙ c.before.step_at.ensures)
 
 walk_body_requires : (t : ℕ) → walk-lts.Need-body-r-requires (walk_calls t) (walk_at t) walk.Post walk_Inv_loop walk-μ-loop
 walk_body_requires t c κs =
-    let at_step_at = c.before.before.before.before in
-    let at_loop = at_step_at.before in
-    let at_least_lem = at_loop.before in
-    let at_start = at_least_lem.before.before.before in
-    let a = at_start.args in
-    let L = at_loop.loop-k in
+    let a = c.before.before.before.before.before.before.before.args in
+    let L = c.before.before.before.loop-k in
     let g = c.before.before.kind-1.given.0 in
     let on = walk_onward t c.before.before in
-    let m : 2 * (a.to - a.from) ≡ t = at_start.requires.0 in
+    let m : 2 * (a.to - a.from) ≡ t = c.before.before.before.before.before.before.before.requires.0 in
     let less : 2 * (g.1.1.1.0 - g.1.1.0) + 1 < t = omega (arith, on.begins, on.ordered, on.within, L.invariant) in
     (less, (on.ordered, omega (arith, on.within, L.invariant), on.shallow))
 
 walk_same_length_2 : (t : ℕ) → walk-lts.Need-shape_of-room-then-r-ne0 (walk_calls t) (walk_at t) walk.Post walk_Inv_loop walk-μ-loop
 walk_same_length_2 t c =
-    let at_body = c.before.before.before in
-    let at_kind = at_body.before.before.before in
-    let at_loop = at_kind.before.before.before in
-    at_body.body-r.auto.0 ∙ at_loop.loop-k.invariant.3
+    c.before.before.before.body-r.auto.0 ∙ c.before.before.before.before.before.before.before.loop-k.invariant.3
 
 walk_returns_2 : (t : ℕ) → walk-lts.Need-returns-then-r-ne0 (walk_calls t) (walk_at t) walk.Post walk_Inv_loop walk-μ-loop
 walk_returns_2 t c =
     let at_body = c.before.before.before in
     let at_kind = at_body.before.before.before in
-    let at_step_at = at_kind.before.before in
-    let at_loop = at_step_at.before in
-    let at_least_lem = at_loop.before in
-    let at_start = at_least_lem.before.before.before in
-    let a = at_start.args in
-    let L = at_loop.loop-k in
-    let end = at_least_lem.least-end.result in
+    let a = c.before.before.before.before.before.before.before.before.before.before.before.args in
+    let L = c.before.before.before.before.before.before.before.loop-k in
+    let end = c.before.before.before.before.before.before.before.before.least-end.result in
     let g = at_kind.kind-1.given.0 in
     let on = walk_onward t at_kind in
     let o = body_of g.1.0 (walked a.strict a.version (a.depth + 1)) g.0 (slice g.1.1.0 g.1.1.1.0 a.s.now) L.room in
     let rest = walked a.strict a.version a.depth (slice g.1.1.1.0 end a.s.now) in
-    let e : ◌≡◌ {A = Out} (at_body.body-r.result, at_body.body-r.new.0) o = at_body.body-r.ensures in
+    let e : ◌≡◌ {A = Out} (c.before.before.before.body-r.result, c.before.before.before.body-r.new.0) o = c.before.before.before.body-r.ensures in
     e ∙ sym (on.same L.room ∙ then_halt o rest (λ z. c.if-r-ne0.true (ap (λ (p : Out). p.0) e ∙ z))) ∙ L.invariant.4
 
 walk_loop_less : (t : ℕ) → walk-lts.Need-loop-k-smaller (walk_calls t) (walk_at t) walk.Post walk_Inv_loop walk-μ-loop
@@ -296,22 +250,18 @@ walk_loop_again : (t : ℕ) → walk-lts.Need-loop-k-preserved (walk_calls t) (w
 walk_loop_again t c =
     let at_body = c.before.before.before in
     let at_kind = at_body.before.before.before in
-    let at_step_at = at_kind.before.before in
-    let at_loop = at_step_at.before in
-    let at_least_lem = at_loop.before in
-    let at_start = at_least_lem.before.before.before in
-    let a = at_start.args in
-    let L = at_loop.loop-k in
-    let end = at_least_lem.least-end.result in
+    let a = c.before.before.before.before.before.before.before.before.before.before.before.args in
+    let L = c.before.before.before.before.before.before.before.loop-k in
+    let end = c.before.before.before.before.before.before.before.before.least-end.result in
     let g = at_kind.kind-1.given.0 in
     let on = walk_onward t at_kind in
     let o = body_of g.1.0 (walked a.strict a.version (a.depth + 1)) g.0 (slice g.1.1.0 g.1.1.1.0 a.s.now) L.room in
     let rest = walked a.strict a.version a.depth (slice g.1.1.1.0 end a.s.now) in
-    let e : ◌≡◌ {A = Out} (at_body.body-r.result, at_body.body-r.new.0) o = at_body.body-r.ensures in (
+    let e : ◌≡◌ {A = Out} (c.before.before.before.body-r.result, c.before.before.before.body-r.new.0) o = c.before.before.before.body-r.ensures in (
       omega (arith, on.begins, on.ordered, L.invariant.0),
       L.invariant.1,
       L.invariant.2,
-      at_body.body-r.auto.0 ∙ L.invariant.3,
+      c.before.before.before.body-r.auto.0 ∙ L.invariant.3,
       ap rest (ap (λ (p : Out). p.1) e) ∙ sym (on.same L.room ∙ then_on o rest (sym (ap (λ (p : Out). p.0) e) ∙ c.if-r-ne0.false)) ∙ L.invariant.4,
     )
 

@@ -24,24 +24,21 @@ loop_holds c =
 
 returns : tie.Need-returns-then-not-block_zero invariant_loop decreases_loop
 returns c =
-    let at_loop = c.before.before.before in
-    let a = at_loop.before.before.before.before.args in
-    let L = at_loop.loop-at in
-    sym (zero_not a.s.now L.at at_loop.before.before.least-end.result 64 (omega arith) (sym c.before.block_zero.ensures ∙ not-true _ c.if-not-block_zero.true-raw)) ∙ L.invariant.2
+    let a = c.before.before.before.before.before.before.before.args in
+    let L = c.before.before.before.loop-at in
+    sym (zero_not a.s.now L.at c.before.before.before.before.before.least-end.result 64 (omega arith) (sym c.before.block_zero.ensures ∙ not-true _ c.if-not-block_zero.true-raw)) ∙ L.invariant.2
 
 loop_again : tie.Need-loop-at-preserved invariant_loop decreases_loop
 loop_again c =
-    let at_loop = c.before.before.before in
-    let a = at_loop.before.before.before.before.args in
-    let L = at_loop.loop-at in
-    (omega arith, L.invariant.1, sym (zero_on a.s.now L.at at_loop.before.before.least-end.result 64 (omega arith) (sym c.before.block_zero.ensures ∙ not-false _ c.if-not-block_zero.false-raw)) ∙ L.invariant.2)
+    let a = c.before.before.before.before.before.before.before.args in
+    let L = c.before.before.before.loop-at in
+    (omega arith, L.invariant.1, sym (zero_on a.s.now L.at c.before.before.before.before.before.least-end.result 64 (omega arith) (sym c.before.block_zero.ensures ∙ not-false _ c.if-not-block_zero.false-raw)) ∙ L.invariant.2)
 
 returns_2 : tie.Need-returns invariant_loop decreases_loop
 returns_2 c =
-    let at_loop = c.before.before in
-    let a = at_loop.before.before.before.before.args in
-    let L = at_loop.loop-at in
-    let ends : L.at + (at_loop.before.before.least-end.result - L.at) ≡ at_loop.before.before.least-end.result = omega arith in
+    let a = c.before.before.before.before.before.before.args in
+    let L = c.before.before.loop-at in
+    let ends : L.at + (c.before.before.before.before.least-end.result - L.at) ≡ c.before.before.before.before.least-end.result = omega arith in
     c.block_zero-2.ensures ∙ ap (λ (n : ℕ). all_zero (slice L.at n a.s.now)) ends ∙ L.invariant.2
 
 pub all_zero_spec : {M : Type 1} → statement M

@@ -57,7 +57,7 @@ returns_3 c =
     let s = start at_kept.before.before in
     let w = s.args.self in
     let size = c.before.size_check-j.ensures ∙ size_refusal_lem w.version w.mode (given s) _ c.before.before.measure_frame-size.ensures in
-    (too_long_lem w (given s) s.args.buffer.now (sound at_kept.before) (kept at_kept) _ size c.if-j-ne0.true, fits s)
+    (too_long_lem w (given s) s.args.buffer.now (sound at_kept.before) (kept c.before.before.before) _ size c.if-j-ne0.true, fits s)
 
 append_requires : tie.Need-append-requires
 append_requires c κs =
@@ -65,8 +65,8 @@ append_requires c κs =
     let at_sound = at_measure.before.before in
     let s = start at_sound.before in
     let w = s.args.self in
-    let exact = exact_size w.version _ _ at_measure.measure_frame-size.ensures (sym c.before.before.size_check-j.ensures ∙ c.before.if-j-ne0.false) in
-    (puttable w.version (given s) (sound at_sound), exact.0, exact.1)
+    let exact = exact_size w.version _ _ c.before.before.before.measure_frame-size.ensures (sym c.before.before.size_check-j.ensures ∙ c.before.if-j-ne0.false) in
+    (puttable w.version (given s) (sound c.before.before.before.before.before), exact.0, exact.1)
 
 returns_4 : tie.Need-returns
 returns_4 c =
@@ -75,9 +75,9 @@ returns_4 c =
     let at_kept = at_size.before.before.before in
     let s = start at_kept.before.before in
     let w = s.args.self in
-    let none = sym at_size.before.size_check-j.ensures ∙ at_size.if-j-ne0.false in
-    let size = sym (size_refusal_lem w.version w.mode (given s) _ at_size.before.before.measure_frame-size.ensures) ∙ none in
-    (at_append.append.ensures ∙ appended w (given s) s.args.buffer.now (sound at_kept.before) (kept at_kept) size, fits s)
+    let none = sym c.before.before.before.before.before.size_check-j.ensures ∙ c.before.before.before.before.if-j-ne0.false in
+    let size = sym (size_refusal_lem w.version w.mode (given s) _ c.before.before.before.before.before.before.measure_frame-size.ensures) ∙ none in
+    (c.before.before.append.ensures ∙ appended w (given s) s.args.buffer.now (sound at_kept.before) (kept c.before.before.before.before.before.before.before) size, fits s)
 
 pub add_spec : {M : Type 1} → statement M
 add_spec =

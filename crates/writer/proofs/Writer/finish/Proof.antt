@@ -22,28 +22,19 @@ returns_2 c =
 
 put_tag_requires : tie.Need-put_tag-put-requires
 put_tag_requires c κs =
-    let at_short = c.before.before in
-    leb-false _ _ (sym at_short.before.is_too_long.ensures ∙ at_short.if-is_too_long.false)
+    leb-false _ _ (sym c.before.before.before.is_too_long.ensures ∙ c.before.before.if-is_too_long.false)
 
 returns_3 : tie.Need-returns-in-Bytes
 returns_3 c =
-    let at_answer = c.before in
-    let at_put = at_answer.before.before.before.before in
-    let at_room = at_put.before.before in
-    let at_length = at_room.before.before in
-    let a = (start at_length).args in
-    let short = sym at_length.is_too_long.ensures ∙ at_room.before.if-is_too_long.false in
-    finish_done a.self a.padding a.buffer.now a.output-1.now short at_room.if-buffer-used.false at_put.put_tag-put.ensures at_answer.in-Bytes.is
+    let a = (start c.before.before.before.before.before.before.before).args in
+    let short = sym c.before.before.before.before.before.before.before.is_too_long.ensures ∙ c.before.before.before.before.before.before.if-is_too_long.false in
+    finish_done a.self a.padding a.buffer.now a.output-1.now short c.before.before.before.before.before.if-buffer-used.false c.before.before.before.put_tag-put.ensures c.in-Bytes.is
 
 returns_4 : tie.Need-returns-in-Refused
 returns_4 c =
-    let at_answer = c.before in
-    let at_put = at_answer.before.before.before.before in
-    let at_room = at_put.before.before in
-    let at_length = at_room.before.before in
-    let a = (start at_length).args in
-    let short = sym at_length.is_too_long.ensures ∙ at_room.before.if-is_too_long.false in
-    finish_full a.self a.padding a.buffer.now a.output-1.now short at_room.if-buffer-used.false at_put.put_tag-put.ensures at_answer.in-Refused.is
+    let a = (start c.before.before.before.before.before.before.before).args in
+    let short = sym c.before.before.before.before.before.before.before.is_too_long.ensures ∙ c.before.before.before.before.before.before.if-is_too_long.false in
+    finish_full a.self a.padding a.buffer.now a.output-1.now short c.before.before.before.before.before.if-buffer-used.false c.before.before.before.put_tag-put.ensures c.in-Refused.is
 
 pub finish_spec : {M : Type 1} → statement M
 finish_spec =

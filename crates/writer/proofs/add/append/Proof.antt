@@ -32,13 +32,10 @@ put_frame_requires c κs =
 
 returns_2 : tie.Need-returns
 returns_2 c =
-    let at_put = c.before.before in
-    let at_room = at_put.before.before in
-    let at_head = at_room.before.before in
-    let s = start at_head in
-    let h = at_head.head_len.ensures.0 in
-    let e = at_put.put_frame-used.ensures in
-    put_behind s.args.writer (given s) s.args.buffer.now h s.requires.1 at_room.before.is_full.ensures at_room.if-is_full.false e.0 e.1
+    let s = start c.before.before.before.before.before.before in
+    let h = c.before.before.before.before.before.before.head_len.ensures.0 in
+    let e = c.before.before.put_frame-used.ensures in
+    put_behind s.args.writer (given s) s.args.buffer.now h s.requires.1 c.before.before.before.before.before.is_full.ensures c.before.before.before.before.if-is_full.false e.0 e.1
 
 pub append_spec : {M : Type 1} → statement M
 append_spec =

@@ -10,24 +10,18 @@ returns c = let a = c.before.before.args in low_lost a.gap a.len c.if-gap.true
 
 returns_2 : tie.Need-returns-then-gap-2
 returns_2 c =
-    let at_low = c.before.before in
-    let a = at_low.before.before.args in
-    middle_lost a.gap a.len (omega (arith, at_low.if-gap.false)) c.if-gap-2.true
+    let a = c.before.before.before.before.args in
+    middle_lost a.gap a.len (omega (arith, c.before.before.if-gap.false)) c.if-gap-2.true
 
 returns_3 : tie.Need-returns-then-gap-3
 returns_3 c =
-    let at_middle = c.before.before in
-    let at_low = at_middle.before.before in
-    let a = at_low.before.before.args in
-    high_lost a.gap a.len (omega (arith, at_low.if-gap.false)) (omega (arith, at_middle.if-gap-2.false)) c.if-gap-3.true
+    let a = c.before.before.before.before.before.before.args in
+    high_lost a.gap a.len (omega (arith, c.before.before.before.before.if-gap.false)) (omega (arith, c.before.before.if-gap-2.false)) c.if-gap-3.true
 
 returns_4 : tie.Need-returns
 returns_4 c =
-    let at_high = c.before in
-    let at_middle = at_high.before.before in
-    let at_low = at_middle.before.before in
-    let a = at_low.before.before.args in
-    in_order a.gap a.len (omega (arith, at_low.if-gap.false)) (omega (arith, at_middle.if-gap-2.false)) (omega (arith, at_high.if-gap-3.false)) refl
+    let a = c.before.before.before.before.before.before.before.args in
+    in_order a.gap a.len (omega (arith, c.before.before.before.before.before.if-gap.false)) (omega (arith, c.before.before.before.if-gap-2.false)) (omega (arith, c.before.if-gap-3.false)) refl
 
 pub is_ordered_spec : {M : Type 1} → statement M
 is_ordered_spec = tie.close (tie.spec returns returns_2 returns_3 returns_4)

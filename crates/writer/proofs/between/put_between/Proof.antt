@@ -37,8 +37,8 @@ returns_2 c =
     let at_sound = at_measure.before in
     let s = start at_sound.before in
     let v = s.args.version in
-    let size = c.before.size_check-j.ensures ∙ size_refusal_lem v Mode.Off (given s) _ at_measure.measure_frame-size.ensures in
-    gap_too_long v s.args.gap (given s) s.args.buffer.now (sound at_sound) _ size c.if-j-ne0.true
+    let size = c.before.size_check-j.ensures ∙ size_refusal_lem v Mode.Off (given s) _ c.before.before.measure_frame-size.ensures in
+    gap_too_long v s.args.gap (given s) s.args.buffer.now (sound c.before.before.before) _ size c.if-j-ne0.true
 
 refit_requires : tie.Need-refit-requires
 refit_requires c κs =
@@ -47,8 +47,8 @@ refit_requires c κs =
     let at_sound = at_measure.before in
     let s = start at_sound.before in
     let v = s.args.version in
-    let exact = exact_size v _ _ at_measure.measure_frame-size.ensures (sym at_size.before.size_check-j.ensures ∙ at_size.if-j-ne0.false) in
-    (puttable v (given s) (sound at_sound), exact.0, exact.1)
+    let exact = exact_size v _ _ c.before.before.before.measure_frame-size.ensures (sym c.before.before.size_check-j.ensures ∙ c.before.if-j-ne0.false) in
+    (puttable v (given s) (sound c.before.before.before.before), exact.0, exact.1)
 
 returns_3 : tie.Need-returns
 returns_3 c =
@@ -58,9 +58,9 @@ returns_3 c =
     let at_sound = at_measure.before in
     let s = start at_sound.before in
     let v = s.args.version in
-    let none = sym at_size.before.size_check-j.ensures ∙ at_size.if-j-ne0.false in
-    let size = sym (size_refusal_lem v Mode.Off (given s) _ at_measure.measure_frame-size.ensures) ∙ none in
-    at_refit.refit.ensures ∙ gap_refit v s.args.gap (given s) s.args.buffer.now (sound at_sound) size
+    let none = sym c.before.before.before.before.before.size_check-j.ensures ∙ c.before.before.before.before.if-j-ne0.false in
+    let size = sym (size_refusal_lem v Mode.Off (given s) _ c.before.before.before.before.before.before.measure_frame-size.ensures) ∙ none in
+    c.before.before.refit.ensures ∙ gap_refit v s.args.gap (given s) s.args.buffer.now (sound c.before.before.before.before.before.before.before) size
 
 pub put_between_spec : {M : Type 1} → statement M
 put_between_spec =

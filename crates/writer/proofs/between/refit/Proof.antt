@@ -34,16 +34,16 @@ places : (c : tie.Else-not-is_ordered) → let s = start c.before in Ordered s.a
 places c = let s = start c.before in ordered s.args.gap (length s.args.buffer.now) (in_order c)
 
 sub_if2 : tie.Need-overflow_sub-gap
-sub_if2 c = let at_order = c.before.before in omega (arith, (places at_order).high)
+sub_if2 c = omega (arith, (places c.before.before).high)
 
 sub_if2_2 : tie.Need-overflow_sub-gap-2
-sub_if2_2 c = let at_order = c.before.before.before in omega (arith, (places at_order).low)
+sub_if2_2 c = omega (arith, (places c.before.before.before).low)
 
 add_if2 : tie.Need-overflow_add-gap
 add_if2 c =
     let at_order = c.before.before.before in
     let s = start at_order.before in
-    let o = places at_order in
+    let o = places c.before.before.before in
     omega (arith, o.low, o.middle, o.high, o.inside, s.fits)
 
 returns_2 : tie.Need-returns-then-gap-from
@@ -51,7 +51,7 @@ returns_2 c =
     let at_head = c.before.before.before in
     let at_order = at_head.before in
     let s = start at_order.before in
-    gap_full s.args.version s.args.gap (given s) s.args.buffer.now at_head.head_len.ensures.0 s.requires.1 (in_order at_order) c.if-gap-from.true
+    gap_full s.args.version s.args.gap (given s) s.args.buffer.now c.before.before.before.head_len.ensures.0 s.requires.1 (in_order c.before.before.before.before) c.if-gap-from.true
 
 -- the place after the frame
 add_shift : tie.Need-overflow_add-from
@@ -59,8 +59,8 @@ add_shift c =
     let at_room = c.before in
     let at_order = at_room.before.before.before.before in
     let s = start at_order.before in
-    let o = places at_order in
-    omega (arith, o.low, o.middle, o.high, o.inside, s.fits, at_room.if-gap-from.false)
+    let o = places c.before.before.before.before.before in
+    omega (arith, o.low, o.middle, o.high, o.inside, s.fits, c.before.if-gap-from.false)
 
 put_frame_requires : tie.Need-put_frame-requires
 put_frame_requires c κs =
@@ -72,7 +72,7 @@ put_frame_requires c κs =
       s.requires.0,
       s.requires.1,
       s.requires.2,
-      gap_fits s.args.version s.args.gap (given s) s.args.buffer.now at_head.head_len.ensures.0 s.requires.1 (in_order at_order) (omega (arith, at_room.if-gap-from.false)) at_shift.shift.ensures,
+      gap_fits s.args.version s.args.gap (given s) s.args.buffer.now c.before.before.before.before.before.before.before.before.head_len.ensures.0 s.requires.1 (in_order c.before.before.before.before.before.before.before.before.before) (omega (arith, c.before.before.before.before.before.if-gap-from.false)) c.before.before.before.shift.ensures,
     )
 
 returns_3 : tie.Need-returns
@@ -83,7 +83,7 @@ returns_3 c =
     let at_head = at_room.before.before.before in
     let at_order = at_head.before in
     let s = start at_order.before in
-    gap_done s.args.version s.args.gap (given s) s.args.buffer.now at_head.head_len.ensures.0 s.requires.1 (in_order at_order) (omega (arith, at_room.if-gap-from.false)) at_shift.shift.ensures at_put.put_frame.ensures.1
+    gap_done s.args.version s.args.gap (given s) s.args.buffer.now c.before.before.before.before.before.before.before.before.before.before.before.head_len.ensures.0 s.requires.1 (in_order c.before.before.before.before.before.before.before.before.before.before.before.before) (omega (arith, c.before.before.before.before.before.before.before.before.if-gap-from.false)) c.before.before.before.before.before.before.shift.ensures c.before.before.put_frame.ensures.1
 
 pub refit_spec : {M : Type 1} → statement M
 refit_spec =

@@ -16,43 +16,36 @@ start c = let at_slices = c.before in at_slices.before.before.before.before
 
 plan_of_requires : tie.Need-plan_of-plan-requires
 plan_of_requires c κs =
-    let s = c.before.before.before.before in
-    let a = s.args in
-    few_names a.name.now a.names.now a.rest.now a.deviations.now a.fields s.requires
+    let a = c.before.before.before.before.args in
+    few_names a.name.now a.names.now a.rest.now a.deviations.now a.fields c.before.before.before.before.requires
 
 slice_aggregate_measure_pieces : tie.Need-slice_bounds-measure_pieces-end
-slice_aggregate_measure_pieces c = sym (length-take-le _ _ c.before.before.plan_of-plan.ensures.name-fits)
+slice_aggregate_measure_pieces c = sym (length-take-le _ _ c.before.plan_of-plan.ensures.name-fits)
 
 slice_aggregate_measure_pieces_2 : tie.Need-slice_bounds-measure_pieces-end-2
-slice_aggregate_measure_pieces_2 c = sym (length-take-le _ _ c.before.before.before.plan_of-plan.ensures.small-fits)
+slice_aggregate_measure_pieces_2 c = sym (length-take-le _ _ c.before.before.plan_of-plan.ensures.small-fits)
 
 slice_aggregate_measure_pieces_3 : tie.Need-slice_bounds-measure_pieces-end-3
-slice_aggregate_measure_pieces_3 c = sym (length-take-le _ _ c.before.before.before.before.plan_of-plan.ensures.names-fit)
+slice_aggregate_measure_pieces_3 c = sym (length-take-le _ _ c.before.before.plan_of-plan.ensures.names-fit)
 
 slice_aggregate_measure_pieces_4 : tie.Need-slice_bounds-measure_pieces-end-4
 slice_aggregate_measure_pieces_4 c =
-    let at_small = c.before.before in
-    sym (length-take-le _ _ at_small.before.before.before.plan_of-plan.ensures.rest-fits)
+    sym (length-take-le _ _ c.before.before.plan_of-plan.ensures.rest-fits)
 
 measure_references_requires : tie.Need-measure_references-requires
 measure_references_requires c κs =
-    let at_small = c.before.before.before in
-    let at_plan = at_small.before.before.before in
-    let s = start at_plan in
+    let s = start c.before.before.before in
     let a = s.args in
     references_puttable a.name.now a.names.now a.rest.now a.deviations.now a.fields s.requires
 
 returns : tie.Need-returns
 returns c =
-    let at_pieces = c.before in
-    let at_small = at_pieces.before.before.before in
-    let at_plan = at_small.before.before.before in
-    let a = (start at_plan).args in
-    let p = at_plan.plan_of-plan in
+    let a = (start c.before.before.before.before).args in
+    let p = c.before.before.before.before.plan_of-plan in
     let r = p.result in
     let front = take r.name a.name.now ++ (take r.len r.bytes-1 ++ (take r.names a.names.now ++ take r.rest a.rest.now)) in
     rw (p.ensures.body a.deviations.now)
-    (then_sized a.mode a.pen front (packed_of a.fields a.deviations.now) at_pieces.measure_pieces-next.ensures c.measure_references.ensures)
+    (then_sized a.mode a.pen front (packed_of a.fields a.deviations.now) c.before.measure_pieces-next.ensures c.measure_references.ensures)
 
 pub measure_body_spec : {M : Type 1} → statement M
 measure_body_spec =

@@ -7,14 +7,11 @@ use Rattle.writer.proofs.bodies.measure_pieces.Tie as tie
 
 returns : tie.Need-returns
 returns c =
-    let at_second = c.before.before in
-    let at_first = at_second.before in
-    let at_slices = at_first.before in
-    let a = at_slices.before.before.before.before.args in
+    let a = c.before.before.before.before.before.before.before.before.args in
     let rest = a.b.now ++ (a.c.now ++ a.d.now) in
-    then_paced a.mode a.pen a.a.now rest at_first.measure_bytes-first.ensures
-    (then_paced a.mode at_first.measure_bytes-first.result a.b.now (a.c.now ++ a.d.now) at_second.measure_bytes-second.ensures
-    (then_paced a.mode at_second.measure_bytes-second.result a.c.now a.d.now c.before.measure_bytes-third.ensures c.measure_bytes.ensures))
+    then_paced a.mode a.pen a.a.now rest c.before.before.before.measure_bytes-first.ensures
+    (then_paced a.mode c.before.before.before.measure_bytes-first.result a.b.now (a.c.now ++ a.d.now) c.before.before.measure_bytes-second.ensures
+    (then_paced a.mode c.before.before.measure_bytes-second.result a.c.now a.d.now c.before.measure_bytes-third.ensures c.measure_bytes.ensures))
 
 pub measure_pieces_spec : {M : Type 1} → statement M
 measure_pieces_spec =

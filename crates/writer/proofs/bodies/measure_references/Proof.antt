@@ -9,10 +9,10 @@ use Rattle.writer.proofs.bodies.measure_references.Statement.{statement}
 use Rattle.writer.proofs.bodies.measure_references.Tie as tie
 
 measure_packed_requires : tie.Need-measure_packed-requires
-measure_packed_requires c κs = rw c.before.in-Table.is at c.before.before.before.before.requires
+measure_packed_requires c κs = rw c.in-Table.is at c.before.before.requires
 
 returns : tie.Need-returns-in-Table
-returns c = rw c.before.before.in-Table.is c.measure_packed.ensures
+returns c = rw c.before.in-Table.is c.measure_packed.ensures
 
 returns_2 : tie.Need-returns-in_default
 returns_2 c =

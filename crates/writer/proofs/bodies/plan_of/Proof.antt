@@ -48,13 +48,12 @@ small c ds =
 
 returns : tie.Need-returns
 returns c =
-    let u = c.before.before.before.before in
     record {
-      name_fits = (lies u).name_fits;
-      names_fit = (lies u).names_fit;
-      rest_fits = (lies u).rest_fits;
+      name_fits = (lies c.before.before.before).name_fits;
+      names_fit = (lies c.before.before.before).names_fit;
+      rest_fits = (lies c.before.before.before).rest_fits;
       small_fits = (small c.before []).fits;
-      body = λ ds. parts_body _ (parts u ds) (small c.before ds).is;
+      body = λ ds. parts_body _ (parts c.before.before.before ds) (small c.before ds).is;
     }
 
 pub plan_of_spec : {M : Type 1} → statement M

@@ -47,45 +47,38 @@ references_left c =
 
 plan_of_requires : tie.Need-plan_of-plan-requires
 plan_of_requires c κs =
-    let at_slices = c.before in
-    let s = at_slices.before.before.before.before in
-    let a = s.args in
-    few_names a.name.now a.names.now a.rest.now a.deviations.now a.fields s.requires.0
+    let a = c.before.before.before.before.before.args in
+    few_names a.name.now a.names.now a.rest.now a.deviations.now a.fields c.before.before.before.before.before.requires.0
 
 slice_aggregate_put_pieces : tie.Need-slice_bounds-put_pieces-end
-slice_aggregate_put_pieces c = sym (length-take-le _ _ c.before.before.before.plan_of-plan.ensures.name-fits)
+slice_aggregate_put_pieces c = sym (length-take-le _ _ c.before.before.plan_of-plan.ensures.name-fits)
 
 slice_aggregate_put_pieces_2 : tie.Need-slice_bounds-put_pieces-end-2
-slice_aggregate_put_pieces_2 c = sym (length-take-le _ _ c.before.before.before.before.plan_of-plan.ensures.small-fits)
+slice_aggregate_put_pieces_2 c = sym (length-take-le _ _ c.before.before.before.plan_of-plan.ensures.small-fits)
 
 slice_aggregate_put_pieces_3 : tie.Need-slice_bounds-put_pieces-end-3
 slice_aggregate_put_pieces_3 c =
-    let at_small = c.before.before in
-    sym (length-take-le _ _ at_small.before.before.before.plan_of-plan.ensures.names-fit)
+    sym (length-take-le _ _ c.before.before.before.plan_of-plan.ensures.names-fit)
 
 slice_aggregate_put_pieces_4 : tie.Need-slice_bounds-put_pieces-end-4
 slice_aggregate_put_pieces_4 c =
-    let at_small = c.before.before.before in
-    sym (length-take-le _ _ at_small.before.before.before.plan_of-plan.ensures.rest-fits)
+    sym (length-take-le _ _ c.before.before.before.plan_of-plan.ensures.rest-fits)
 
 put_pieces_requires : tie.Need-put_pieces-next-requires
 put_pieces_requires c κs =
-    let at_small = c.before.before.before in
-    let at_plan = at_small.before.before.before in
-    let a = (start at_plan).args in
-    piece_lies (front at_plan) (packed_of a.fields a.deviations.now) (all_left at_plan)
+    let a = (start c.before.before.before).args in
+    piece_lies (front c.before.before.before) (packed_of a.fields a.deviations.now) (all_left c.before.before.before)
 
 put_references_requires : tie.Need-put_references-requires
 put_references_requires c κs =
-    let at_pieces = c.before.before.before in
-    let s = start (planned at_pieces) in
+    let s = start (planned c.before.before.before) in
     let a = s.args in
-    (references_puttable a.name.now a.names.now a.rest.now a.deviations.now a.fields s.requires.0, rest_lies (references_left at_pieces))
+    (references_puttable a.name.now a.names.now a.rest.now a.deviations.now a.fields s.requires.0, rest_lies (references_left c.before.before.before))
 
 returns : tie.Need-returns
 returns c =
     let at_last = c.before.before in
-    rest_put (references_left at_last.before.before.before.before) at_last.put_references.ensures
+    rest_put (references_left at_last.before.before.before.before) c.before.before.put_references.ensures
 
 pub put_body_spec : {M : Type 1} → statement M
 put_body_spec =

@@ -45,21 +45,17 @@ third_put c =
 
 put_bytes_requires : tie.Need-put_bytes-first-requires
 put_bytes_requires c κs =
-    let at_slices = c.before.before in
-    let s = at_slices.before.before.before.before in
-    piece_lies s.args.a.now (s.args.b.now ++ (s.args.c.now ++ s.args.d.now)) (all_left s)
+    piece_lies c.before.before.before.before.before.before.args.a.now (c.before.before.before.before.before.before.args.b.now ++ (c.before.before.before.before.before.before.args.c.now ++ c.before.before.before.before.before.before.args.d.now)) (all_left c.before.before.before.before.before.before)
 
 put_bytes_requires_2 : tie.Need-put_bytes-second-requires
 put_bytes_requires_2 c κs =
-    let at_first = c.before.before.before in
-    let a = (start at_first).args in
-    piece_lies a.b.now (a.c.now ++ a.d.now) (first_put at_first)
+    let a = (start c.before.before.before).args in
+    piece_lies a.b.now (a.c.now ++ a.d.now) (first_put c.before.before.before)
 
 put_bytes_requires_3 : tie.Need-put_bytes-third-requires
 put_bytes_requires_3 c κs =
-    let at_second = c.before.before.before in
-    let a = (start2 at_second).args in
-    piece_lies a.c.now a.d.now (second_put at_second)
+    let a = (start2 c.before.before.before).args in
+    piece_lies a.c.now a.d.now (second_put c.before.before.before)
 
 put_bytes_requires_4 : tie.Need-put_bytes-requires
 put_bytes_requires_4 c κs = rest_lies (third_put c.before.before.before)
@@ -67,7 +63,7 @@ put_bytes_requires_4 c κs = rest_lies (third_put c.before.before.before)
 returns : tie.Need-returns
 returns c =
     let at_last = c.before.before in
-    rest_put (third_put at_last.before.before.before.before) at_last.put_bytes.ensures
+    rest_put (third_put at_last.before.before.before.before) c.before.before.put_bytes.ensures
 
 pub put_pieces_spec : {M : Type 1} → statement M
 put_pieces_spec =

@@ -8,13 +8,11 @@ use Rattle.writer.proofs.bodies.put_references.Tie as tie
 
 put_packed_requires : tie.Need-put_packed-requires
 put_packed_requires c κs =
-    let at_fields = c.before.before in
-    rw at_fields.in-Table.is at at_fields.before.before.before.before.requires
+    rw c.before.in-Table.is at c.before.before.before.before.requires
 
 returns : tie.Need-returns-in-Table
 returns c =
-    let at_put = c.before.before in
-    rw at_put.before.before.before.in-Table.is at_put.put_packed.ensures
+    rw c.before.before.before.before.in-Table.is c.before.before.put_packed.ensures
 
 returns_2 : tie.Need-returns-in_default
 unfolding unsync

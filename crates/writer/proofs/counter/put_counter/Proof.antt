@@ -14,11 +14,9 @@ put_digits_requires c κs =
 
 returns : tie.Need-returns
 returns c =
-    let at_width = c.before.before.before.before in
-    let s = at_width.before.before in
-    let w = at_width.width-count in
-    let e = counter_bytes_lem s.args.counter s.ranges.counter.fits w.result w.ensures in
-    (w.ensures, c.before.before.put_digits.ensures ∙ ap (sets s.args.buffer.now s.args.at) (sym e))
+    let w = c.before.before.before.before.width-count in
+    let e = counter_bytes_lem c.before.before.before.before.before.before.args.counter c.before.before.before.before.before.before.ranges.counter.fits w.result w.ensures in
+    (w.ensures, c.before.before.put_digits.ensures ∙ ap (sets c.before.before.before.before.before.before.args.buffer.now c.before.before.before.before.before.before.args.at) (sym e))
 
 pub put_counter_spec : {M : Type 1} → statement M
 put_counter_spec = tie.close (tie.spec (λ c κs. search rules) put_digits_requires (λ c. search rules) returns)

@@ -16,9 +16,8 @@ returns_2 c =
 
 returns_3 : tie.Need-returns
 returns_3 c =
-    let at_mode = c.before in
-    let a = at_mode.before.before.before.before.args in
-    by_count a.version a.mode a.padding a.used a.buffer.now at_mode.before.before.if-padding-ge-LIMIT.false at_mode.whole_mode.ensures c.unsync_len.ensures
+    let a = c.before.before.before.before.before.args in
+    by_count a.version a.mode a.padding a.used a.buffer.now c.before.before.before.if-padding-ge-LIMIT.false c.before.whole_mode.ensures c.unsync_len.ensures
 
 pub is_too_long_spec : {M : Type 1} → statement M
 is_too_long_spec =

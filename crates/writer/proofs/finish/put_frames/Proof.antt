@@ -19,18 +19,15 @@ returns c =
 
 slice_aggregate_unsync_into : tie.Need-slice_bounds-unsync_into-end-2
 slice_aggregate_unsync_into c =
-    let at_mode = c.before in
-    sym (length-take-le _ at_mode.before.before.before.before.args.output.now (omega arith))
+    sym (length-take-le _ c.before.before.before.before.before.args.output.now (omega arith))
 
 returns_2 : tie.Need-returns
 returns_2 c =
-    let at_into = c.before.before in
-    let at_mode = at_into.before.before in
-    let a = at_mode.before.before.before.before.args in
+    let a = c.before.before.before.before.before.before.before.before.args in
     let frames = take a.used a.buffer.now in
-    let whole = whole_is a.version a.mode at_mode.whole_mode-by.ensures frames in
-    let puts = at_into.unsync_into.ensures ∙ ap (λ (u : List ℕ). placed_of u 10 (take (length a.output.now - a.padding) a.output.now)) whole in
-    in_front (whole_of a.version a.mode frames) a.output.now a.padding at_mode.before.if-output-padding.false refl puts
+    let whole = whole_is a.version a.mode c.before.before.before.before.whole_mode-by.ensures frames in
+    let puts = c.before.before.unsync_into.ensures ∙ ap (λ (u : List ℕ). placed_of u 10 (take (length a.output.now - a.padding) a.output.now)) whole in
+    in_front (whole_of a.version a.mode frames) a.output.now a.padding c.before.before.before.before.before.if-output-padding.false refl puts
 
 pub put_frames_spec : {M : Type 1} → statement M
 put_frames_spec =

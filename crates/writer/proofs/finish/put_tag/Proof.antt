@@ -16,10 +16,8 @@ frames_put_lem : (c : tie.After-put_zeros-arg-1) →
     let a = (start at_frames).args in
     Frames a.version a.mode a.padding (take a.used a.buffer.now) a.output.now at_frames.put_frames-put.ensures at_put.in-Bytes.n
 frames_put_lem c =
-    let at_put = c.before.before in
-    let at_frames = at_put.before.before.before.before in
-    let a = (start at_frames).args in
-    tag_frames a.version a.mode a.padding (take a.used a.buffer.now) a.output.now at_frames.put_frames-put.ensures at_put.in-Bytes.is
+    let a = (start c.before.before.before.before).args in
+    tag_frames a.version a.mode a.padding (take a.used a.buffer.now) a.output.now c.before.before.before.before.put_frames-put.ensures c.before.in-Bytes.is
 
 add_put_zeros : tie.Need-overflow_add-n
 add_put_zeros c = omega (arith, frames_put_lem c)
@@ -36,7 +34,7 @@ put_header_requires c κs =
     let at_put = at_zeros.before.before in
     let at_start = start at_put.before.before.before.before in
     let a = at_start.args in
-    omega (arith, frames_put_lem at_zeros, region_length a.version a.mode a.padding (take a.used a.buffer.now), at_start.requires)
+    omega (arith, frames_put_lem c.before.before.before.before, region_length a.version a.mode a.padding (take a.used a.buffer.now), at_start.requires)
 
 add_t16 : tie.Need-overflow_add-result
 add_t16 c =
@@ -52,17 +50,13 @@ returns : tie.Need-returns-in-Bytes
 returns c =
     let at_header = c.before.before in
     let at_zeros = at_header.before.before.before.before in
-    let at_put = at_zeros.before.before.before in
-    let at_frames = at_put.before.before.before.before in
-    let a = (start at_frames).args in
-    tag_put a.version a.mode a.padding (take a.used a.buffer.now) a.output.now at_frames.put_frames-put.ensures (frames_put_lem at_zeros.before) at_zeros.put_zeros.ensures at_header.put_header.ensures
+    let a = (start c.before.before.before.before.before.before.before.before.before.before.before).args in
+    tag_put a.version a.mode a.padding (take a.used a.buffer.now) a.output.now c.before.before.before.before.before.before.before.before.before.before.before.put_frames-put.ensures (frames_put_lem at_zeros.before) c.before.before.before.before.before.before.put_zeros.ensures c.before.before.put_header.ensures
 
 returns_2 : tie.Need-returns-in-Refused
 returns_2 c =
-    let at_put = c.before in
-    let at_frames = at_put.before.before.before.before in
-    let a = (start at_frames).args in
-    tag_refused a.version a.mode a.padding (take a.used a.buffer.now) a.output.now at_frames.put_frames-put.ensures at_put.in-Refused.is
+    let a = (start c.before.before.before).args in
+    tag_refused a.version a.mode a.padding (take a.used a.buffer.now) a.output.now c.before.before.before.put_frames-put.ensures c.in-Refused.is
 
 pub put_tag_spec : {M : Type 1} → statement M
 put_tag_spec =

@@ -23,7 +23,7 @@ put_body_requires c κs =
     let at_head = c.before.before.before.before in
     let s = start at_head.before in
     let a = s.args in
-    let h = at_head.put_head-behind in
+    let h = c.before.before.before.before.put_head-behind in
     (s.requires.0, body_lies a.version a.mode (given s) a.buffer.now a.at s.requires.1 h.ensures.0 h.ensures.1 c.body_mode.ensures s.requires.3)
 
 returns : tie.Need-returns
@@ -33,8 +33,8 @@ returns c =
     let at_head = at_mode.before.before.before.before in
     let s = start at_head.before in
     let a = s.args in
-    let h = at_head.put_head-behind in
-    frame_put a.version a.mode (given s) a.buffer.now a.at s.requires.1 h.ensures.0 h.ensures.1 at_mode.body_mode.ensures at_body.put_body-end.ensures
+    let h = c.before.before.before.before.before.before.before.put_head-behind in
+    frame_put a.version a.mode (given s) a.buffer.now a.at s.requires.1 h.ensures.0 h.ensures.1 c.before.before.before.body_mode.ensures c.before.before.put_body-end.ensures
 
 pub put_frame_spec : {M : Type 1} → statement M
 put_frame_spec =

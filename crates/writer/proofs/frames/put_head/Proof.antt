@@ -7,36 +7,29 @@ use Rattle.writer.proofs.frames.put_head.Statement.{statement}
 use Rattle.writer.proofs.frames.put_head.Tie as tie
 
 put_short_requires : tie.Need-put_short-requires
-put_short_requires c κs = rw c.before.in-Id3v22.is at c.before.before.before.before.requires.0
+put_short_requires c κs = rw c.before.in-Id3v22.is at c.before.before.before.requires.0
 
 put_long_requires : tie.Need-put_long-requires
-put_long_requires c κs = rw c.before.in-Id3v23.is at c.before.before.before.before.requires.0
+put_long_requires c κs = rw c.before.in-Id3v23.is at c.before.before.before.requires.0
 
 put_long_requires_2 : tie.Need-put_long-requires-in-Id3v24
 put_long_requires_2 c κs =
-    let at_edition = c.before.before.before in
-    rw at_edition.in-Id3v24.is at at_edition.before.before.before.requires.0
+    rw c.before.before.before.in-Id3v24.is at c.before.before.before.before.before.requires.0
 
 returns : tie.Need-returns-in-Id3v22
 returns c =
-    let at_put = c.before.before in
-    rw at_put.before.before.in-Id3v22.is (refl, at_put.put_short.ensures)
+    rw c.before.before.before.before.in-Id3v22.is (refl, c.before.before.put_short.ensures)
 
 returns_2 : tie.Need-returns-in-Id3v23
 returns_2 c =
-    let at_put = c.before.before in
-    let at_edition = at_put.before.before in
-    let a = at_edition.before.before.before.args in
-    rw at_edition.in-Id3v23.is (refl, at_put.put_long.ensures ∙ ap (sets a.buffer.now a.at) (plain_head a.mode a.id a.size))
+    let a = c.before.before.before.before.before.before.args in
+    rw c.before.before.before.before.in-Id3v23.is (refl, c.before.before.put_long.ensures ∙ ap (sets a.buffer.now a.at) (plain_head a.mode a.id a.size))
 
 returns_3 : tie.Need-returns-in-Id3v24
 returns_3 c =
-    let at_put = c.before.before in
-    let at_size = at_put.before.before in
-    let at_edition = at_size.before.before in
-    let a = at_edition.before.before.before.args in
-    rw at_edition.in-Id3v24.is
-    (refl, at_put.put_long-in-Id3v24.ensures ∙ rw (at_size.synchsafe_word.ensures, at_put.before.frame_flags.ensures) (ap (sets a.buffer.now a.at) (long_head a.mode a.id a.size)))
+    let a = c.before.before.before.before.before.before.before.before.args in
+    rw c.before.before.before.before.before.before.in-Id3v24.is
+    (refl, c.before.before.put_long-in-Id3v24.ensures ∙ rw (c.before.before.before.before.synchsafe_word.ensures, c.before.before.before.frame_flags.ensures) (ap (sets a.buffer.now a.at) (long_head a.mode a.id a.size)))
 
 pub put_head_spec : {M : Type 1} → statement M
 put_head_spec =

@@ -11,12 +11,9 @@ use Rattle.writer.proofs.frames.put_long.Tie as tie
 
 returns : tie.Need-returns
 returns c =
-    let flags_put = c.before.before in
-    let size_put = flags_put.before.before.before.before in
-    let id_put = size_put.before.before.before.before in
-    let a = id_put.before.before.before.args in
-    bytes_put a.buffer.now a.at 4 a.id (bytes_of 4 a.size ++ bytes_of 2 a.flags) id_put.put_digits.ensures
-    (bytes_put _ (a.at + 4) 4 a.size (bytes_of 2 a.flags) size_put.put_digits-2.ensures flags_put.put_digits-3.ensures (omega arith))
+    let a = c.before.before.before.before.before.before.before.before.before.before.before.before.before.args in
+    bytes_put a.buffer.now a.at 4 a.id (bytes_of 4 a.size ++ bytes_of 2 a.flags) c.before.before.before.before.before.before.before.before.before.before.put_digits.ensures
+    (bytes_put _ (a.at + 4) 4 a.size (bytes_of 2 a.flags) c.before.before.before.before.before.before.put_digits-2.ensures c.before.before.put_digits-3.ensures (omega arith))
     refl
 
 pub put_long_spec : {M : Type 1} → statement M

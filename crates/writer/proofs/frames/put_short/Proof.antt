@@ -8,10 +8,8 @@ use Rattle.writer.proofs.frames.put_short.Tie as tie
 
 returns : tie.Need-returns
 returns c =
-    let size_put = c.before.before in
-    let id_put = size_put.before.before.before.before in
-    let a = id_put.before.before.before.args in
-    bytes_put a.buffer.now a.at 3 a.id (bytes_of 3 a.size) id_put.put_digits.ensures size_put.put_digits-2.ensures refl
+    let a = c.before.before.before.before.before.before.before.before.before.args in
+    bytes_put a.buffer.now a.at 3 a.id (bytes_of 3 a.size) c.before.before.before.before.before.before.put_digits.ensures c.before.before.put_digits-2.ensures refl
 
 pub put_short_spec : {M : Type 1} → statement M
 put_short_spec =

@@ -6,15 +6,11 @@ use Rattle.writer.proofs.numbers.synchsafe_word.Tie as tie
 
 returns : tie.Need-returns-in-Word
 returns c =
-    let at_encode = c.before.before.before in
-    let at_start = at_encode.before in
-    word_bytes at_start.args.size at_start.requires at_encode.encode_u32-encoded.ensures c.before.in-Word.is
+    word_bytes c.before.before.args.size c.before.before.requires c.before.encode_u32-encoded.ensures c.in-Word.is
 
 returns_2 : tie.Need-returns-in-Refused
 returns_2 c =
-    let at_encode = c.before.before in
-    let at_start = at_encode.before in
-    absurd (word_given at_start.args.size at_start.requires at_encode.encode_u32-encoded.ensures c.in-Refused.is)
+    absurd (word_given c.before.before.args.size c.before.before.requires c.before.encode_u32-encoded.ensures c.in-Refused.is)
 
 pub synchsafe_word_spec : {M : Type 1} → statement M
 synchsafe_word_spec =

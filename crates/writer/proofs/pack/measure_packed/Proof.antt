@@ -21,9 +21,8 @@ returns_2 c = inr (omega arith)
 
 returns_3 : tie.Need-returns-in-Off
 returns_3 c =
-    let at_len = c.before.before.before.before in
-    let a = at_len.before.before.args in
-    inl (omega (arith, at_len.packed_len-n.ensures, ap length (off_bytes c.in-Off.is a.pen.prev (pack a.v a.w a.ds.now))))
+    let a = c.before.before.before.before.before.args in
+    inl (omega (arith, c.before.before.before.packed_len-n.ensures, ap length (off_bytes c.in-Off.is a.pen.prev (pack a.v a.w a.ds.now))))
 
 returns_4 : tie.Need-returns-in-Crate
 returns_4 c = paced_sized c.pace_packed.ensures

@@ -21,11 +21,10 @@ decreases_loop mode ds v w n bits₀ next₀ k₀ bits next k = n - k
 
 loop_holds : tie.Need-loop-k-init invariant_loop decreases_loop
 loop_holds c =
-    let s = c.before in
-    let a = s.args in
+    let a = c.before.args in
     let e = start_left a.v a.w a.ds.now in (
-      start_ready a.v a.w a.ds.now s.requires.0,
-      omega (arith, ap length e, s.requires.1),
+      start_ready a.v a.w a.ds.now c.before.requires.0,
+      omega (arith, ap length e, c.before.requires.1),
       rw e (λ r p. p),
     )
 
@@ -34,9 +33,8 @@ next_byte_requires c κs = (c.before.loop-k.invariant.0, omega (arith, c.before.
 
 loop_again : tie.Need-loop-k-preserved invariant_loop decreases_loop
 loop_again c =
-    let at_loop = c.before.before.before.before in
-    let a = at_loop.before.before.args in
-    let L = at_loop.loop-k in
+    let a = c.before.before.before.before.before.before.args in
+    let L = c.before.before.before.before.loop-k in
     let n = c.before.before.next_byte-step in
     let e = n.ensures in (
       e.0,

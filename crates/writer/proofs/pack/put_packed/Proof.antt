@@ -21,12 +21,11 @@ decreases_loop buffer₀ mode ds v w n bits₀ next₀ k₀ buffer bits next k =
 
 loop_holds : tie.Need-loop-k-init invariant_loop decreases_loop
 loop_holds c =
-    let s = c.before.before.before in
-    let a = s.args in
+    let a = c.before.before.before.args in
     let e = start_left a.v a.w a.ds.now in (
-      start_ready a.v a.w a.ds.now s.requires.0,
+      start_ready a.v a.w a.ds.now c.before.before.before.requires.0,
       omega (arith, ap length e, c.packed_len-n.ensures),
-      same_list (sym e) (begin a.mode a.pen (pack a.v a.w a.ds.now) a.buffer.now s.requires.1),
+      same_list (sym e) (begin a.mode a.pen (pack a.v a.w a.ds.now) a.buffer.now c.before.before.before.requires.1),
     )
 
 next_byte_requires : tie.Need-next_byte-step-requires invariant_loop decreases_loop
@@ -37,20 +36,17 @@ put_byte_requires c κs = lies (same_list c.before.next_byte-step.ensures.1 c.be
 
 loop_again : tie.Need-loop-k-preserved invariant_loop decreases_loop
 loop_again c =
-    let at_put = c.before.before.before in
-    let at_byte = at_put.before.before in
-    let L = at_byte.before.before.loop-k in
-    let e = at_byte.next_byte-step.ensures in
-    (e.0, omega (arith, L.invariant.1, ap length e.1), put (same_list e.1 L.invariant.2) at_put.put_byte-next.ensures)
+    let L = c.before.before.before.before.before.before.before.loop-k in
+    let e = c.before.before.before.before.before.next_byte-step.ensures in
+    (e.0, omega (arith, L.invariant.1, ap length e.1), put (same_list e.1 L.invariant.2) c.before.before.before.put_byte-next.ensures)
 
 same_length : tie.Need-shape_of-buffer invariant_loop decreases_loop
 same_length c = c.before.loop-k.invariant.2.long
 
 returns : tie.Need-returns invariant_loop decreases_loop
 returns c =
-    let at_loop = c.before in
-    let L = at_loop.loop-k in
-    done (same_list (drop_none (left L.bits at_loop.before.before.before.before.args.ds.now) 0 (omega (arith, L.invariant.1))) L.invariant.2)
+    let L = c.before.loop-k in
+    done (same_list (drop_none (left L.bits c.before.before.before.before.before.args.ds.now) 0 (omega (arith, L.invariant.1))) L.invariant.2)
 
 pub put_packed_spec : {M : Type 1} → statement M
 put_packed_spec =

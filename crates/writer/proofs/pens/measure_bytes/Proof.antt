@@ -25,9 +25,8 @@ add_t9 c =
 
 returns_3 : tie.Need-returns
 returns_3 c =
-    let at_len = c.before in
-    let a = at_len.before.before.before.before.args in
-    inl (pen_is (ap (λ (n : ℕ). a.pen.at + n) (count_all a.mode a.pen.prev a.s.now at_len.unsync_len.ensures).0) c.ends_ff.ensures)
+    let a = c.before.before.before.before.before.args in
+    inl (pen_is (ap (λ (n : ℕ). a.pen.at + n) (count_all a.mode a.pen.prev a.s.now c.before.unsync_len.ensures).0) c.ends_ff.ensures)
 
 pub measure_bytes_spec : {M : Type 1} → statement M
 measure_bytes_spec =

@@ -17,17 +17,13 @@ Left s l = let a = s.args in Storing a.buffer.now a.pen.at (unsync (guards a.mod
 -- a 00 and the byte, or the byte alone
 guarded : (c : tie.Then-is_guarded) → let s = c.before.before.before in Left s (0 ∷ s.args.b ∷ [])
 guarded c =
-    let at_test = c.before in
-    let at_start = at_test.before.before in
-    let a = at_start.args in
-    same_list (byte_bytes a.mode a.pen a.b true (sym c.if-is_guarded.true ∙ at_test.is_guarded.ensures)) (begin _ _ _ at_start.requires)
+    let a = c.before.before.before.args in
+    same_list (byte_bytes a.mode a.pen a.b true (sym c.if-is_guarded.true ∙ c.before.is_guarded.ensures)) (begin _ _ _ c.before.before.before.requires)
 
 plain : (c : tie.Else-is_guarded) → let s = c.before.before.before in Left s (s.args.b ∷ [])
 plain c =
-    let at_test = c.before in
-    let at_start = at_test.before.before in
-    let a = at_start.args in
-    same_list (byte_bytes a.mode a.pen a.b false (sym c.if-is_guarded.false ∙ at_test.is_guarded.ensures)) (begin _ _ _ at_start.requires)
+    let a = c.before.before.before.args in
+    same_list (byte_bytes a.mode a.pen a.b false (sym c.if-is_guarded.false ∙ c.before.is_guarded.ensures)) (begin _ _ _ c.before.before.before.requires)
 
 slice_write_buffer : tie.Need-bounds-buffer-at
 slice_write_buffer c = next_lies (guarded c)

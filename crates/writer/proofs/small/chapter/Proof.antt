@@ -9,11 +9,7 @@ use Rattle.writer.proofs.small.chapter.Tie as tie
 returns : tie.Need-returns
 unfolding digits
 returns c =
-    let fourth = c.before in
-    let third = fourth.before.before.before in
-    let second = third.before.before.before in
-    let first = second.before.before.before in
-    rw (fourth.put_digits-4.ensures, third.put_digits-3.ensures, second.put_digits-2.ensures, first.put_digits.ensures) (record { is = refl; fits = omega arith })
+    rw (c.before.put_digits-4.ensures, c.before.before.before.before.put_digits-3.ensures, c.before.before.before.before.before.before.before.put_digits-2.ensures, c.before.before.before.before.before.before.before.before.before.before.put_digits.ensures) (record { is = refl; fits = omega arith })
 
 pub chapter_spec : {M : Type 1} → statement M
 chapter_spec =

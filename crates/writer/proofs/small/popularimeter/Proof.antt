@@ -10,15 +10,13 @@ use Rattle.writer.proofs.small.popularimeter.Tie as tie
 
 add_t10 : tie.Need-overflow_add-result
 add_t10 c =
-    let s = c.before.before.before in
-    omega (arith, c.before.put_counter-count.ensures.0, counter_small s.args.counter s.ranges.counter.fits)
+    omega (arith, c.before.put_counter-count.ensures.0, counter_small c.before.before.before.args.counter c.before.before.before.ranges.counter.fits)
 
 returns : tie.Need-returns
 returns c =
-    let s = c.before.before.before in
     let e = c.before.put_counter-count.ensures in
-    let h = counter_small s.args.counter s.ranges.counter.fits in
-    holds (0 ∷ s.args.rating ∷ counter_bytes s.args.counter) e.1 (omega (arith, e.0)) (omega arith)
+    let h = counter_small c.before.before.before.args.counter c.before.before.before.ranges.counter.fits in
+    holds (0 ∷ c.before.before.before.args.rating ∷ counter_bytes c.before.before.before.args.counter) e.1 (omega (arith, e.0)) (omega arith)
 
 pub popularimeter_spec : {M : Type 1} → statement M
 popularimeter_spec =

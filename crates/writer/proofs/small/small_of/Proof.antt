@@ -6,21 +6,21 @@ use Rattle.writer.proofs.small.small_of.Statement.{statement}
 use Rattle.writer.proofs.small.small_of.Tie as tie
 
 returns : tie.Need-returns-in-Text
-returns c name names rest ds e = rw c.before.before.in-Text.is c.text.ensures
+returns c name names rest ds e = rw c.before.in-Text.is c.text.ensures
 
 returns_2 : tie.Need-returns-in-Popularimeter
-returns_2 c name names rest ds e = rw c.before.before.in-Popularimeter.is c.popularimeter.ensures
+returns_2 c name names rest ds e = rw c.before.in-Popularimeter.is c.popularimeter.ensures
 
 returns_3 : tie.Need-returns-in-Table
-returns_3 c name names rest ds e = rw c.before.before.in-Table.is c.table.ensures
+returns_3 c name names rest ds e = rw c.before.in-Table.is c.table.ensures
 
 returns_4 : tie.Need-returns-in-Chapter
-returns_4 c name names rest ds e = rw c.before.before.in-Chapter.is c.chapter.ensures
+returns_4 c name names rest ds e = rw c.before.in-Chapter.is c.chapter.ensures
 
 returns_5 : tie.Need-returns-in-Contents
 returns_5 c name names rest ds e =
-    let f = c.before.before.in-Contents.is in
-    let g : zeros_in names ≡ c.before.before.before.before.args.children = rw f at e in
+    let f = c.before.in-Contents.is in
+    let g : zeros_in names ≡ c.before.before.args.children = rw f at e in
     rw (f, g) c.contents.ensures
 
 returns_6 : tie.Need-returns-in-Raw

@@ -9,10 +9,7 @@ use Rattle.writer.proofs.small.table.Tie as tie
 returns : tie.Need-returns
 unfolding digits
 returns c =
-    let third = c.before in
-    let second = third.before.before.before in
-    let first = second.before.before.before in
-    rw (third.put_digits-3.ensures, second.put_digits-2.ensures, first.put_digits.ensures) (record { is = refl; fits = omega arith })
+    rw (c.before.put_digits-3.ensures, c.before.before.before.before.put_digits-2.ensures, c.before.before.before.before.before.before.before.put_digits.ensures) (record { is = refl; fits = omega arith })
 
 pub table_spec : {M : Type 1} → statement M
 table_spec =
