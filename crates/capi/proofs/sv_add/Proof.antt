@@ -46,14 +46,14 @@ slice_write_count : tie.Need-bounds-count-0
 slice_write_count c = (room c).1.1
 
 load_writer_requires : tie.Need-load_writer-state-requires
-load_writer_requires c κs = (room c.before).1.0
+load_writer_requires c κs = (room c).1.0
 
 returns_2 : tie.Need-returns-in_default
 returns_2 c =
     sym (add_bad _ _ _ _ _ _ _ _ c.before.before.if-record-writer.false (sym c.before.load_writer-state.ensures ∙ c.in_default.is))
 
 load_heading_requires : tie.Need-load_heading-given-requires
-load_heading_requires c κs = let at_load = c.before.before.before in (room at_load.before.before).0
+load_heading_requires c κs = (room c.before.before).0
 
 returns_3 : tie.Need-returns-in_default-given
 returns_3 c =
@@ -69,13 +69,11 @@ slice_write_count_2 c =
 
 returns_4 : tie.Need-returns-in-Accepted
 returns_4 c =
-    let at_stored = c.before.before in
-    let at_accepted = at_stored.before.before.before in
-    let e = answer_picks at_accepted.before.before c.before.before.before.before.in-Accepted.is in
+    let e = answer_picks c.before.before.before.before.before c.before.before.before.before.in-Accepted.is in
     rw set-set (cc (e, c.before.before.store_writer.ensures))
 
 returns_5 : tie.Need-returns-in-Refused
-returns_5 c = sym (answer_picks c.before.before.before c.in-Refused.is)
+returns_5 c = sym (answer_picks c.before c.in-Refused.is)
 
 pub sv_add_spec : {M : Type 1} → statement M
 sv_add_spec =

@@ -36,17 +36,17 @@ returns : tie.Need-returns-then-meter-metered
 returns c = sym (next_short _ _ _ _ c.if-meter-metered.true)
 
 is_running_requires : tie.Need-is_running-requires
-is_running_requires c κs = (room c.before).0
+is_running_requires c κs = (room c).0
 
 stopped_requires : tie.Need-stopped-requires
-stopped_requires c κs = let at_Stops = c.before in (room at_Stops.before.before.before).0
+stopped_requires c κs = (room c.before.before).0
 
 returns_2 : tie.Need-returns-then-not-is_running
 returns_2 c =
     rw c.stopped.ensures (sym (next_stopped _ _ _ _ c.before.before.before.if-meter-metered.false (sym c.before.before.is_running.ensures ∙ not-true _ c.before.if-not-is_running.true-raw)))
 
 slice_read_version_in : tie.Need-bounds-meter-0
-slice_read_version_in c = let at_runs = c.before in let h = room at_runs.before.before.before in omega (arith, h.0)
+slice_read_version_in c = let h = room c.before.before.before in omega (arith, h.0)
 
 returns_3 : tie.Need-returns-in_default
 returns_3 c =
@@ -54,13 +54,11 @@ returns_3 c =
     sym (next_unknown _ _ _ _ t.if-meter-metered.left (bad_version (word 0 (given t).args.meter.now) (sym c.before.version_in-given.ensures ∙ c.in_default.is)))
 
 running_requires : tie.Need-running-requires
-running_requires c κs = (room (at_words c.before.before.before.before)).0
+running_requires c κs = (room (at_words c.before)).0
 
 answered_requires : tie.Need-answered-requires
 answered_requires c κs =
-    let at_next = c.before.before.before.before in
-    let at_good = at_next.before.before.before.before in
-    let h = room (at_words at_good.before.before.before) in
+    let h = room (at_words c.before.before.before.before.before.before.before.before) in
     (omega (arith, h.0), omega (arith, h.1))
 
 returns_4 : tie.Need-returns

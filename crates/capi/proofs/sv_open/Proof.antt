@@ -10,16 +10,11 @@ returns c = sym (open_short _ _ _ c.if-reader-lt-READER_WORDS.true)
 
 returns_2 : tie.Need-returns-in-Ready
 returns_2 c =
-    let at_stored = c.before.before in
-    let at_ready = at_stored.before.before.before in
-    let at_open = at_ready.before.before.before.before in
-    rw c.before.before.store_reader.ensures (sym (open_then _ _ _ c.before.before.before.before.before.before.before.before.before.if-reader-lt-READER_WORDS.false at_open.«open».ensures c.before.before.before.before.in-Ready.is))
+    rw c.before.before.store_reader.ensures (sym (open_then _ _ _ c.before.before.before.before.before.before.before.before.before.if-reader-lt-READER_WORDS.false c.before.before.before.before.before.before.before.open-opened.ensures c.before.before.before.before.in-Ready.is))
 
 returns_3 : tie.Need-returns-in-Refused
 returns_3 c =
-    let at_refused = c.before in
-    let at_open = at_refused.before.before.before.before in
-    sym (open_then _ _ _ c.before.before.before.before.before.if-reader-lt-READER_WORDS.false at_open.«open».ensures c.in-Refused.is)
+    sym (open_then _ _ _ c.before.before.before.before.before.if-reader-lt-READER_WORDS.false c.before.before.before.open-opened.ensures c.in-Refused.is)
 
 pub sv_open_spec : {M : Type 1} → statement M
 sv_open_spec =

@@ -48,13 +48,13 @@ returns_2 c =
     sym (references_bad _ _ _ _ c.before.before.if-record-count.false (sym c.before.load_heading-given.ensures ∙ c.in_default.is))
 
 slice_write_count_2 : tie.Need-bounds-count-0-in-Numbers
-slice_write_count_2 c = let h = (room (at_words c.before.before.before)).1 in simp length-set (omega arith)
+slice_write_count_2 c = let h = (room (at_words c.before)).1 in simp length-set (omega arith)
 
 returns_3 : tie.Need-returns-in-Numbers
-returns_3 c = rw set-set (sym (answer_picks c.before.before.before c.in-Numbers.is))
+returns_3 c = rw set-set (sym (answer_picks c.before c.in-Numbers.is))
 
 returns_4 : tie.Need-returns-in-Refused
-returns_4 c = sym (answer_picks c.before.before.before c.in-Refused.is)
+returns_4 c = sym (answer_picks c.before c.in-Refused.is)
 
 pub sv_references_spec : {M : Type 1} → statement M
 sv_references_spec =

@@ -37,7 +37,7 @@ returns : tie.Need-returns-then-reader-record
 returns c = sym (step_short _ _ _ _ c.if-reader-record.true)
 
 load_reader_requires : tie.Need-load_reader-given-requires
-load_reader_requires c κs = (room c.before).0
+load_reader_requires c κs = (room c).0
 
 returns_2 : tie.Need-returns-in_default
 returns_2 c =
@@ -59,24 +59,17 @@ store_reader_requires_3 c κs = let h = room (at_words c.before.before) in omega
 
 returns_3 : tie.Need-returns-in-Frame
 returns_3 c =
-    let at_put = c.before.before in
-    let at_stored = at_put.before.before.before.before in
-    let at_frame = at_stored.before.before.before in
-    let e = answer_picks at_frame.before.before c.before.before.before.before.before.before.before.before.in-Frame.is in
+    let e = answer_picks c.before.before.before.before.before.before.before.before.before c.before.before.before.before.before.before.before.before.in-Frame.is in
     cc (e, c.before.before.before.before.before.before.store_reader.ensures, c.before.before.store_record.ensures)
 
 returns_4 : tie.Need-returns-in-End
 returns_4 c =
-    let at_stored = c.before.before in
-    let at_end = at_stored.before.before.before in
-    let e = answer_picks at_end.before.before c.before.before.before.before.in-End.is in
+    let e = answer_picks c.before.before.before.before.before c.before.before.before.before.in-End.is in
     cc (e, c.before.before.store_reader-in-End.ensures)
 
 returns_5 : tie.Need-returns-in-Refused
 returns_5 c =
-    let at_stored = c.before.before in
-    let at_refused = at_stored.before.before.before in
-    let e = answer_picks at_refused.before.before c.before.before.before.before.in-Refused.is in
+    let e = answer_picks c.before.before.before.before.before c.before.before.before.before.in-Refused.is in
     cc (e, c.before.before.store_reader-in-Refused.ensures)
 
 pub sv_step_spec : {M : Type 1} → statement M

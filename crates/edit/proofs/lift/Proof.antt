@@ -10,7 +10,7 @@ use Rattle.edit.proofs.lift.Tie as tie
 
 -- what was sought
 sought : (c : tie.After-seek-sought) {x : Sought} → c.seek-sought.result ≡ x
-    → let a = c.before.before.before.before.args in x ≡ sought_of a.tag.now a.user.now
+    → let a = c.before.before.before.args in x ≡ sought_of a.tag.now a.user.now
 sought c e = sym e ∙ c.seek-sought.ensures
 
 returns : tie.Need-returns-in-Refused

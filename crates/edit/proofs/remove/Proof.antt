@@ -18,10 +18,9 @@ start c = c.before.before.before
 found : (c : tie.After-locate-located) {x : Located} → c.locate-located.result ≡ x → x ≡ located_of (start c).args.tag.now (start c).args.number
 found c e = sym e ∙ c.locate-located.ensures
 
-frames : (c : tie.In-Frames-2) → let a = (start c.before.before).args in
-    let g = c.located-in-Frames-1.given.0 in
-    Known a.tag-1.now a.number g.0 g.1.0 g.1.1.0 g.1.1.1.0
-frames c = let a = (start c.before.before).args in known a.tag-1.now a.number (found c.before.before c.in-Frames.is)
+frames : (c : tie.In-Frames) → let a = (start c.before).args in
+    Known a.tag-1.now a.number c.in-Frames.version c.in-Frames.aim c.in-Frames.last c.in-Frames.end
+frames c = let a = (start c.before).args in known a.tag-1.now a.number (found c.before c.in-Frames.is)
 
 returns : tie.Need-returns-in-Refused
 unfolding removed_of
@@ -32,16 +31,12 @@ returns c =
 returns_2 : tie.Need-returns-in-Before
 unfolding removed_of
 returns_2 c =
-    let at_located = c.before.before.before in
-    let a = (start at_located.before.before).args in
+    let a = (start c.before.before).args in
     no_number a.tag-1.now a.number (frames c.before) c.in-Before.is _
 
 returns_3 : tie.Need-returns-in-Frame
 returns_3 c =
-    let at_shift = c.before.before in
-    let at_aim = at_shift.before.before.before in
-    let at_located = at_aim.before.before.before in
-    let a = (start at_located.before.before).args in
+    let a = (start c.before.before.before.before.before.before).args in
     ap {B = Edit} (λ (l : List ℕ). (Edited.Done, l)) c.before.before.shift.ensures ∙ removed_found a.tag-1.now a.number (frames c.before.before.before.before.before) c.before.before.before.before.in-Frame.is
 
 pub remove_spec : {M : Type 1} → statement M

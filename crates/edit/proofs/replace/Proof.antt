@@ -21,10 +21,9 @@ fits s = let a = s.args in heading_fits a.name.now a.names.now a.rest.now a.devi
 found : (c : tie.After-locate-located) {x : Located} → c.locate-located.result ≡ x → x ≡ located_of (start c).args.tag.now (start c).args.number
 found c e = sym e ∙ c.locate-located.ensures
 
-frames : (c : tie.In-Frames-2) → let a = (start c.before.before).args in
-    let g = c.located-in-Frames-1.given.0 in
-    Known a.tag.now a.number g.0 g.1.0 g.1.1.0 g.1.1.1.0
-frames c = let a = (start c.before.before).args in known a.tag.now a.number (found c.before.before c.in-Frames.is)
+frames : (c : tie.In-Frames) → let a = (start c.before).args in
+    Known a.tag.now a.number c.in-Frames.version c.in-Frames.aim c.in-Frames.last c.in-Frames.end
+frames c = let a = (start c.before).args in known a.tag.now a.number (found c.before c.in-Frames.is)
 
 returns : tie.Need-returns-in-Refused
 unfolding replaced_of
@@ -35,17 +34,13 @@ returns c =
 returns_2 : tie.Need-returns-in-Before
 unfolding replaced_of
 returns_2 c =
-    let at_located = c.before.before.before in
-    let a = (start at_located.before.before).args in
-    (no_number a.tag.now a.number (frames c.before) c.in-Before.is _, fits (start at_located.before.before))
+    let a = (start c.before.before).args in
+    (no_number a.tag.now a.number (frames c.before) c.in-Before.is _, fits (start c.before.before))
 
 returns_3 : tie.Need-returns-in-Frame
 returns_3 c =
-    let at_put = c.before.before in
-    let at_aim = at_put.before.before.before in
-    let at_located = at_aim.before.before.before in
-    let a = (start at_located.before.before).args in
-    (c.before.before.put_between.ensures ∙ replaced_found a.tag.now a.number (frames c.before.before.before.before.before) c.before.before.before.before.in-Frame.is _, fits (start at_located.before.before))
+    let a = (start c.before.before.before.before.before.before).args in
+    (c.before.before.put_between.ensures ∙ replaced_found a.tag.now a.number (frames c.before.before.before.before.before) c.before.before.before.before.in-Frame.is _, fits (start c.before.before.before.before.before.before))
 
 pub replace_spec : {M : Type 1} → statement M
 replace_spec =

@@ -66,8 +66,8 @@ put_decimal_returns_2 : (t : ℕ) → put-decimal-lts.Need-returns (calls t) (pu
 put_decimal_returns_2 t c =
     in_words (andthen c.before.before.before.before.before.before.put_decimal-next.ensures c.before.before.put_byte-2.ensures) (more_digits _ c.before.before.before.before.before.before.before.before.if-n-lt10.false c.before.before.before.before.before.before.before.before.before.before.ranges.n.fits)
 
-pub +put-decimal-spec : {M : Type 1} → statement M
-+put-decimal-spec = close μ-put-decimal λ t. put-decimal-lts.spec (calls t)
+pub +put_decimal_spec : {M : Type 1} → statement M
++put_decimal_spec = close μ-put-decimal λ t. put-decimal-lts.spec (calls t)
     (put_decimal_at t)
     put-decimal.Post
     (put_decimal_cast_put_byte t)

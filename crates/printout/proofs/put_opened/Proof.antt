@@ -6,19 +6,13 @@ use Rattle.printout.proofs.put_opened.Tie as tie
 
 returns : tie.Need-returns-in-Ready
 returns c =
-    let at_put_frames = c.before.before.before.before in
-    let at_r = at_put_frames.before.before.before.before in
-    let at_open = at_r.before.before.before.before in
     let a = c.before.before.before.before.before.before.before.before.before.before.before.before.before.before.before.args in
-    ready a.tag.now a.work.now a.at a.out.now at_open.«open».ensures c.before.before.before.before.before.before.before.before.before.before.before.before.before.before.before.requires c.before.before.before.before.before.before.before.in-Ready.is c.before.before.before.before.put_frames.ensures
+    ready a.tag.now a.work.now a.at a.out.now c.before.before.before.before.before.before.before.before.before.before.open.ensures c.before.before.before.before.before.before.before.before.before.before.before.before.before.before.before.requires c.before.before.before.before.before.before.before.in-Ready.is c.before.before.before.before.put_frames.ensures
 
 returns_2 : tie.Need-returns-in-Refused
 returns_2 c =
-    let at_refused_line = c.before.before in
-    let at_k = at_refused_line.before.before.before in
-    let at_open = at_k.before.before.before.before in
     let a = c.before.before.before.before.before.before.before.before.before.before.before.before.args in
-    not_opened a.tag.now a.work.now a.at a.out.now at_open.«open».ensures c.before.before.before.before.in-Refused.is c.before.before.refused_line.ensures
+    not_opened a.tag.now a.work.now a.at a.out.now c.before.before.before.before.before.before.before.open.ensures c.before.before.before.before.in-Refused.is c.before.before.refused_line.ensures
 
 pub put_opened_spec : {M : Type 1} → statement M
 put_opened_spec =

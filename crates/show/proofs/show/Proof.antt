@@ -8,7 +8,7 @@ use borrow.Author.Rules.{rules}
 use Rattle.show.proofs.show.Statement.{statement}
 use Rattle.show.proofs.show.Tie as tie
 
-abbrev at_listed : tie.In-Upto-2 → tie.After-list
+abbrev at_listed : tie.In-Upto → tie.After-list
 at_listed c = let at_lent = c.before.before.before in at_lent.before.before.before
 
 slice_reshare_prefix_write_all : tie.Need-slice_bounds-write_all-end

@@ -47,12 +47,9 @@ edit_requires c κs =
 
 -- all is stored
 stored_all : (c : tie.After-slice_known-then-fits-1) →
-    let at_edit = c.before.before in
-    let at_fits = at_edit.before.before.before in
-    let at_end = at_fits.before.before in
-    let a = (start at_end).args in
-    (a.at ≤ at_edit.edit.result)
-    × ◌≡◌ {A = Out} (Put.Bytes (at_edit.edit.result - a.at), at_edit.edit.new.buf) (put_of a.k (whole (start at_end)) a.at a.buf.now)
+    let a = (start c.before.before.before.before.before.before.before).args in
+    (a.at ≤ c.before.before.edit.result)
+    × ◌≡◌ {A = Out} (Put.Bytes (c.before.before.edit.result - a.at), c.before.before.edit.new.buf) (put_of a.k (whole (start c.before.before.before.before.before.before.before)) a.at a.buf.now)
 stored_all c =
     let a = (start c.before.before.before.before.before.before.before).args in
     put_all a.k (whole (start c.before.before.before.before.before.before.before)) a.at a.buf.now (omega arith) _ (cut c.before.before.before.before.before.before.before) c.before.before.before.before.before.fits.result c.before.before.before.before.before.fits.ensures

@@ -55,9 +55,7 @@ fits_requires c κs = (omega arith, known_resync _ c.resync_by-how.ensures)
 
 edit_in_requires : tie.Need-edit_in-requires
 edit_in_requires c κs =
-    let at_fits = c.before.before in
-    let at_how = at_fits.before.before in
-    let at_start = start at_how.before in
+    let at_start = start c.before.before.before.before in
     let mid = c.before.before.before.before.before.before.least-mid in
     let room = put_fits 14 (whole at_start) mid.result at_start.args.area.now (omega arith) _ (cut c.before.before.before) c.before.before.fits.result c.before.before.fits.ensures c.before.if-fits.true in
     (omega arith, (room, known_resync _ c.before.before.before.resync_by-how.ensures))
@@ -68,13 +66,10 @@ stored_all : (c : tie.After-slice_known-then-fits-1) →
     let at_how = (let at_fits = at_edit.before.before.before in at_fits.before.before) in
     let at_start = start at_how.before in
     let mid = at_how.before.before.before.least-mid.result in
-    (mid ≤ at_edit.edit_in.result)
-    × ◌≡◌ {A = Out} (Put.Bytes (at_edit.edit_in.result - mid), at_edit.edit_in.new.0) (put_of 14 (whole at_start) mid at_start.args.area.now)
+    (mid ≤ c.before.before.edit_in.result)
+    × ◌≡◌ {A = Out} (Put.Bytes (c.before.before.edit_in.result - mid), c.before.before.edit_in.new.0) (put_of 14 (whole at_start) mid at_start.args.area.now)
 stored_all c =
-    let at_edit = c.before.before in
-    let at_fits = at_edit.before.before.before in
-    let at_how = at_fits.before.before in
-    let at_start = start at_how.before in
+    let at_start = start c.before.before.before.before.before.before.before in
     let mid = c.before.before.before.before.before.before.before.before.before.least-mid in
     put_all 14 (whole at_start) mid.result at_start.args.area.now (omega arith) _ (cut c.before.before.before.before.before.before) c.before.before.before.before.before.fits.result c.before.before.before.before.before.fits.ensures
     c.before.before.before.before.if-fits.true c.before.before.edit_in.result c.before.before.edit_in.new.0 c.before.before.edit_in.ensures
@@ -84,18 +79,14 @@ sub_t17 c = (stored_all c).0
 
 returns_2 : tie.Need-returns-then-fits
 returns_2 c =
-    let at_edit = c.before.before in
-    let at_fits = at_edit.before.before.before in
-    (stored_all c).1 ∙ in_split at_fits.before.before.before
+    (stored_all c).1 ∙ in_split c.before.before.before.before.before.before.before
 
 returns_3 : tie.Need-returns
 returns_3 c =
-    let at_fits = c.before in
-    let at_how = at_fits.before.before in
-    let at_start = start at_how.before in
+    let at_start = start c.before.before.before in
     let mid = c.before.before.before.before.before.least-mid in
     put_refused 14 (whole at_start) mid.result at_start.args.area.now (omega arith) _ (cut c.before.before) c.before.fits.result c.before.fits.ensures c.if-fits.false
-    ∙ in_split at_how.before
+    ∙ in_split c.before.before.before
 
 pub resync_in_spec : {M : Type 1} → statement M
 resync_in_spec =

@@ -9,16 +9,12 @@ use Rattle.back.proofs.reading.read_one.Tie as tie
 returns : tie.Need-returns-in-Ready
 unfolding read_of
 returns c =
-    let at_first = c.before.before in
-    let at_opened = at_first.before.before.before in
-    let at_open = at_opened.before.before.before.before in
-    c.before.before.first.ensures ∙ answered (on_opened c.before.before.before.before.before.before.before.before.before.before.before.args.tag.now) c.before.before.before.before.in-Ready.is at_open.«open».ensures
+    c.before.before.first.ensures ∙ answered (on_opened c.before.before.before.before.before.before.before.before.before.before.before.args.tag.now) c.before.before.before.before.in-Ready.is c.before.before.before.before.before.before.before.open-opened.ensures
 
 returns_2 : tie.Need-returns-in-Refused
 unfolding read_of
 returns_2 c =
-    let at_open = c.before.before.before.before in
-    answered (on_opened c.before.before.before.before.before.before.before.args.tag.now) c.in-Refused.is at_open.«open».ensures
+    answered (on_opened c.before.before.before.before.before.before.before.args.tag.now) c.in-Refused.is c.before.before.before.open-opened.ensures
 
 pub read_one_spec : {M : Type 1} → statement M
 read_one_spec =

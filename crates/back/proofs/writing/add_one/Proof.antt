@@ -41,8 +41,7 @@ returns_2 c =
 
 returns_3 : tie.Need-returns-in-Refused
 returns_3 c =
-    let at_Added = c.before in
-    (adds at_Added.before.before.before.before c.in-Refused.is, tt)
+    (adds c.before.before.before c.in-Refused.is, tt)
 
 pub add_one_spec : {M : Type 1} → statement M
 add_one_spec =

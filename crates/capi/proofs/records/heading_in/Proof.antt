@@ -11,10 +11,10 @@ says : (c : tie.After-load_heading-given) {x : GivenHeading} → c.load_heading-
 says c e = ap heading_else (sym e ∙ c.load_heading-given.ensures)
 
 returns : tie.Need-returns-in-Good
-returns c = says c.before.before.before c.in-Good.is
+returns c = says c.before c.in-Good.is
 
 returns_2 : tie.Need-returns-in-Bad
-returns_2 c = says c.before.before c.in-Bad.is
+returns_2 c = says c.before c.in-Bad.is
 
 pub heading_in_spec : {M : Type 1} → statement M
 heading_in_spec = tie.close (tie.spec (λ c κs. search rules) (λ c. search rules) (λ c. search rules) returns returns_2)

@@ -15,8 +15,7 @@ use Rattle.checks.proofs.ids.id_check.Tie as tie
 
 -- after the kinds' refusal
 kinds : (c : tie.After-kinds_refusal-k) (name names rest deviations : List ℕ) →
-    let at_fields = c.before.before.before in
-    let a = at_fields.before.before.before.args in
+    let a = c.before.before.before.before.before.before.args in
     let r = rec_of a.heading name names rest deviations in
     first (id_check a.version r ∷ raw_check a.version r ∷ []) ≡ first (c.kinds_refusal-k.result ∷ pick a.heading.short 25 0 ∷ pick a.heading.compressed 25 0 ∷ [])
 kinds c name names rest deviations =

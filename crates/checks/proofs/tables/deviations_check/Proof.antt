@@ -18,7 +18,7 @@ even c = eq-eqb _ _ c.if-deviations-ne0.false
 fitting : (c : tie.Else-not-all_fit) → let a = c.before.before.before.before.args in (eqb (length a.deviations.now % 2) 0 && fit a.v a.w a.deviations.now) ≡ true
 fitting c = rw (even c.before.before) (sym c.before.all_fit.ensures ∙ not-false _ c.if-not-all_fit.false-raw)
 
-short : (c : tie.Else-not-fits) → let at_fitting = c.before.before in let a = at_fitting.before.before.before.before.args in ltb a.bytes (2 ^ 24) ≡ true
+short : (c : tie.Else-not-fits) → let a = c.before.before.before.before.before.before.args in ltb a.bytes (2 ^ 24) ≡ true
 short c = sym c.before.fits-2.ensures ∙ not-false _ c.if-not-fits.false-raw
 
 returns : tie.Need-returns-then-deviations-ne0
@@ -40,17 +40,14 @@ returns_3 c =
 returns_4 : tie.Need-returns-then-not-fits-2
 unfolding first
 returns_4 c =
-    let at_fits2 = c.before.before.before in
     let over = sym c.before.before.before.fits.ensures ∙ not-true _ c.if-not-fits-2.true-raw in
-    rw (fitting at_fits2.before, short c.before.before, over)
+    rw (fitting c.before.before.before.before, short c.before.before, over)
 
 returns_5 : tie.Need-returns
 unfolding first
 returns_5 c =
-    let at_brief = c.before in
-    let at_short = at_brief.before.before in
     let brief = sym c.before.before.before.before.fits.ensures ∙ not-false _ c.before.if-not-fits-2.false-raw in
-    rw (fitting at_short.before.before, short c.before.before.before, brief) (c.odd_check.ensures ∙ sym (only _))
+    rw (fitting c.before.before.before.before.before, short c.before.before.before, brief) (c.odd_check.ensures ∙ sym (only _))
 
 pub deviations_check_spec : {M : Type 1} → statement M
 deviations_check_spec =

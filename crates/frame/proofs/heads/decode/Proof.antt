@@ -15,10 +15,8 @@ use Rattle.frame.proofs.heads.decode.Tie as tie
 
 -- the first checks are made
 checked : (c : tie.After-first_refusal-refusal)
-    → let at_long = c.before.before.before in
-    let at_part = at_long.before.before in
-    let a = at_part.before.before.args in
-    Tested a.version a.depth c.first_refusal-refusal.result at_part.part-b.result.now
+    → let a = c.before.before.before.before.before.before.before.args in
+    Tested a.version a.depth c.first_refusal-refusal.result c.before.before.before.before.before.part-b.result.now
 checked c =
     record {
       long = rw c.before.before.before.before.head_len.ensures.0 at c.before.before.before.if-b-head_len.false;

@@ -5,7 +5,7 @@ use Rattle.frame.proofs.ids.is_over.Statement.{statement}
 use Rattle.frame.proofs.ids.is_over.Tie as tie
 
 returns_2 : tie.Need-returns
-returns_2 c = let d = c.before.due-1.given in rw d.1 (over _ _ _)
+returns_2 c = rw c.in-Tails.is (over _ _ _)
 
 pub is_over_spec : {M : Type 1} → statement M
 is_over_spec = tie.close (tie.spec (λ c. search rules) (λ c. search rules) (λ c. search rules) returns_2)

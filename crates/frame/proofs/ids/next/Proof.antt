@@ -10,31 +10,23 @@ returns c s = rw c.in_default.is
 
 returns_2 : tie.Need-returns-then-count-eq0
 returns_2 c s =
-    let at_due = c.before.before.before in
     let b = c.before.before.before.args.b in
-    let d = at_due.due-1.given in
-    rw d.1 (c.lead.ensures s ∙ none_due _ _ b s _ c.before.if-count-eq0.true)
+    rw c.before.before.in-Tails.is (c.lead.ensures s ∙ none_due _ _ b s _ c.before.if-count-eq0.true)
 
 returns_3 : tie.Need-returns-then-b-low
 returns_3 c s =
-    let at_due = c.before.before.before in
     let b = c.before.before.before.args.b in
-    let d = at_due.due-1.given in
-    rw d.1 (tail_low _ _ b s _ c.before.if-count-eq0.false c.if-b-low.true)
+    rw c.before.before.in-Tails.is (tail_low _ _ b s _ c.before.if-count-eq0.false c.if-b-low.true)
 
 returns_4 : tie.Need-returns-then-high-b
 returns_4 c s =
-    let at_due = c.before.before.before.before in
     let b = c.before.before.before.before.args.b in
-    let d = at_due.due-1.given in
-    rw d.1 (tail_high _ _ b s _ c.before.before.if-count-eq0.false c.before.if-b-low.false c.if-high-b.true)
+    rw c.before.before.before.in-Tails.is (tail_high _ _ b s _ c.before.before.if-count-eq0.false c.before.if-b-low.false c.if-high-b.true)
 
 returns_5 : tie.Need-returns
 returns_5 c s =
-    let at_due = c.before.before.before.before in
     let b = c.before.before.before.before.args.b in
-    let d = at_due.due-1.given in
-    rw d.1 (tail _ _ b s _ c.before.before.if-count-eq0.false c.before.if-b-low.false c.if-high-b.false)
+    rw c.before.before.before.in-Tails.is (tail _ _ b s _ c.before.before.if-count-eq0.false c.before.if-b-low.false c.if-high-b.false)
 
 pub next_spec : {M : Type 1} → statement M
 next_spec =

@@ -26,8 +26,7 @@ returns c v =
 
 -- the body lies in the buffer
 lies : (c : tie.Else-b-len) →
-    let at_part = c.before.before in
-    at_part.before.before.args.from + length at_part.part-b.result.now ≤ length at_part.before.before.args.s.now
+    c.before.before.before.before.args.from + length c.before.before.part-b.result.now ≤ length c.before.before.before.before.args.s.now
 lies c =
     let a = c.before.before.before.before.args in
     let b = c.before.before.part-b in
@@ -35,10 +34,9 @@ lies c =
 
 -- and the counter in it
 counter_in_lem : (c : tie.Else-b-len) →
-    let at_part = c.before.before in
-    let a = at_part.before.before.args in
+    let a = c.before.before.before.before.args in
     let len = c.before.zero_at-len.result in
-    let b = at_part.part-b.result.now in
+    let b = c.before.before.part-b.result.now in
     number (slice (a.from + len + 2) (a.from + length b) a.s.now) ≡ number (drop (len + 2) b)
 counter_in_lem c =
     let a = c.before.before.before.before.args in

@@ -12,28 +12,20 @@ returns c =
 
 returns_4 : tie.Need-returns-then-flags-eq0
 returns_4 c =
-    let at_kind_of = c.before in
-    let at_if3 = at_kind_of.before.before.before in
-    let at_size_of = at_if3.before in
     let a = c.before.before.before.before.before.before.before.before.before.before.before.args in
     let id = c.before.before.before.before.before.before.before.before.before.read32-id in
     ten_says a.at a.left a.s.now (λ i. omega (arith, c.before.before.before.before.before.before.before.before.before.before.shared_slice_known-1.given i)) c.before.before.before.before.before.before.before.before.before.before.before.requires id.result id.ensures c.before.before.before.before.before.before.before.before.if-id-lt16777216.false c.before.before.before.before.before.before.before.if-id-ne0.false
-    at_size_of.type_size.result c.before.before.before.before.if-left-size.false c.before.kind_of.result c.before.kind_of.ensures c.by_kind.result c.by_kind.ensures a.v4
-    (at_size_of.type_size.ensures ∙ ap (size_by a.v4) c.before.before.before.before.before.before.read32.ensures) c.before.before.if-flags-eq0.true
+    c.before.before.before.before.before.size_of-size.result c.before.before.before.before.if-left-size.false c.before.kind_of.result c.before.kind_of.ensures c.by_kind.result c.by_kind.ensures a.v4
+    (c.before.before.before.before.before.size_of-size.ensures ∙ ap (size_by a.v4) c.before.before.before.before.before.before.read32.ensures) c.before.before.if-flags-eq0.true
 
 returns_5 : tie.Need-returns-then-v4
 returns_5 c =
-    let at_by_kind2 = c.before in
-    let at_kind_of2 = at_by_kind2.before in
-    let at_if5 = at_kind_of2.before.before in
-    let at_if3 = at_if5.before.before.before in
-    let at_size_of = at_if3.before in
     let a = c.before.before.before.before.before.before.before.before.before.before.before.before.before.before.args in
     let id = c.before.before.before.before.before.before.before.before.before.before.before.before.read32-id in
     rw c.with_flag.ensures
     (ten_says_flagged a.at a.left a.s.now (λ i. omega (arith, c.before.before.before.before.before.before.before.before.before.before.before.before.before.shared_slice_known-1.given i)) c.before.before.before.before.before.before.before.before.before.before.before.before.before.before.requires id.result id.ensures c.before.before.before.before.before.before.before.before.before.before.before.if-id-lt16777216.false c.before.before.before.before.before.before.before.before.before.before.if-id-ne0.false
-    at_size_of.type_size.result c.before.before.before.before.before.before.before.if-left-size.false c.before.before.kind_of-then-v4.result c.before.before.kind_of-then-v4.ensures c.before.by_kind-then-v4.result c.before.by_kind-then-v4.ensures a.v4 c.before.before.before.if-v4.true
-    (at_size_of.type_size.ensures ∙ ap (size_by a.v4) c.before.before.before.before.before.before.before.before.before.read32.ensures) c.before.before.before.before.if-flags-eq-UNSYNCHRONISED.true)
+    c.before.before.before.before.before.before.before.before.size_of-size.result c.before.before.before.before.before.before.before.if-left-size.false c.before.before.kind_of-then-v4.result c.before.before.kind_of-then-v4.ensures c.before.by_kind-then-v4.result c.before.by_kind-then-v4.ensures a.v4 c.before.before.before.if-v4.true
+    (c.before.before.before.before.before.before.before.before.size_of-size.ensures ∙ ap (size_by a.v4) c.before.before.before.before.before.before.before.before.before.read32.ensures) c.before.before.before.before.if-flags-eq-UNSYNCHRONISED.true)
 
 pub glance10_spec : {M : Type 1} → statement M
 glance10_spec =

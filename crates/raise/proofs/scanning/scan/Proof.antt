@@ -17,11 +17,11 @@ told : (c : tie.After-frames-framed) {x : Framed} → c.frames-framed.result ≡
 told c e = framed_as _ (sym e ∙ c.frames-framed.ensures)
 
 search_requires : tie.Need-search-requires
-search_requires c κs = framed_fits (told c.before.before.before c.in-Frames.is)
+search_requires c κs = framed_fits (told c.before c.in-Frames.is)
 
 returns : tie.Need-returns-in-Refused
 unfolding scanned_of
-returns c = framed_refused Scanned.Refused _ _ (told c.before.before.before c.in-Refused.is)
+returns c = framed_refused Scanned.Refused _ _ (told c.before c.in-Refused.is)
 
 returns_2 : tie.Need-returns-in-Frames
 unfolding scanned_of scanned_in

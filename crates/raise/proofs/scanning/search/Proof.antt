@@ -67,96 +67,83 @@ returns_2 c =
     (λ even. all_scanned a.user.now L.at rest L.found L.aim ends (L.invariant.1 even))
 
 -- a frame of another kind
-other : (c : tie.In-Frame-2 invariant_loop decreases_loop)
-    → let at_seen = c.before.before in
-    let a = (start at_seen).args in
-    MetOther a.version (at_loop at_seen).loop.at a.end a.tag.now c.in-Frame.next c.in-Frame.itself
+other : (c : tie.In-Frame invariant_loop decreases_loop)
+    → let a = (start c.before).args in
+    MetOther a.version (at_loop c.before).loop.at a.end a.tag.now c.in-Frame.next c.in-Frame.itself
 other c =
     let a = (start c.before).args in
     says_other (says a.version (at_loop c.before).loop.at a.end a.tag.now (seen c.before c.in-Frame.is))
 
 loop_less : tie.Need-loop-k-smaller-in-Frame invariant_loop decreases_loop
 loop_less c =
-    let at_next = c.before.before in
-    let le = (start at_next.before.before).pre in
+    let le = (start c.before.before).pre in
     let m = (other c.before).met in
     omega (arith, later le m, within le m)
 
 loop_again : tie.Need-loop-k-preserved-in-Frame invariant_loop decreases_loop
 loop_again c =
-    let at_next = c.before.before in
     let a = (start c.before.before).args in
     let le = (start c.before.before).requires in
     let L = (at_loop c.before.before).loop in
     let m = other c.before in
-    let g = at_next.next-1.given.0 in
-    let rest = blocks_in a.version (slice g.0 a.end a.tag.now) in (
+    let rest = blocks_in a.version (slice c.before.in-Frame.next a.end a.tag.now) in (
       look_again le m.met L.odd L.invariant.0,
-      λ even. let p = or_false L.odd g.1.0 even in
+      λ even. let p = or_false L.odd c.before.in-Frame.itself even in
           let before = L.invariant.1 p.0 in (
             other_turn a.version a.user.now L.found le m p.1 ∙ before.0,
             (
-              ap (λ (x : Aim). aimed_on x g.0 rest) c.aimed-aim.ensures ∙ aim_turn le m.met L.aim p.1 ∙ before.1.0,
+              ap (λ (x : Aim). aimed_on x c.before.in-Frame.next rest) c.aimed-aim.ensures ∙ aim_turn le m.met L.aim p.1 ∙ before.1.0,
               last_on le m.met p.1 ∙ before.1.1,
             ),
           ),
     )
 
 -- a popularimeter
-meter : (c : tie.In-Popularimeter-2 invariant_loop decreases_loop)
-    → let at_seen = c.before.before in
-    let a = (start at_seen).args in
-    let g = c.next-in-Popularimeter-1.given.0 in
-    MetMeter a.version (at_loop at_seen).loop.at a.end a.tag.now g.0 g.1.0 g.1.1.0 g.1.1.1.1.0
+meter : (c : tie.In-Popularimeter invariant_loop decreases_loop)
+    → let a = (start c.before).args in
+    MetMeter a.version (at_loop c.before).loop.at a.end a.tag.now c.in-Popularimeter.next c.in-Popularimeter.itself c.in-Popularimeter.name c.in-Popularimeter.counter
 meter c =
     let a = (start c.before).args in
     says_meter (says a.version (at_loop c.before).loop.at a.end a.tag.now (seen c.before c.in-Popularimeter.is))
 
-user_in_lem : (c : tie.After-struct_known-1 invariant_loop decreases_loop) → let at_next = c.before.before in
-    let name = at_next.in-Popularimeter.name in
-    name.start + name.len ≤ (start at_next.before.before).args.end
+user_in_lem : (c : tie.After-struct_known-1 invariant_loop decreases_loop) → let name = c.before.in-Popularimeter.name in
+    name.start + name.len ≤ (start c.before.before).args.end
 user_in_lem c =
-    let at_next = c.before.before in
-    let le = (start at_next.before.before).pre in
+    let le = (start c.before.before).pre in
     let m = meter c.before in
     omega (arith, user_fits le m, within le m.met)
 
 add_start : tie.Need-overflow_add-start invariant_loop decreases_loop
-add_start c = let s = start c.before.before.before.before in omega (arith, user_in_lem c, s.requires, s.fits)
+add_start c = let s = start c.before.before in omega (arith, user_in_lem c, s.requires, s.fits)
 
 add_start_2 : tie.Need-overflow_add-start-in-Popularimeter invariant_loop decreases_loop
-add_start_2 c = let s = start c.before.before.before.before in omega (arith, user_in_lem c, s.requires, s.fits)
+add_start_2 c = let s = start c.before.before in omega (arith, user_in_lem c, s.requires, s.fits)
 
 is_user_requires : tie.Need-is_user-mine-requires invariant_loop decreases_loop
-is_user_requires c κs = let s = start c.before.before.before.before in omega (arith, user_in_lem c, s.requires)
+is_user_requires c κs = let s = start c.before.before in omega (arith, user_in_lem c, s.requires)
 
 loop_less_2 : tie.Need-loop-k-smaller invariant_loop decreases_loop
 loop_less_2 c =
-    let at_also = c.before in
-    let at_next = at_also.before.before.before.before in
-    let le = (start at_next.before.before).pre in
+    let le = (start c.before.before.before.before.before).pre in
     let m = (meter c.before.before.before.before).met in
     omega (arith, later le m, within le m)
 
 loop_again_2 : tie.Need-loop-k-preserved invariant_loop decreases_loop
 loop_again_2 c =
-    let at_also = c.before in
-    let at_next = at_also.before.before.before.before in
     let a = (start c.before.before.before.before.before).args in
     let le = (start c.before.before.before.before.before).requires in
     let L = (at_loop c.before.before.before.before.before).loop in
     let m = meter c.before.before.before.before in
-    let g = at_next.next-in-Popularimeter-1.given.0 in
     let v = a.version in
-    let rest = blocks_in v (slice g.0 a.end a.tag.now) in (
+    let rest = blocks_in v (slice c.before.before.before.before.in-Popularimeter.next a.end a.tag.now) in (
       look_again le m.met L.odd L.invariant.0,
-      λ even. let p = or_false L.odd g.1.0 even in
+      λ even. let p = or_false L.odd c.before.before.before.before.in-Popularimeter.itself even in
           let before = L.invariant.1 p.0 in (
-            ap (λ (f : Found). found_on v a.user.now f g.0 rest) c.before.also-found.ensures
+            ap (λ (f : Found). found_on v a.user.now f c.before.before.before.before.in-Popularimeter.next rest) c.before.also-found.ensures
                 ∙ meter_turn v a.user.now L.found le m c.before.before.is_user-mine.result _ p.1 c.before.before.is_user-mine.ensures refl
                 ∙ before.0,
             (
-              ap (λ (x : Aim). aimed_on x g.0 rest) c.aimed-aim-in-Popularimeter.ensures ∙ aim_turn le m.met L.aim p.1 ∙ before.1.0,
+              ap (λ (x : Aim). aimed_on x c.before.before.before.before.in-Popularimeter.next rest) c.aimed-aim-in-Popularimeter.ensures ∙ aim_turn le m.met L.aim p.1 ∙ before.1.0,
               last_on le m.met p.1 ∙ before.1.1,
             ),
           ),

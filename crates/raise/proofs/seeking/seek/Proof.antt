@@ -12,10 +12,10 @@ told : (c : tie.After-scan-scanned) {x : Scanned} → c.scan-scanned.result ≡ 
 told c e = let a = c.before.before.before.args in sought_scanned a.tag.now a.user.now 0 (sym e ∙ c.scan-scanned.ensures)
 
 returns : tie.Need-returns-in-Refused
-returns c = told c.before.before.before c.in-Refused.is
+returns c = told c.before c.in-Refused.is
 
 returns_2 : tie.Need-returns-in-Frames
-returns_2 c = let at_scanned = c.before.before in c.one_of.ensures ∙ told at_scanned.before.before c.before.in-Frames.is
+returns_2 c = c.one_of.ensures ∙ told c.before.before c.before.in-Frames.is
 
 pub seek_spec : {M : Type 1} → statement M
 seek_spec =

@@ -47,7 +47,7 @@ begun c = record {
 ends : (c : tie.After-end_of) → c.end_of.result ≡ length (cut_of (tag_there c))
 ends c = cut_end (tag_there c) c.before.synchsafe.ensures c.end_of.ensures
 
-is_there : (c : tie.Else-not-extended) → let at_clear = c.before.before in at_clear.before.before.before.has-extended.result ≡ true
+is_there : (c : tie.Else-not-extended) → c.before.before.before.before.before.has-extended.result ≡ true
 is_there c = not-false _ c.if-not-extended.false-raw
 
 sized : (c : tie.After-synchsafe-2)
@@ -80,7 +80,7 @@ returns_5 : tie.Need-returns-then-not-extended
 returns_5 c = no_extended (begun c.before.before) c.before.if-compressed.false (not-true _ c.if-not-extended.true-raw)
 
 synchsafe_requires : tie.Need-synchsafe-requires
-synchsafe_requires c κs = let at_clear = c.before.before in is_long (at_tag at_clear.before.before)
+synchsafe_requires c κs = is_long (at_tag c.before.before.before.before)
 
 returns_6 : tie.Need-returns-then-end_of-lt16
 returns_6 c =

@@ -7,9 +7,9 @@ use Rattle.reader.proofs.headers.region_of.Tie as tie
 returns : tie.Need-returns
 returns c =
     let a = c.before.before.before.before.args in
-    let ends = c.before.before.end_of.ensures in (
-      region_start_lem a.tag.now a.h c.before.before.before.before.requires c.before.before.end_of.result ends c.least.result c.least.ensures,
-      region_end_lem a.tag.now a.h c.before.before.before.before.requires c.before.before.end_of.result ends,
+    let ends = c.before.before.end_of-end.ensures in (
+      region_start_lem a.tag.now a.h c.before.before.before.before.requires c.before.before.end_of-end.result ends c.least.result c.least.ensures,
+      region_end_lem a.tag.now a.h c.before.before.before.before.requires c.before.before.end_of-end.result ends,
     )
 
 pub region_of_spec : {M : Type 1} → statement M

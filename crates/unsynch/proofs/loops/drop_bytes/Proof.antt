@@ -22,9 +22,8 @@ decreases_loop buf₀ at s from to last o₀ i₀ buf o i = to - i
 
 -- the store lies in the buffer, and leaves what is to be left: f says that the byte stays
 turn : (c : tie.After-shared_slice_known-in-loop-i-1 invariant_loop decreases_loop)
-    → let at_loop = c.before.before in
-    let a = at_loop.before.before.before.args in
-    let L = at_loop.loop-i in
+    → let a = c.before.before.before.before.before.args in
+    let L = c.before.before.loop-i in
     (f : Bool) (q : ℕ) → f ≡ not (eqb (get_or a.s.now L.i 0) 255 && eqb (get_or a.s.now (L.i + 1) 0) 0) → q ≡ L.o + cond f 1 0
     → (L.o < length L.buf)
     × Storing a.buf.now a.at (edited_after resync_by a.s.now a.from a.to) (set L.buf L.o (get_or a.s.now (L.i + 1) 0)) q (edited_after resync_by a.s.now (L.i + 1) a.to)

@@ -19,9 +19,8 @@ decreases_loop buf₀ at s from to o₀ i₀ buf o i = to - i
 
 -- where no FF was found, the eight bytes are left alone
 alone : (c : tie.After-any_ff invariant_loop decreases_loop) → c.any_ff.result ≡ false
-    → let at_loop = c.before.before in
-    let L = at_loop.loop-i in
-    hits_after resync_by at_loop.before.before.before.args.s.now L.i (L.i + 8 + 1) ≡ 0
+    → let L = c.before.before.loop-i in
+    hits_after resync_by c.before.before.before.before.before.args.s.now L.i (L.i + 8 + 1) ≡ 0
 alone c e =
     let L = c.before.before.loop-i in
     no_ff resync_by _ 8 L.i (L.i + 8) (omega arith) (omega arith) (sym c.any_ff.ensures ∙ e)
@@ -51,12 +50,10 @@ loop_again c =
 
 loop_again_2 : tie.Need-loop-i-preserved invariant_loop decreases_loop
 loop_again_2 c =
-    let at_store = c.before.before in
     let stores = c.before.before.copy_behind-o in
-    let at_test = at_store.before.before in
     let a = c.before.before.before.before.before.before.before.before.before.before.args in
     let L = c.before.before.before.before.before.before.before.loop-i in
-    let t = (block resync_by a.s.now L.i 8 a.to (omega arith) (omega arith) (alone at_test.before c.before.before.before.before.if-any_ff.false) L.invariant.2).1 stores.result stores.new.buf stores.ensures in
+    let t = (block resync_by a.s.now L.i 8 a.to (omega arith) (omega arith) (alone c.before.before.before.before.before c.before.before.before.before.if-any_ff.false) L.invariant.2).1 stores.result stores.new.buf stores.ensures in
     (omega arith, omega arith, t)
 
 drop_bytes_requires_2 : tie.Need-drop_bytes-requires invariant_loop decreases_loop

@@ -34,13 +34,11 @@ edit_after_requires c κs =
 
 same_length : tie.Need-shape_of-buf-then-how
 same_length c =
-    let at_edit = c.before.before in
-    c.before.before.edit_after.auto.buf ∙ (put (first at_edit.before.before.before)).long
+    c.before.before.edit_after.auto.buf ∙ (put (first c.before.before.before.before.before)).long
 
 returns : tie.Need-returns-then-how
 returns c =
-    let at_edit = c.before.before in
-    c.before.before.edit_after.ensures ∙ rest (put (first at_edit.before.before.before))
+    c.before.before.edit_after.ensures ∙ rest (put (first c.before.before.before.before.before))
 
 edit_by_byte_requires : tie.Need-edit_by_byte-requires
 edit_by_byte_requires c κs =
@@ -48,13 +46,11 @@ edit_by_byte_requires c κs =
 
 same_length_2 : tie.Need-shape_of-buf
 same_length_2 c =
-    let at_edit = c.before.before in
-    c.before.before.edit_by_byte.auto.buf ∙ (put (first at_edit.before.before.before)).long
+    c.before.before.edit_by_byte.auto.buf ∙ (put (first c.before.before.before.before.before)).long
 
 returns_2 : tie.Need-returns
 returns_2 c =
-    let at_edit = c.before.before in
-    c.before.before.edit_by_byte.ensures ∙ rest (put (first at_edit.before.before.before))
+    c.before.before.edit_by_byte.ensures ∙ rest (put (first c.before.before.before.before.before))
 
 pub edit_spec : {M : Type 1} → statement M
 edit_spec =

@@ -28,12 +28,9 @@ same c =
 
 -- the stores lie in the buffer, and leave what is to be left
 turn : (c : tie.After-bit invariant_loop decreases_loop)
-    → let at_byte = c.before.before.before in
-    let at_loop = at_byte.before.before in
-    let at_either = at_loop.before in
-    let a = at_either.before.before.before.args in
-    let L = at_loop.loop-i in
-    let how = guard_by at_either.either-top.result in
+    → let a = c.before.before.before.before.before.before.before.before.before.args in
+    let L = c.before.before.before.before.before.loop-i in
+    let how = guard_by c.before.before.before.before.before.before.either-top.result in
     let q = L.o + c.bit.result in
     (L.o ≤ q)
     × (q < length L.buf)

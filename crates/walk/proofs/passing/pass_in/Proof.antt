@@ -17,10 +17,8 @@ use Rattle.walk.proofs.passing.pass_in.Tie as tie
 
 -- the frame that was found
 found : (d : tie.In-Found)
-    → let at_decode = d.before.before.before in
-    let a = at_decode.before.before.before.args in
-    let h = d.before.id-1.given.0 in
-    Here a.version a.at a.end a.s.now h.0 h.1.0 h.1.1.0 h.1.1.1.0 h.1.1.1.1.0 h.1.1.1.1.1.0
+    → let a = d.before.before.before.before.args in
+    Here a.version a.at a.end a.s.now d.in-Found.id d.in-Found.compressed d.in-Found.is_flagged d.in-Found.short d.in-Found.start d.in-Found.len
 found d =
     let a = d.before.before.before.before.args in
     here a.version a.at a.end a.s.now _ _ _ _ _ _ (sym d.in-Found.is ∙ d.before.decode.ensures)
@@ -35,31 +33,21 @@ add_next c =
 
 returns : tie.Need-returns-then-resynced
 returns c =
-    let at_if2 = c.before.before.before.before in
-    let at_if1 = at_if2.before in
-    let q = at_if1.before in
-    let d = q.before.before.before in
     let a = c.before.before.before.before.before.before.before.before.before.before.before.before.before.args in
-    let h = d.before.id-1.given.0 in
-    let b = slice (a.at + h.1.1.1.1.0) (a.at + h.1.1.1.1.0 + h.1.1.1.1.1.0) a.s.now in
+    let b = slice (a.at + c.before.before.before.before.before.before.before.before.before.in-Found.start) (a.at + c.before.before.before.before.before.before.before.before.before.in-Found.start + c.before.before.before.before.before.before.before.before.before.in-Found.len) a.s.now in
     λ begin. pass_front a.version a.in_work begin a.at a.end a.s.now a.room.now (found c.before.before.before.before.before.before.before.before.before) _ _ c.before.before.before.before.before.before.before.before.shown_kind-kind.ensures c.before.before.before.before.before.before.before.is_resynced-resynced.ensures (sym c.before.before.before.before.before.before.is_popularimeter.ensures ∙ c.before.before.before.before.before.if-is_popularimeter.true) c.before.before.before.before.if-resynced.true
-    (c.before.before.flagged.ensures a.version h.0 (a.at - begin) 0 (length (resynchronised b)))
+    (c.before.before.flagged.ensures a.version c.before.before.before.before.before.before.before.before.before.in-Found.id (a.at - begin) 0 (length (resynchronised b)))
 
 returns_2 : tie.Need-returns-then-is_popularimeter
 returns_2 c =
-    let at_if1 = c.before.before.before in
-    let q = at_if1.before in
-    let d = q.before.before.before in
     let a = c.before.before.before.before.before.before.before.before.before.before.before.args in
-    let h = d.before.id-1.given.0 in
-    let b = slice (a.at + h.1.1.1.1.0) (a.at + h.1.1.1.1.0 + h.1.1.1.1.1.0) a.s.now in
+    let b = slice (a.at + c.before.before.before.before.before.before.before.in-Found.start) (a.at + c.before.before.before.before.before.before.before.in-Found.start + c.before.before.before.before.before.before.before.in-Found.len) a.s.now in
     λ begin. pass_meter a.version a.in_work begin a.at a.end a.s.now a.room.now (found c.before.before.before.before.before.before.before) _ _ c.before.before.before.before.before.before.shown_kind-kind.ensures c.before.before.before.before.before.is_resynced-resynced.ensures (sym c.before.before.before.before.is_popularimeter.ensures ∙ c.before.before.before.if-is_popularimeter.true) c.before.before.if-resynced.false
-    (c.before.parse.ensures a.version) (c.read_as.ensures a.version h.0 (a.at - begin) (a.at + h.1.1.1.1.0) (length b))
+    (c.before.parse.ensures a.version) (c.read_as.ensures a.version c.before.before.before.before.before.before.before.in-Found.id (a.at - begin) (a.at + c.before.before.before.before.before.before.before.in-Found.start) (length b))
 
 body_requires : tie.Need-body-r-requires
 body_requires c κs =
-    let at_shown_kind = c.before.before.before.before in
-    (omega arith, (found at_shown_kind.before).within, omega arith)
+    (omega arith, (found c.before.before.before.before.before).within, omega arith)
 
 returns_3 : tie.Need-returns-then-r-ne0
 returns_3 c =
@@ -78,14 +66,8 @@ returns_5 c =
 
 returns_6 : tie.Need-returns-else-r-ne0
 returns_6 c =
-    let at_if3 = c.before.before in
-    let at_body = at_if3.before.before.before in
-    let at_if1 = at_body.before.before in
-    let q = at_if1.before in
-    let d = q.before.before.before in
     let a = c.before.before.before.before.before.before.before.before.before.before.before.before.before.before.before.args in
-    let h = d.before.id-1.given.0 in
-    let packed = ap (λ (x : Bool). h.1.0 && x) (c.is_popularimeter-in-Found.ensures ∙ ap (λ (k : Kind). eqb (kind_number k) 1) c.before.kind_of.ensures) in
+    let packed = ap (λ (x : Bool). c.before.before.before.before.before.before.before.before.before.before.before.in-Found.compressed && x) (c.is_popularimeter-in-Found.ensures ∙ ap (λ (k : Kind). eqb (kind_number k) 1) c.before.kind_of.ensures) in
     λ begin. pass_over a.version a.in_work begin a.at a.end a.s.now a.room.now (found c.before.before.before.before.before.before.before.before.before.before.before) _ _ c.before.before.before.before.before.before.before.before.before.before.shown_kind-kind.ensures c.before.before.before.before.before.before.before.before.before.is_resynced-resynced.ensures c.before.before.before.before.before.body-r.ensures c.before.before.if-r-ne0.false (sym c.before.before.before.before.before.before.before.before.is_popularimeter.ensures ∙ c.before.before.before.before.before.before.before.if-is_popularimeter.false) _ packed
 
 pub pass_in_spec : {M : Type 1} → statement M

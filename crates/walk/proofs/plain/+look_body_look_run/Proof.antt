@@ -70,8 +70,8 @@ body_add_look_run : (t : ℕ) → look-body-lts.Need-overflow_add-depth (body_ca
 body_add_look_run t c = omega arith
 
 -- where the run begins
-run_begins : (t : ℕ) (c : look-body-lts.In-Run-2 (body_calls t) (look_body_at t) look-body.Post)
-    → let a = c.before.before.before.before.args in
+run_begins : (t : ℕ) (c : look-body-lts.In-Run (body_calls t) (look_body_at t) look-body.Post)
+    → let a = c.before.before.before.args in
     Inside.Run c.in-Run.at ≡ inside_at a.kind a.from (slice a.from a.to a.s.now)
 run_begins t c = sym c.in-Run.is ∙ c.before.look.ensures
 
@@ -159,11 +159,9 @@ run_returns_2 t c =
     c.ended.ensures ∙ sym (both_end (plain_if (not L.odd))) ∙ ap (both (plain_if (not L.odd))) (sym ends) ∙ L.invariant.3
 
 -- where the look goes on
-run_goes : (t : ℕ) (c : look-run-lts.In-Body-2 (run_calls t) (look_run_at t) look-run.Post invariant_loop decreases_loop)
-    → let at_loop = c.before.before.before in
-    let a = at_loop.before.before.before.args in
-    let g = c.kind-1.given.0 in
-    Goes a.version a.depth at_loop.loop-k.at at_loop.before.least-end.result a.s.now g.0 g.1.0 g.1.1.0 g.1.1.1.0
+run_goes : (t : ℕ) (c : look-run-lts.In-Body (run_calls t) (look_run_at t) look-run.Post invariant_loop decreases_loop)
+    → let a = c.before.before.before.before.before.args in
+    Goes a.version a.depth c.before.before.loop-k.at c.before.before.before.least-end.result a.s.now c.in-Body.kind c.in-Body.itself c.in-Body.start c.in-Body.stop
 run_goes t c =
     let a = c.before.before.before.before.before.args in
     goes a.version a.depth c.before.before.loop-k.at c.before.before.before.least-end.result a.s.now c.before.before.loop-k.invariant.1 _ _ _ _
@@ -174,23 +172,17 @@ run_look_body_requires t c κs =
     let at_kind = c.before in
     let a = c.before.before.before.before.before.args in
     let L = c.before.before.loop-k in
-    let g = at_kind.kind-1.given.0 in
     let on = run_goes t at_kind in
     let m : 2 * (a.to - a.from) ≡ t = c.before.before.before.before.before.requires.0 in
-    let less : 2 * (g.1.1.1.0 - g.1.1.0) + 1 < t = omega (arith, on.begins, on.ordered, on.within, L.invariant) in
+    let less : 2 * (c.in-Body.stop - c.in-Body.start) + 1 < t = omega (arith, on.begins, on.ordered, on.within, L.invariant) in
     (less, (on.ordered, omega (arith, on.within, L.invariant), omega (arith, c.before.before.before.before.before.requires.1), on.shallow))
 
 -- the body's look and the turn after it, at a turn
 run_turned : (t : ℕ) (c : look-run-lts.After-turned (run_calls t) (look_run_at t) look-run.Post invariant_loop decreases_loop)
-    → let at_kind = c.before.before.before in
-    let at_loop = at_kind.before.before.before in
-    let a = at_loop.before.before.before.args in
-    let g = at_kind.kind-1.given.0 in
-    c.turned.result ≡ turn_of at_loop.loop-k.odd (inside_look (look_at a.version (a.depth + 1)) g.0 (slice g.1.1.0 g.1.1.1.0 a.s.now)) g.1.0
+    → let a = c.before.before.before.before.before.before.before.args in
+    c.turned.result ≡ turn_of c.before.before.before.before.loop-k.odd (inside_look (look_at a.version (a.depth + 1)) c.before.before.in-Body.kind (slice c.before.before.in-Body.start c.before.before.in-Body.stop a.s.now)) c.before.before.in-Body.itself
 run_turned t c =
-    let at_kind = c.before.before.before in
-    let g = at_kind.kind-1.given.0 in
-    c.turned.ensures ∙ ap (λ (x : Look). turn_of c.before.before.before.before.loop-k.odd x g.1.0) c.before.look_body-body.ensures
+    c.turned.ensures ∙ ap (λ (x : Look). turn_of c.before.before.before.before.loop-k.odd x c.before.before.in-Body.itself) c.before.look_body-body.ensures
 
 run_returns_3 : (t : ℕ) → look-run-lts.Need-returns-in-Stop-turned (run_calls t) (look_run_at t) look-run.Post invariant_loop decreases_loop
 run_returns_3 t c =
@@ -198,11 +190,10 @@ run_returns_3 t c =
     let at_kind = at_turned.before.before.before in
     let a = c.before.before.before.before.before.before.before.before.args in
     let L = c.before.before.before.before.before.loop-k in
-    let g = at_kind.kind-1.given.0 in
     let on = run_goes t at_kind in
-    let inside = inside_look (look_at a.version (a.depth + 1)) g.0 (slice g.1.1.0 g.1.1.1.0 a.s.now) in
-    let rest = look_at a.version a.depth (slice g.1.1.1.0 c.before.before.before.before.before.before.least-end.result a.s.now) in
-    sym (turn_stop L.odd inside g.1.0 _ rest (sym c.in-Stop-turned.is ∙ run_turned t at_turned))
+    let inside = inside_look (look_at a.version (a.depth + 1)) c.before.before.before.in-Body.kind (slice c.before.before.before.in-Body.start c.before.before.before.in-Body.stop a.s.now) in
+    let rest = look_at a.version a.depth (slice c.before.before.before.in-Body.stop c.before.before.before.before.before.before.least-end.result a.s.now) in
+    sym (turn_stop L.odd inside c.before.before.before.in-Body.itself _ rest (sym c.in-Stop-turned.is ∙ run_turned t at_turned))
     ∙ ap (both (plain_if (not L.odd))) (sym on.same) ∙ L.invariant.3
 
 run_loop_less : (t : ℕ) → look-run-lts.Need-loop-k-smaller (run_calls t) (look_run_at t) look-run.Post invariant_loop decreases_loop
@@ -217,19 +208,18 @@ run_loop_again t c =
     let at_kind = at_turned.before.before.before in
     let a = c.before.before.before.before.before.before.before.before.args in
     let L = c.before.before.before.before.before.loop-k in
-    let g = at_kind.kind-1.given.0 in
     let on = run_goes t at_kind in
-    let inside = inside_look (look_at a.version (a.depth + 1)) g.0 (slice g.1.1.0 g.1.1.1.0 a.s.now) in
-    let rest = look_at a.version a.depth (slice g.1.1.1.0 c.before.before.before.before.before.before.least-end.result a.s.now) in (
+    let inside = inside_look (look_at a.version (a.depth + 1)) c.before.before.before.in-Body.kind (slice c.before.before.before.in-Body.start c.before.before.before.in-Body.stop a.s.now) in
+    let rest = look_at a.version a.depth (slice c.before.before.before.in-Body.stop c.before.before.before.before.before.before.least-end.result a.s.now) in (
       omega (arith, on.begins, on.ordered, L.invariant.0),
       L.invariant.1,
       L.invariant.2,
-      sym (turn_on L.odd inside g.1.0 _ rest (sym c.in-On.is ∙ run_turned t at_turned))
+      sym (turn_on L.odd inside c.before.before.before.in-Body.itself _ rest (sym c.in-On.is ∙ run_turned t at_turned))
           ∙ ap (both (plain_if (not L.odd))) (sym on.same) ∙ L.invariant.3,
     )
 
-pub +look-body-look-run-spec : {M : Type 1} → statement M
-+look-body-look-run-spec = close μ-look-body μ-look-run (λ t. look-body-lts.spec (body_calls t)
+pub +look_body_look_run_spec : {M : Type 1} → statement M
++look_body_look_run_spec = close μ-look-body μ-look-run (λ t. look-body-lts.spec (body_calls t)
     (look_body_at t)
     look-body.Post
     (body_look_requires t)

@@ -13,16 +13,14 @@ use Rattle.walk.proofs.plain.look_ahead.Statement.{statement}
 use Rattle.walk.proofs.plain.look_ahead.Tie as tie
 
 -- the header that was found, and where the frame lies
-found : (c : tie.In-Found-2)
-    → let a = c.before.before.before.before.args in
-    let h = c.id-1.given.0 in
-    Head.Found h.0 h.1.0 h.1.1.0 h.1.1.1.0 h.1.1.1.1.0 h.1.1.1.1.1.0 ≡ head_of a.version a.depth (slice a.at a.end a.s.now)
+found : (c : tie.In-Found)
+    → let a = c.before.before.before.args in
+    Head.Found c.in-Found.id c.in-Found.compressed c.in-Found.flagged c.in-Found.short c.in-Found.start c.in-Found.len ≡ head_of a.version a.depth (slice a.at a.end a.s.now)
 found c = sym c.in-Found.is ∙ c.before.decode.ensures
 
-within : (c : tie.In-Found-2)
-    → let a = c.before.before.before.before.args in
-    let h = c.id-1.given.0 in
-    a.at + h.1.1.1.1.0 + h.1.1.1.1.1.0 ≤ a.end
+within : (c : tie.In-Found)
+    → let a = c.before.before.before.args in
+    a.at + c.in-Found.start + c.in-Found.len ≤ a.end
 within c =
     let a = c.before.before.before.args in
     (placed a.version a.depth a.at a.end a.s.now c.before.before.before.requires _ _ _ _ _ _ (sym (found c))).within
@@ -53,13 +51,10 @@ returns_3 c =
 
 returns_4 : tie.Need-returns-else-is_resynced
 returns_4 c =
-    let at_else = c.before.before.before in
-    let at_found = at_else.before.before.before in
     let a = c.before.before.before.before.before.before.before.before.args in
-    let h = at_found.id-1.given.0 in
     ahead_body a.version a.depth a.at (slice a.at a.end a.s.now) _ _ _ _ _ _ (found c.before.before.before.before.before)
     (sym c.before.before.before.before.is_resynced.ensures ∙ c.before.before.before.if-is_resynced.false) _ _ c.before.before.shown_kind.ensures
-    (c.either-in-Found.ensures ∙ ap (λ (t : Bool). h.1.0 || t) c.before.either.ensures)
+    (c.either-in-Found.ensures ∙ ap (λ (t : Bool). c.before.before.before.before.before.in-Found.compressed || t) c.before.either.ensures)
 
 pub look_ahead_spec : {M : Type 1} → statement M
 look_ahead_spec =

@@ -31,7 +31,7 @@ module _ (c : tie.After-look_ahead) where
   here e = sym e ∙ c.look_ahead.ensures
 
 -- a frame was found
-module _ (c : tie.In-Body-2) where
+module _ (c : tie.In-Body) where
   abbrev ahead : tie.After-look_ahead
   ahead = c.before.before
 

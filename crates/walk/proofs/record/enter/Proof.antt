@@ -11,9 +11,8 @@ use Rattle.walk.proofs.record.enter.Tie as tie
 shown_body_requires : tie.Need-shown_body-requires
 shown_body_requires c κs =
     let a = c.before.before.before.before.before.before.before.before.args in
-    let q = c.before.before.start-1.given.0 in
     let e = ap {B = Lies × List ℕ} (λ (x : Lies). (x, c.before.before.before.before.ready.new.0)) (sym c.before.in-At.is) ∙ c.before.before.before.before.ready.ensures in
-    ready_within a.version a.kind a.from a.to a.tag.now a.work.now a.in_work a.resynced q.0 q.1.0 c.before.before.before.before.ready.new.0 e c.before.before.before.before.before.before.before.before.requires.0 c.before.before.before.before.before.before.before.before.requires.1
+    ready_within a.version a.kind a.from a.to a.tag.now a.work.now a.in_work a.resynced c.before.in-At.start c.before.in-At.stop c.before.before.before.before.ready.new.0 e c.before.before.before.before.before.before.before.before.requires.0 c.before.before.before.before.before.before.before.before.requires.1
 
 returns : tie.Need-returns-in-Refused
 returns c =
@@ -23,13 +22,10 @@ returns c =
 
 returns_2 : tie.Need-returns-in-At
 returns_2 c =
-    let at_shown_body = c.before.before in
-    let at_start = at_shown_body.before.before.before in
     let a = c.before.before.before.before.before.before.before.before.before.before.before.args in
-    let q = at_start.start-1.given.0 in
     let e = ap {B = Lies × List ℕ} (λ (x : Lies). (x, c.before.before.before.before.before.before.before.ready.new.0)) (sym c.before.before.before.before.in-At.is) ∙ c.before.before.before.before.before.before.before.ready.ensures in
     c.before.before.shown_body.ensures
-    ∙ ready_shown a.version a.kind a.from a.to a.tag.now a.work.now a.in_work a.resynced q.0 q.1.0 c.before.before.before.before.before.before.before.ready.new.0 e
+    ∙ ready_shown a.version a.kind a.from a.to a.tag.now a.work.now a.in_work a.resynced c.before.before.before.before.in-At.start c.before.before.before.before.in-At.stop c.before.before.before.before.before.before.before.ready.new.0 e
 
 pub enter_spec : {M : Type 1} → statement M
 enter_spec =

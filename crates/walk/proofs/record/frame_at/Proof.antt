@@ -12,11 +12,9 @@ use Rattle.walk.proofs.record.frame_at.Statement.{statement}
 use Rattle.walk.proofs.record.frame_at.Tie as tie
 
 -- the frame that was found
-found : (c : tie.In-Found-2)
-    → let at_source = c.before.before.before in
-    let a = at_source.before.before.before.before.args in
-    let h = c.id-1.given.0 in
-    Here a.version a.at a.end at_source.source-s.result.now h.0 h.1.0 h.1.1.0 h.1.1.1.0 h.1.1.1.1.0 h.1.1.1.1.1.0
+found : (c : tie.In-Found)
+    → let a = c.before.before.before.before.before.args in
+    Here a.version a.at a.end c.before.before.source-s.result.now c.in-Found.id c.in-Found.compressed c.in-Found.flagged c.in-Found.short c.in-Found.start c.in-Found.len
 found c =
     let a = c.before.before.before.before.before.args in
     here a.version a.at a.end c.before.before.source-s.result.now _ _ _ _ _ _ (sym c.in-Found.is ∙ c.before.decode.ensures)
@@ -48,21 +46,18 @@ returns_2 c =
 returns_3 : tie.Need-returns-in-Refused-enter
 returns_3 c =
     let a = c.before.before.before.before.before.before.before.before.before.before.before.before.args in
-    let refused = c.before.k-in-Refused-enter-1.given in
     frame_refused a.version a.in_work a.begin a.at a.end a.tag.now a.work.now c.before.before.before.before.before.before.before.before.before.source-s.result.now c.before.before.before.before.before.before.before.before.before.source-s.ensures
     (found c.before.before.before.before.before.before.before) c.before.before.before.before.before.before.shown_kind-kind.result c.before.before.before.before.before.is_resynced-resynced.result c.before.before.before.before.before.before.shown_kind-kind.ensures c.before.before.before.before.before.is_resynced-resynced.ensures
-    c.before.before.before.enter.new.0 refused.0.0
-    (ap {B = Entered × List ℕ} (λ (x : Entered). (x, c.before.before.before.enter.new.0)) (sym refused.1) ∙ c.before.before.before.enter.ensures)
+    c.before.before.before.enter.new.0 c.in-Refused-enter.k
+    (ap {B = Entered × List ℕ} (λ (x : Entered). (x, c.before.before.before.enter.new.0)) (sym c.in-Refused-enter.is) ∙ c.before.before.before.enter.ensures)
 
 returns_4 : tie.Need-returns-in-Body
 returns_4 c =
-    let at_body = c.before.before.before.before in
     let a = c.before.before.before.before.before.before.before.before.before.before.before.before.before.before.before.args in
-    let body = at_body.body-1.given in
     frame_shown a.version a.in_work a.begin a.at a.end a.tag.now a.work.now c.before.before.before.before.before.before.before.before.before.before.before.before.source-s.result.now c.before.before.before.before.before.before.before.before.before.before.before.before.source-s.ensures
     (found c.before.before.before.before.before.before.before.before.before.before) c.before.before.before.before.before.before.before.before.before.shown_kind-kind.result c.before.before.before.before.before.before.before.before.is_resynced-resynced.result c.before.before.before.before.before.before.before.before.before.shown_kind-kind.ensures c.before.before.before.before.before.before.before.before.is_resynced-resynced.ensures
-    c.before.before.before.before.before.before.enter.new.0 body.0.0 body.0.1.0
-    (ap {B = Entered × List ℕ} (λ (x : Entered). (x, c.before.before.before.before.before.before.enter.new.0)) (sym body.1) ∙ c.before.before.before.before.before.before.enter.ensures)
+    c.before.before.before.before.before.before.enter.new.0 c.before.before.before.in-Body.body c.before.before.before.in-Body.parts
+    (ap {B = Entered × List ℕ} (λ (x : Entered). (x, c.before.before.before.before.before.before.enter.new.0)) (sym c.before.before.before.in-Body.is) ∙ c.before.before.before.before.before.before.enter.ensures)
     c.record_of-record.result c.before.beyond.result c.before.before.either-in_room.result c.before.beyond.ensures c.before.before.either-in_room.ensures c.record_of-record.ensures
 
 pub frame_at_spec : {M : Type 1} → statement M

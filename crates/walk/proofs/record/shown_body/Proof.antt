@@ -13,11 +13,8 @@ use Rattle.walk.proofs.record.shown_body.Tie as tie
 
 -- of a body that was read: its source, how long it is, and where it ends
 within : (d : tie.After-run_inside-r)
-    → let at_parts = d.before.before.before.before in
-    let at_source = at_parts.before.before.before in
-    let at_either = at_source.before.before in
-    let a = at_either.before.before.before.args in
-    let S = at_source.source.result.now in
+    → let a = d.before.before.before.before.before.before.before.before.before.args in
+    let S = d.before.before.before.before.before.source.result.now in
     (S ≡ source_of (a.in_work || a.resynced) a.work.now a.tag.now)
     × (length (slice a.from a.to S) ≡ a.to - a.from)
     × (a.from + length (slice a.from a.to S) ≡ a.to)

@@ -273,11 +273,9 @@ walk_in_enum_known_kind : (t : ℕ) → walk-in-lts.Need-enum_known-kind (walk_i
 walk_in_enum_known_kind t c = search rules
 
 -- where a step leads
-walk_in_onward : (t : ℕ) (c : walk-in-lts.In-Body-2 (walk_in_calls t) (walk_in_at t) walk-in.Post walk_in_Inv_loop walk-in-μ-loop)
-    → let at_loop = c.before.before.before.before in
-    let a = at_loop.before.before.before.before.args in
-    let g = c.kind-1.given.0 in
-    Onward a.strict a.version a.depth at_loop.loop-k.at at_loop.before.least-end.result at_loop.loop-k.area g.0 g.1.0 g.1.1.0 g.1.1.1.0
+walk_in_onward : (t : ℕ) (c : walk-in-lts.In-Body (walk_in_calls t) (walk_in_at t) walk-in.Post walk_in_Inv_loop walk-in-μ-loop)
+    → let a = c.before.before.before.before.before.before.args in
+    Onward a.strict a.version a.depth c.before.before.loop-k.at c.before.before.before.least-end.result c.before.before.loop-k.area c.in-Body.kind c.in-Body.resynced c.in-Body.start c.in-Body.stop
 walk_in_onward t c =
     let a = c.before.before.before.before.before.before.args in
     let L = c.before.before.loop-k in
@@ -289,10 +287,9 @@ walk_in_body_in_requires : (t : ℕ) → walk-in-lts.Need-body_in-r-requires (wa
 walk_in_body_in_requires t c κs =
     let a = c.before.before.before.before.before.before.before.args in
     let L = c.before.before.before.loop-k in
-    let g = c.before.before.kind-1.given.0 in
     let on = walk_in_onward t c.before.before in
     let m : 3 * (a.to - a.from) ≡ t = c.before.before.before.before.before.before.before.requires.0 in
-    let less : 3 * (g.1.1.1.0 - g.1.1.0) + 2 < t = omega (arith, on.begins, on.ordered, on.within, L.invariant) in
+    let less : 3 * (c.before.in-Body.stop - c.before.in-Body.start) + 2 < t = omega (arith, on.begins, on.ordered, on.within, L.invariant) in
     (less, (on.ordered, omega (arith, on.within, L.invariant), omega (arith, L.invariant), on.shallow))
 
 walk_in_same_length_2 : (t : ℕ) → walk-in-lts.Need-shape_of-area-then-r-ne0 (walk_in_calls t) (walk_in_at t) walk-in.Post walk_in_Inv_loop walk-in-μ-loop
@@ -307,11 +304,10 @@ walk_in_returns_2 t c =
     let L = c.before.before.before.before.before.before.before.loop-k in
     let mid = c.before.before.before.before.before.before.before.before.before.least-mid.result in
     let end = c.before.before.before.before.before.before.before.before.least-end.result in
-    let g = at_kind.kind-1.given.0 in
     let on = walk_in_onward t at_kind in
     let hm : mid ≤ length L.area = omega (arith, L.invariant) in
-    let o = body_of g.1.0 (walked a.strict a.version (a.depth + 1)) g.0 (slice g.1.1.0 g.1.1.1.0 L.area) (drop mid L.area) in
-    halt a.strict a.version a.depth L.at end mid g.1.1.1.0 L.area c.before.before.before.body_in-r.new.0 c.before.before.before.body_in-r.result o hm L.invariant.1 (on.same (drop mid L.area)) c.before.before.before.body_in-r.ensures c.if-r-ne0.true ∙ L.invariant.5
+    let o = body_of c.before.before.before.before.before.in-Body.resynced (walked a.strict a.version (a.depth + 1)) c.before.before.before.before.before.in-Body.kind (slice c.before.before.before.before.before.in-Body.start c.before.before.before.before.before.in-Body.stop L.area) (drop mid L.area) in
+    halt a.strict a.version a.depth L.at end mid c.before.before.before.before.before.in-Body.stop L.area c.before.before.before.body_in-r.new.0 c.before.before.before.body_in-r.result o hm L.invariant.1 (on.same (drop mid L.area)) c.before.before.before.body_in-r.ensures c.if-r-ne0.true ∙ L.invariant.5
 
 walk_in_loop_less : (t : ℕ) → walk-in-lts.Need-loop-k-smaller (walk_in_calls t) (walk_in_at t) walk-in.Post walk_in_Inv_loop walk-in-μ-loop
 walk_in_loop_less t c =
@@ -328,20 +324,19 @@ walk_in_loop_again t c =
     let L = c.before.before.before.before.before.before.before.loop-k in
     let mid = c.before.before.before.before.before.before.before.before.before.least-mid.result in
     let end = c.before.before.before.before.before.before.before.before.least-end.result in
-    let g = at_kind.kind-1.given.0 in
     let on = walk_in_onward t at_kind in
     let hm : mid ≤ length L.area = omega (arith, L.invariant) in
-    let o = body_of g.1.0 (walked a.strict a.version (a.depth + 1)) g.0 (slice g.1.1.0 g.1.1.1.0 L.area) (drop mid L.area) in (
+    let o = body_of c.before.before.before.before.before.in-Body.resynced (walked a.strict a.version (a.depth + 1)) c.before.before.before.before.before.in-Body.kind (slice c.before.before.before.before.before.in-Body.start c.before.before.before.before.before.in-Body.stop L.area) (drop mid L.area) in (
       omega (arith, on.begins, on.ordered, L.invariant.0),
       L.invariant.1,
       L.invariant.2,
       L.invariant.3,
       c.before.before.before.body_in-r.auto.0 ∙ L.invariant.4,
-      go_on_lem a.strict a.version a.depth L.at end mid g.1.1.1.0 L.area c.before.before.before.body_in-r.new.0 c.before.before.before.body_in-r.result o hm L.invariant.1 (on.same (drop mid L.area)) c.before.before.before.body_in-r.ensures c.if-r-ne0.false ∙ L.invariant.5,
+      go_on_lem a.strict a.version a.depth L.at end mid c.before.before.before.before.before.in-Body.stop L.area c.before.before.before.body_in-r.new.0 c.before.before.before.body_in-r.result o hm L.invariant.1 (on.same (drop mid L.area)) c.before.before.before.body_in-r.ensures c.if-r-ne0.false ∙ L.invariant.5,
     )
 
-pub +body-in-shown-in-walk-in-spec : {M : Type 1} → statement M
-+body-in-shown-in-walk-in-spec = close μ-body-in μ-shown-in μ-walk-in (λ t. body-in-lts.spec (body_in_calls t)
+pub +body_in_shown_in_walk_in_spec : {M : Type 1} → statement M
++body_in_shown_in_walk_in_spec = close μ-body-in μ-shown-in μ-walk-in (λ t. body-in-lts.spec (body_in_calls t)
     (body_in_at t)
     body_in_lem.Post
     (body_in_resync_in_requires t)

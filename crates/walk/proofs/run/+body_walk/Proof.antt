@@ -201,11 +201,9 @@ walk_enum_known_kind : (t : ℕ) → walk-lts.Need-enum_known-kind (walk_calls t
 walk_enum_known_kind t c = search rules
 
 -- where a step leads
-walk_onward : (t : ℕ) (c : walk-lts.In-Body-2 (walk_calls t) (walk_at t) walk.Post walk_Inv_loop walk-μ-loop)
-    → let at_loop = c.before.before.before in
-    let a = at_loop.before.before.before.before.args in
-    let g = c.kind-1.given.0 in
-    Onward a.strict a.version a.depth at_loop.loop-k.at at_loop.before.least-end.result a.s.now g.0 g.1.0 g.1.1.0 g.1.1.1.0
+walk_onward : (t : ℕ) (c : walk-lts.In-Body (walk_calls t) (walk_at t) walk.Post walk_Inv_loop walk-μ-loop)
+    → let a = c.before.before.before.before.before.before.args in
+    Onward a.strict a.version a.depth c.before.before.loop-k.at c.before.before.before.least-end.result a.s.now c.in-Body.kind c.in-Body.resynced c.in-Body.start c.in-Body.stop
 walk_onward t c =
     let a = c.before.before.before.before.before.before.args in
     onward a.strict a.version a.depth c.before.before.loop-k.at c.before.before.before.least-end.result a.s.now c.before.before.loop-k.invariant.1 _ _ _ _
@@ -215,10 +213,9 @@ walk_body_requires : (t : ℕ) → walk-lts.Need-body-r-requires (walk_calls t) 
 walk_body_requires t c κs =
     let a = c.before.before.before.before.before.before.before.args in
     let L = c.before.before.before.loop-k in
-    let g = c.before.before.kind-1.given.0 in
     let on = walk_onward t c.before.before in
     let m : 2 * (a.to - a.from) ≡ t = c.before.before.before.before.before.before.before.requires.0 in
-    let less : 2 * (g.1.1.1.0 - g.1.1.0) + 1 < t = omega (arith, on.begins, on.ordered, on.within, L.invariant) in
+    let less : 2 * (c.before.in-Body.stop - c.before.in-Body.start) + 1 < t = omega (arith, on.begins, on.ordered, on.within, L.invariant) in
     (less, (on.ordered, omega (arith, on.within, L.invariant), on.shallow))
 
 walk_same_length_2 : (t : ℕ) → walk-lts.Need-shape_of-room-then-r-ne0 (walk_calls t) (walk_at t) walk.Post walk_Inv_loop walk-μ-loop
@@ -232,10 +229,9 @@ walk_returns_2 t c =
     let a = c.before.before.before.before.before.before.before.before.before.before.before.args in
     let L = c.before.before.before.before.before.before.before.loop-k in
     let end = c.before.before.before.before.before.before.before.before.least-end.result in
-    let g = at_kind.kind-1.given.0 in
     let on = walk_onward t at_kind in
-    let o = body_of g.1.0 (walked a.strict a.version (a.depth + 1)) g.0 (slice g.1.1.0 g.1.1.1.0 a.s.now) L.room in
-    let rest = walked a.strict a.version a.depth (slice g.1.1.1.0 end a.s.now) in
+    let o = body_of c.before.before.before.before.before.in-Body.resynced (walked a.strict a.version (a.depth + 1)) c.before.before.before.before.before.in-Body.kind (slice c.before.before.before.before.before.in-Body.start c.before.before.before.before.before.in-Body.stop a.s.now) L.room in
+    let rest = walked a.strict a.version a.depth (slice c.before.before.before.before.before.in-Body.stop end a.s.now) in
     let e : ◌≡◌ {A = Out} (c.before.before.before.body-r.result, c.before.before.before.body-r.new.0) o = c.before.before.before.body-r.ensures in
     e ∙ sym (on.same L.room ∙ then_halt o rest (λ z. c.if-r-ne0.true (ap (λ (p : Out). p.0) e ∙ z))) ∙ L.invariant.4
 
@@ -253,10 +249,9 @@ walk_loop_again t c =
     let a = c.before.before.before.before.before.before.before.before.before.before.before.args in
     let L = c.before.before.before.before.before.before.before.loop-k in
     let end = c.before.before.before.before.before.before.before.before.least-end.result in
-    let g = at_kind.kind-1.given.0 in
     let on = walk_onward t at_kind in
-    let o = body_of g.1.0 (walked a.strict a.version (a.depth + 1)) g.0 (slice g.1.1.0 g.1.1.1.0 a.s.now) L.room in
-    let rest = walked a.strict a.version a.depth (slice g.1.1.1.0 end a.s.now) in
+    let o = body_of c.before.before.before.before.before.in-Body.resynced (walked a.strict a.version (a.depth + 1)) c.before.before.before.before.before.in-Body.kind (slice c.before.before.before.before.before.in-Body.start c.before.before.before.before.before.in-Body.stop a.s.now) L.room in
+    let rest = walked a.strict a.version a.depth (slice c.before.before.before.before.before.in-Body.stop end a.s.now) in
     let e : ◌≡◌ {A = Out} (c.before.before.before.body-r.result, c.before.before.before.body-r.new.0) o = c.before.before.before.body-r.ensures in (
       omega (arith, on.begins, on.ordered, L.invariant.0),
       L.invariant.1,
@@ -265,8 +260,8 @@ walk_loop_again t c =
       ap rest (ap (λ (p : Out). p.1) e) ∙ sym (on.same L.room ∙ then_on o rest (sym (ap (λ (p : Out). p.0) e) ∙ c.if-r-ne0.false)) ∙ L.invariant.4,
     )
 
-pub +body-walk-spec : {M : Type 1} → statement M
-+body-walk-spec = close μ-body μ-walk (λ t. body-lts.spec (body_calls t)
+pub +body_walk_spec : {M : Type 1} → statement M
++body_walk_spec = close μ-body μ-walk (λ t. body-lts.spec (body_calls t)
     (body_at t)
     body.Post
     (body_resync_into_requires t)

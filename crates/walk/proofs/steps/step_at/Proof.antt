@@ -15,16 +15,14 @@ use Rattle.walk.proofs.steps.step_at.Statement.{statement}
 use Rattle.walk.proofs.steps.step_at.Tie as tie
 
 -- the header that was found, and where the frame lies
-found : (c : tie.In-Found-2)
-    → let a = c.before.before.before.before.args in
-    let h = c.id-1.given.0 in
-    Head.Found h.0 h.1.0 h.1.1.0 h.1.1.1.0 h.1.1.1.1.0 h.1.1.1.1.1.0 ≡ head_of a.version a.depth (slice a.at a.end a.s.now)
+found : (c : tie.In-Found)
+    → let a = c.before.before.before.args in
+    Head.Found c.in-Found.id c.in-Found.compressed c.in-Found.flagged c.in-Found.short c.in-Found.start c.in-Found.len ≡ head_of a.version a.depth (slice a.at a.end a.s.now)
 found c = sym c.in-Found.is ∙ c.before.decode.ensures
 
-within : (c : tie.In-Found-2)
-    → let a = c.before.before.before.before.args in
-    let h = c.id-1.given.0 in
-    a.at + h.1.1.1.1.0 + h.1.1.1.1.1.0 ≤ a.end
+within : (c : tie.In-Found)
+    → let a = c.before.before.before.args in
+    a.at + c.in-Found.start + c.in-Found.len ≤ a.end
 within c =
     let a = c.before.before.before.args in
     (placed a.version a.depth a.at a.end a.s.now c.before.before.before.requires _ _ _ _ _ _ (sym (found c))).within

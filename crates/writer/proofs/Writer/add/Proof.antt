@@ -53,31 +53,25 @@ measure_frame_requires c κs =
 
 returns_3 : tie.Need-returns-then-j-ne0
 returns_3 c =
-    let at_kept = c.before.before.before in
-    let s = start at_kept.before.before in
+    let s = start c.before.before.before.before.before in
     let w = s.args.self in
     let size = c.before.size_check-j.ensures ∙ size_refusal_lem w.version w.mode (given s) _ c.before.before.measure_frame-size.ensures in
-    (too_long_lem w (given s) s.args.buffer.now (sound at_kept.before) (kept c.before.before.before) _ size c.if-j-ne0.true, fits s)
+    (too_long_lem w (given s) s.args.buffer.now (sound c.before.before.before.before) (kept c.before.before.before) _ size c.if-j-ne0.true, fits s)
 
 append_requires : tie.Need-append-requires
 append_requires c κs =
-    let at_measure = c.before.before.before in
-    let at_sound = at_measure.before.before in
-    let s = start at_sound.before in
+    let s = start c.before.before.before.before.before.before in
     let w = s.args.self in
     let exact = exact_size w.version _ _ c.before.before.before.measure_frame-size.ensures (sym c.before.before.size_check-j.ensures ∙ c.before.if-j-ne0.false) in
     (puttable w.version (given s) (sound c.before.before.before.before.before), exact.0, exact.1)
 
 returns_4 : tie.Need-returns
 returns_4 c =
-    let at_append = c.before.before in
-    let at_size = at_append.before.before in
-    let at_kept = at_size.before.before.before in
-    let s = start at_kept.before.before in
+    let s = start c.before.before.before.before.before.before.before.before.before in
     let w = s.args.self in
     let none = sym c.before.before.before.before.before.size_check-j.ensures ∙ c.before.before.before.before.if-j-ne0.false in
     let size = sym (size_refusal_lem w.version w.mode (given s) _ c.before.before.before.before.before.before.measure_frame-size.ensures) ∙ none in
-    (c.before.before.append.ensures ∙ appended w (given s) s.args.buffer.now (sound at_kept.before) (kept c.before.before.before.before.before.before.before) size, fits s)
+    (c.before.before.append.ensures ∙ appended w (given s) s.args.buffer.now (sound c.before.before.before.before.before.before.before.before) (kept c.before.before.before.before.before.before.before) size, fits s)
 
 pub add_spec : {M : Type 1} → statement M
 add_spec =

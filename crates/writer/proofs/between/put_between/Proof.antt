@@ -33,30 +33,21 @@ measure_frame_requires c κs = let s = start c.before in puttable s.args.version
 
 returns_2 : tie.Need-returns-then-j-ne0
 returns_2 c =
-    let at_measure = c.before.before in
-    let at_sound = at_measure.before in
-    let s = start at_sound.before in
+    let s = start c.before.before.before.before in
     let v = s.args.version in
     let size = c.before.size_check-j.ensures ∙ size_refusal_lem v Mode.Off (given s) _ c.before.before.measure_frame-size.ensures in
     gap_too_long v s.args.gap (given s) s.args.buffer.now (sound c.before.before.before) _ size c.if-j-ne0.true
 
 refit_requires : tie.Need-refit-requires
 refit_requires c κs =
-    let at_size = c.before in
-    let at_measure = at_size.before.before in
-    let at_sound = at_measure.before in
-    let s = start at_sound.before in
+    let s = start c.before.before.before.before.before in
     let v = s.args.version in
     let exact = exact_size v _ _ c.before.before.before.measure_frame-size.ensures (sym c.before.before.size_check-j.ensures ∙ c.before.if-j-ne0.false) in
     (puttable v (given s) (sound c.before.before.before.before), exact.0, exact.1)
 
 returns_3 : tie.Need-returns
 returns_3 c =
-    let at_refit = c.before.before in
-    let at_size = at_refit.before.before in
-    let at_measure = at_size.before.before in
-    let at_sound = at_measure.before in
-    let s = start at_sound.before in
+    let s = start c.before.before.before.before.before.before.before.before in
     let v = s.args.version in
     let none = sym c.before.before.before.before.before.size_check-j.ensures ∙ c.before.before.before.before.if-j-ne0.false in
     let size = sym (size_refusal_lem v Mode.Off (given s) _ c.before.before.before.before.before.before.measure_frame-size.ensures) ∙ none in

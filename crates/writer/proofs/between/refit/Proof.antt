@@ -41,34 +41,25 @@ sub_if2_2 c = omega (arith, (places c.before.before.before).low)
 
 add_if2 : tie.Need-overflow_add-gap
 add_if2 c =
-    let at_order = c.before.before.before in
-    let s = start at_order.before in
+    let s = start c.before.before.before.before in
     let o = places c.before.before.before in
     omega (arith, o.low, o.middle, o.high, o.inside, s.fits)
 
 returns_2 : tie.Need-returns-then-gap-from
 returns_2 c =
-    let at_head = c.before.before.before in
-    let at_order = at_head.before in
-    let s = start at_order.before in
+    let s = start c.before.before.before.before.before in
     gap_full s.args.version s.args.gap (given s) s.args.buffer.now c.before.before.before.head_len.ensures.0 s.requires.1 (in_order c.before.before.before.before) c.if-gap-from.true
 
 -- the place after the frame
 add_shift : tie.Need-overflow_add-from
 add_shift c =
-    let at_room = c.before in
-    let at_order = at_room.before.before.before.before in
-    let s = start at_order.before in
+    let s = start c.before.before.before.before.before.before in
     let o = places c.before.before.before.before.before in
     omega (arith, o.low, o.middle, o.high, o.inside, s.fits, c.before.if-gap-from.false)
 
 put_frame_requires : tie.Need-put_frame-requires
 put_frame_requires c κs =
-    let at_shift = c.before.before.before in
-    let at_room = at_shift.before.before in
-    let at_head = at_room.before.before.before in
-    let at_order = at_head.before in
-    let s = start at_order.before in (
+    let s = start c.before.before.before.before.before.before.before.before.before.before in (
       s.requires.0,
       s.requires.1,
       s.requires.2,
@@ -77,12 +68,7 @@ put_frame_requires c κs =
 
 returns_3 : tie.Need-returns
 returns_3 c =
-    let at_put = c.before.before in
-    let at_shift = at_put.before.before.before.before in
-    let at_room = at_shift.before.before in
-    let at_head = at_room.before.before.before in
-    let at_order = at_head.before in
-    let s = start at_order.before in
+    let s = start c.before.before.before.before.before.before.before.before.before.before.before.before.before in
     gap_done s.args.version s.args.gap (given s) s.args.buffer.now c.before.before.before.before.before.before.before.before.before.before.before.head_len.ensures.0 s.requires.1 (in_order c.before.before.before.before.before.before.before.before.before.before.before.before) (omega (arith, c.before.before.before.before.before.before.before.before.if-gap-from.false)) c.before.before.before.before.before.before.shift.ensures c.before.before.put_frame.ensures.1
 
 pub refit_spec : {M : Type 1} → statement M

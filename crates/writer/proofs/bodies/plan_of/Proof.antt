@@ -29,21 +29,21 @@ lies c =
     rw c.used_of-used.ensures (used_lies a.fields (length a.name.now) (length a.names.now) (length a.rest.now))
 
 slice_aggregate_zeros_in : tie.Need-slice_bounds-zeros_in-end
-slice_aggregate_zeros_in c = sym (length-take-le _ _ (lies c.before).names-fit)
+slice_aggregate_zeros_in c = sym (length-take-le _ _ (lies c).names-fit)
 
 -- how many names there are, whatever the deviations
-children : (c : tie.After-zeros_in) (ds : List ℕ) → let a = (start c.before.before).args in
+children : (c : tie.After-zeros_in) (ds : List ℕ) → let a = (start c.before).args in
     zeros_in (layout_of (content_of a.fields a.name.now a.names.now a.rest.now ds)).names ≡ c.zeros_in.result
-children c ds = sym (c.zeros_in.ensures ∙ ap zeros_in (parts c.before.before ds).names_are)
+children c ds = sym (c.zeros_in.ensures ∙ ap zeros_in (parts c.before ds).names_are)
 
 small_of_requires : tie.Need-small_of-small-requires
-small_of_requires c κs = rw (children c []) at ((start c.before.before).requires [])
+small_of_requires c κs = rw (children c []) at ((start c.before).requires [])
 
 -- the numbers, whatever the deviations
-small : (c : tie.After-small_of-small) (ds : List ℕ) → let a = (start c.before.before.before).args in
+small : (c : tie.After-small_of-small) (ds : List ℕ) → let a = (start c.before.before).args in
     Holds c.small_of-small.result (layout_of (content_of a.fields a.name.now a.names.now a.rest.now ds)).small
 small c ds =
-    let a = (start c.before.before.before).args in
+    let a = (start c.before.before).args in
     c.small_of-small.ensures a.name.now a.names.now a.rest.now ds (children c.before ds)
 
 returns : tie.Need-returns

@@ -77,8 +77,7 @@ put_references_requires c κs =
 
 returns : tie.Need-returns
 returns c =
-    let at_last = c.before.before in
-    rest_put (references_left at_last.before.before.before.before) c.before.before.put_references.ensures
+    rest_put (references_left c.before.before.before.before.before.before) c.before.before.put_references.ensures
 
 pub put_body_spec : {M : Type 1} → statement M
 put_body_spec =

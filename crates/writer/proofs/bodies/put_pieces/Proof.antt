@@ -62,8 +62,7 @@ put_bytes_requires_4 c κs = rest_lies (third_put c.before.before.before)
 
 returns : tie.Need-returns
 returns c =
-    let at_last = c.before.before in
-    rest_put (third_put at_last.before.before.before.before) c.before.before.put_bytes.ensures
+    rest_put (third_put c.before.before.before.before.before.before) c.before.before.put_bytes.ensures
 
 pub put_pieces_spec : {M : Type 1} → statement M
 put_pieces_spec =

@@ -11,10 +11,8 @@ abbrev start : tie.After-put_frames-put → tie.Start
 start c = c.before.before.before.before
 
 frames_put_lem : (c : tie.After-put_zeros-arg-1) →
-    let at_put = c.before.before in
-    let at_frames = at_put.before.before.before.before in
-    let a = (start at_frames).args in
-    Frames a.version a.mode a.padding (take a.used a.buffer.now) a.output.now at_frames.put_frames-put.ensures at_put.in-Bytes.n
+    let a = (start c.before.before.before.before).args in
+    Frames a.version a.mode a.padding (take a.used a.buffer.now) a.output.now c.before.before.before.before.put_frames-put.ensures c.before.in-Bytes.n
 frames_put_lem c =
     let a = (start c.before.before.before.before).args in
     tag_frames a.version a.mode a.padding (take a.used a.buffer.now) a.output.now c.before.before.before.before.put_frames-put.ensures c.before.in-Bytes.is
@@ -30,28 +28,22 @@ add_put_header c = omega (arith, frames_put_lem c.before.before.before.before)
 
 put_header_requires : tie.Need-put_header-requires
 put_header_requires c κs =
-    let at_zeros = c.before.before.before.before in
-    let at_put = at_zeros.before.before in
-    let at_start = start at_put.before.before.before.before in
+    let at_start = start c.before.before.before.before.before.before.before.before in
     let a = at_start.args in
     omega (arith, frames_put_lem c.before.before.before.before, region_length a.version a.mode a.padding (take a.used a.buffer.now), at_start.requires)
 
 add_t16 : tie.Need-overflow_add-result
 add_t16 c =
-    let at_header = c.before.before.before in
-    omega (arith, frames_put_lem at_header.before.before.before.before)
+    omega (arith, frames_put_lem c.before.before.before.before.before.before.before)
 
 add_t19 : tie.Need-overflow_add-result-in-Bytes
 add_t19 c =
-    let at_header = c.before.before.before in
-    omega (arith, frames_put_lem at_header.before.before.before.before)
+    omega (arith, frames_put_lem c.before.before.before.before.before.before.before)
 
 returns : tie.Need-returns-in-Bytes
 returns c =
-    let at_header = c.before.before in
-    let at_zeros = at_header.before.before.before.before in
     let a = (start c.before.before.before.before.before.before.before.before.before.before.before).args in
-    tag_put a.version a.mode a.padding (take a.used a.buffer.now) a.output.now c.before.before.before.before.before.before.before.before.before.before.before.put_frames-put.ensures (frames_put_lem at_zeros.before) c.before.before.before.before.before.before.put_zeros.ensures c.before.before.put_header.ensures
+    tag_put a.version a.mode a.padding (take a.used a.buffer.now) a.output.now c.before.before.before.before.before.before.before.before.before.before.before.put_frames-put.ensures (frames_put_lem c.before.before.before.before.before.before.before) c.before.before.before.before.before.before.put_zeros.ensures c.before.before.put_header.ensures
 
 returns_2 : tie.Need-returns-in-Refused
 returns_2 c =

@@ -15,12 +15,12 @@ abbrev Left : tie.Start → List ℕ → Type 0
 Left s l = let a = s.args in Storing a.buffer.now a.pen.at (unsync (guards a.mode) a.pen.prev (a.b ∷ [])) a.buffer.now a.pen.at l
 
 -- a 00 and the byte, or the byte alone
-guarded : (c : tie.Then-is_guarded) → let s = c.before.before.before in Left s (0 ∷ s.args.b ∷ [])
+guarded : (c : tie.Then-is_guarded) → let s = c.before.before.before in Left s (0 ∷ c.before.before.before.args.b ∷ [])
 guarded c =
     let a = c.before.before.before.args in
     same_list (byte_bytes a.mode a.pen a.b true (sym c.if-is_guarded.true ∙ c.before.is_guarded.ensures)) (begin _ _ _ c.before.before.before.requires)
 
-plain : (c : tie.Else-is_guarded) → let s = c.before.before.before in Left s (s.args.b ∷ [])
+plain : (c : tie.Else-is_guarded) → let s = c.before.before.before in Left s (c.before.before.before.args.b ∷ [])
 plain c =
     let a = c.before.before.before.args in
     same_list (byte_bytes a.mode a.pen a.b false (sym c.if-is_guarded.false ∙ c.before.is_guarded.ensures)) (begin _ _ _ c.before.before.before.requires)
