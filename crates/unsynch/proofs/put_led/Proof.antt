@@ -27,18 +27,18 @@ start c = let at_if = c.before.before in at_if.before.before.before
 returns_2 : tie.Need-returns-in-Refused
 returns_2 c =
     let a = (start c.before.before.before).args in
-    led_refused 20 (whole (start c.before.before.before)) a.at a.out.now _ c.before.before.before.put_part.new.0 (rw c.in-Refused.is at c.before.before.before.put_part.ensures)
+    led_refused 20 (whole (start c.before.before.before)) a.at a.out.now _ c.before.before.before.put_part.new.buf (rw c.in-Refused.is at c.before.before.before.put_part.ensures)
 
 add_t16 : tie.Need-overflow_add-result
 add_t16 c =
     let a = (start c.before.before.before).args in
-    let led = led_put 20 (whole (start c.before.before.before)) a.at a.out.now _ c.before.before.before.put_part.new.0 (rw c.in-Bytes.is at c.before.before.before.put_part.ensures) in
+    let led = led_put 20 (whole (start c.before.before.before)) a.at a.out.now _ c.before.before.before.put_part.new.buf (rw c.in-Bytes.is at c.before.before.before.put_part.ensures) in
     omega (arith, led.0, led.1)
 
 returns_3 : tie.Need-returns-in-Bytes
 returns_3 c =
     let a = (start c.before.before.before).args in
-    (led_put 20 (whole (start c.before.before.before)) a.at a.out.now _ c.before.before.before.put_part.new.0 (rw c.in-Bytes.is at c.before.before.before.put_part.ensures)).2
+    (led_put 20 (whole (start c.before.before.before)) a.at a.out.now _ c.before.before.before.put_part.new.buf (rw c.in-Bytes.is at c.before.before.before.put_part.ensures)).2
 
 pub put_led_spec : {M : Type 1} → statement M
 put_led_spec =
