@@ -19,7 +19,7 @@ fitting : (c : tie.Else-not-all_fit) → let a = c.before.before.before.before.a
 fitting c = rw (even c.before.before) (sym c.before.all_fit.ensures ∙ not-false _ c.if-not-all_fit.false-raw)
 
 short : (c : tie.Else-not-fits) → let a = c.before.before.before.before.before.before.args in ltb a.bytes (2 ^ 24) ≡ true
-short c = sym c.before.fits-2.ensures ∙ not-false _ c.if-not-fits.false-raw
+short c = sym c.before.fits.ensures ∙ not-false _ c.if-not-fits.false-raw
 
 returns : tie.Need-returns-then-deviations-ne0
 unfolding first
@@ -34,19 +34,19 @@ returns_2 c =
 returns_3 : tie.Need-returns-then-not-fits
 unfolding first
 returns_3 c =
-    let over = sym c.before.fits-2.ensures ∙ not-true _ c.if-not-fits.true-raw in
+    let over = sym c.before.fits.ensures ∙ not-true _ c.if-not-fits.true-raw in
     rw (fitting c.before.before, over)
 
 returns_4 : tie.Need-returns-then-not-fits-2
 unfolding first
 returns_4 c =
-    let over = sym c.before.before.before.fits.ensures ∙ not-true _ c.if-not-fits-2.true-raw in
+    let over = sym c.before.fits-2.ensures ∙ not-true _ c.if-not-fits-2.true-raw in
     rw (fitting c.before.before.before.before, short c.before.before, over)
 
 returns_5 : tie.Need-returns
 unfolding first
 returns_5 c =
-    let brief = sym c.before.before.before.before.fits.ensures ∙ not-false _ c.before.if-not-fits-2.false-raw in
+    let brief = sym c.before.before.fits-2.ensures ∙ not-false _ c.before.if-not-fits-2.false-raw in
     rw (fitting c.before.before.before.before.before, short c.before.before.before, brief) (c.odd_check.ensures ∙ sym (only _))
 
 pub deviations_check_spec : {M : Type 1} → statement M

@@ -31,48 +31,43 @@ at_start c = (at_loop c).before.before.before.before
 module _ (c : tie.After-meet invariant_loop decreases_loop) {met : Met} (is : c.meet.result ≡ met) where
   met_here : (begin : ℕ) →
       let r = (at_start c).args.self.reader in
-      ◌≡◌ {A = Answer} (met, c.meet.new.0) (pass_in r.version r.in_work begin (at_loop c).loop.at r.end (at_start c).args.tag.now (at_loop c).loop.work)
-  met_here begin = ap {B = Answer} (λ (x : Met). (x, c.meet.new.0)) (sym is) ∙ c.meet.ensures begin
+      ◌≡◌ {A = Answer} (met, c.meet.new.work) (pass_in r.version r.in_work begin (at_loop c).loop-k.at r.end (at_start c).args.tag.now (at_loop c).loop-k.work)
+  met_here begin = ap {B = Answer} (λ (x : Met). (x, c.meet.new.work)) (sym is) ∙ c.meet.ensures begin
 
   -- what comes of it is what the whole gives
   rest_is :
       let a = (at_start c).args in
-      let L = (at_loop c).loop in
-      met_next (λ m w. next_of m a.tag.now w) (moved_as L.at L.frames L.short L.compressed Stop.Running a.self) met c.meet.new.0
-      ≡ next_of a.self a.tag.now a.work-1.now
+      let L = (at_loop c).loop-k in
+      met_next (λ m w. next_of m a.tag.now w) (moved_as L.at L.frames L.short L.compressed Stop.Running a.self) met c.meet.new.work
+      ≡ next_of a.self a.tag.now a.work.now
   rest_is =
       let a = (at_start c).args in
-      let L = (at_loop c).loop in
-      goes_on_lem a.self a.tag.now a.work-1.now L.work-1 c.meet.new.0 L.at L.frames L.short L.compressed L.invariant.1 met met_here
+      let L = (at_loop c).loop-k in
+      goes_on_lem a.self a.tag.now a.work.now L.work c.meet.new.work L.at L.frames L.short L.compressed L.invariant.1 met met_here
 
 returns : tie.Need-returns-in-Nothing invariant_loop decreases_loop
 returns c =
-    let at_ended = c.before in
-    rw c.moved.ensures (rest_is at_ended.before.before.before.before c.before.in-Nothing.is)
+    rw c.moved.ensures (rest_is c.before.before.before.before c.before.in-Nothing.is)
 
 returns_2 : tie.Need-returns-in-Refused invariant_loop decreases_loop
 returns_2 c =
-    let at_refused = c.before.before in
-    rw c.moved-in-Refused.ensures (rest_is at_refused.before.before.before.before c.before.in-Refused.is)
+    rw c.moved-in-Refused.ensures (rest_is c.before.before.before.before c.before.in-Refused.is)
 
 loop_less : tie.Need-loop-k-smaller invariant_loop decreases_loop
 loop_less c =
-    let at_passed = c.before.before in
-    let at_meet = at_passed.before.before.before.before in
+    let at_meet = c.before.before.before.before in
     let r = (at_start c.before.before.before.before).args.self.reader in
-    let L = (at_loop c.before.before.before.before).loop in
-    passed_less r.version r.in_work 0 L.at r.end _ L.work-1 _ _ _ (met_here at_meet c.before.in-Passed.is 0)
+    let L = (at_loop c.before.before.before.before).loop-k in
+    passed_less r.version r.in_work 0 L.at r.end _ L.work _ _ _ (met_here at_meet c.before.in-Passed.is 0)
 
 loop_again : tie.Need-loop-k-preserved invariant_loop decreases_loop
 loop_again c =
-    let at_passed = c.before.before in
-    let at_meet = at_passed.before.before.before.before in
-    (c.before.before.before.before.meet.auto.0 ∙ (at_loop c.before.before.before.before).loop.invariant.0, rw c.one_more-frames.ensures (rest_is at_meet c.before.in-Passed.is))
+    let at_meet = c.before.before.before.before in
+    (c.before.before.before.before.meet.auto.work ∙ (at_loop c.before.before.before.before).loop-k.invariant.0, rw c.one_more-frames.ensures (rest_is at_meet c.before.in-Passed.is))
 
 returns_3 : tie.Need-returns-in-Popularimeter invariant_loop decreases_loop
 returns_3 c =
-    let at_found = c.before.before.before in
-    rw (c.moved-in-Popularimeter.ensures, c.before.one_more.ensures) (rest_is at_found.before.before.before.before c.before.before.in-Popularimeter.is)
+    rw (c.moved-in-Popularimeter.ensures, c.before.one_more.ensures) (rest_is c.before.before.before.before.before c.before.before.in-Popularimeter.is)
 
 pub run_spec : {M : Type 1} → statement M
 run_spec =

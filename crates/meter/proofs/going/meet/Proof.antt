@@ -15,21 +15,21 @@ abbrev at_source : tie.After-glance_at → tie.After-source-s
 at_source c = c.before.before
 
 abbrev at_start : tie.After-glance_at → tie.Start
-at_start c = (at_source c).before.before.before.before
+at_start c = (at_source c).before.before.before
 
 -- the bytes from the place on
 abbrev here : tie.After-glance_at → List ℕ
 here c =
     let a = (at_start c).args in
-    slice a.at a.end (source_of a.in_work a.work-1.now a.tag.now)
+    slice a.at a.end (source_of a.in_work a.work.now a.tag.now)
 
 module _ (c : tie.After-glance_at) where
   says : {g : Glance} → c.glance_at.result ≡ g → Says (at_start c).args.version (here c) g
   says {g} is =
       let a = (at_start c).args in
-      let s = (at_source c).source in
+      let s = (at_source c).source-s in
       let last = c.before.least in
-      says_here a.version a.in_work a.at a.end last.result s.result.now a.tag.now a.work-1.now g s.ensures last.ensures (rw is at c.glance_at.ensures)
+      says_here a.version a.in_work a.at a.end last.result s.result.now a.tag.now a.work.now g s.ensures last.ensures (rw is at c.glance_at.ensures)
 
   -- the end of a whole frame is a number
   fits : {n : ℕ} {flagged : Bool} → Whole (at_start c).args.version flagged n (here c) → {head : ℕ} → head ≡ head_len (at_start c).args.version
@@ -39,78 +39,66 @@ module _ (c : tie.After-glance_at) where
       omega (
         arith,
         is,
-        fits_here a.version a.in_work 0 a.at a.end a.tag.now a.work-1.now n flagged h,
-        ap length (at_source c).source.ensures,
-        (at_start c).well-formed,
+        fits_here a.version a.in_work 0 a.at a.end a.tag.now a.work.now n flagged h,
+        ap length (at_source c).source-s.ensures,
+        (at_start c).well_formed,
       )
 
 add_passed : tie.Need-overflow_add-at
 add_passed c =
-    let at_plain = c.before.before in
-    let at_glance = at_plain.before.before in
+    let at_glance = c.before.before in
     omega (arith, fits at_glance (says at_glance c.before.in-Plain.is).0 c.head_len.ensures.0)
 
 add_passed_2 : tie.Need-overflow_add-at-in-Plain
 add_passed_2 c =
-    let at_plain = c.before.before in
-    let at_glance = at_plain.before.before in
+    let at_glance = c.before.before in
     omega (arith, fits at_glance (says at_glance c.before.in-Plain.is).0 c.head_len.ensures.0)
 
 add_first : tie.Need-overflow_add-first
 add_first c =
-    let at_flagged = c.before.before.before in
-    let at_glance = at_flagged.before.before in
+    let at_glance = c.before.before.before in
     omega (arith, fits at_glance (says at_glance c.before.before.in-Flagged.is).0 c.head_len-in-Flagged.ensures.0)
 
 add_flagged : tie.Need-overflow_add-first-in-Flagged
 add_flagged c =
-    let at_flagged = c.before.before.before.before in
-    let at_glance = at_flagged.before.before in
+    let at_glance = c.before.before.before.before in
     omega (arith, fits at_glance (says at_glance c.before.before.before.in-Flagged.is).0 c.before.head_len-in-Flagged.ensures.0)
 
 add_first_2 : tie.Need-overflow_add-first-in-Meter
 add_first_2 c =
-    let at_meter = c.before.before in
-    let at_glance = at_meter.before.before in
+    let at_glance = c.before.before in
     omega (arith, fits at_glance (says at_glance c.before.in-Meter.is).0 c.head_len-in-Meter.ensures.0)
 
 add_next : tie.Need-overflow_add-next
 add_next c =
-    let at_meter = c.before.before in
-    let at_glance = at_meter.before.before in
+    let at_glance = c.before.before in
     omega (arith, fits at_glance (says at_glance c.before.in-Meter.is).0 c.head_len-in-Meter.ensures.0)
 
 returns_3 : tie.Need-returns-in-End
 returns_3 c =
-    let at_glance = c.before.before in
+    let at_glance = c.before in
     let a = (at_start c.before).args in
-    λ begin. meets_end a.version a.in_work begin a.at a.end a.tag.now a.work-1.now (says at_glance c.in-End.is)
+    λ begin. meets_end a.version a.in_work begin a.at a.end a.tag.now a.work.now (says at_glance c.in-End.is)
 
 returns_4 : tie.Need-returns-in-Plain
 returns_4 c =
-    let at_plain = c.before.before.before in
-    let at_glance = at_plain.before.before in
+    let at_glance = c.before.before.before in
     let a = (at_start c.before.before.before).args in
     λ begin. rw (c.passed.ensures, c.before.head_len.ensures.0)
-    (meets_plain a.version a.in_work begin a.at a.end a.tag.now a.work-1.now _ (says at_glance c.before.before.in-Plain.is))
+    (meets_plain a.version a.in_work begin a.at a.end a.tag.now a.work.now _ (says at_glance c.before.before.in-Plain.is))
 
 returns_5 : tie.Need-returns-else-in_work
 returns_5 c =
-    let at_passed = c.before.before in
-    let at_head_len = at_passed.before.before in
-    let at_flagged = at_head_len.before.before.before in
-    let at_glance = at_flagged.before.before in
+    let at_glance = c.before.before.before.before.before.before.before in
     let a = (at_start c.before.before.before.before.before.before.before).args in
-    λ begin. meets_flagged a.version a.in_work begin a.at a.end a.tag.now a.work-1.now _ c.before.before.before.before.before.if-in_work.false (says at_glance c.before.before.before.before.before.before.in-Flagged.is)
+    λ begin. meets_flagged a.version a.in_work begin a.at a.end a.tag.now a.work.now _ c.before.before.before.before.before.if-in_work.false (says at_glance c.before.before.before.before.before.before.in-Flagged.is)
     (rw c.before.before.before.before.head_len-in-Flagged.ensures.0 at c.before.before.flagged.ensures)
 
 returns_6 : tie.Need-returns-in-Meter
 returns_6 c =
-    let at_head_len = c.before.before in
-    let at_meter = at_head_len.before.before in
-    let at_glance = at_meter.before.before in
+    let at_glance = c.before.before.before.before in
     let a = (at_start c.before.before.before.before).args in
-    λ begin. meets_meter a.version a.in_work begin a.at a.end a.tag.now a.work-1.now _ (says at_glance c.before.before.before.in-Meter.is) c.before.before.head_len-in-Meter.ensures.0 (at_source c.before.before.before.before).source.ensures
+    λ begin. meets_meter a.version a.in_work begin a.at a.end a.tag.now a.work.now _ (says at_glance c.before.before.before.in-Meter.is) c.before.before.head_len-in-Meter.ensures.0 (at_source c.before.before.before.before).source-s.ensures
     (c.before.parse.ensures a.version) (c.read_as.ensures a.version)
 
 pub meet_spec : {M : Type 1} → statement M

@@ -10,16 +10,16 @@ returns : tie.Need-returns-in-Ready
 returns c =
     let a = c.before.before.before.before.before.before.before.before.before.args in
     let made = c.before.before.before.before.before.open-opened in
-    opens_any a.tag.now a.work.now made.new.0 c.before.before.in-Ready.reader c.metered.result
+    opens_any a.tag.now a.work.now made.new.work c.before.before.in-Ready.reader c.metered.result
     (c.metered.ensures ∙ ap (λ (t : Bool). meter_at t c.before.before.in-Ready.reader) c.before.is_missing.ensures)
-    (ap {B = Opened × List ℕ} (λ (x : Opened). (x, made.new.0)) (sym c.before.before.in-Ready.is) ∙ made.ensures)
+    (ap {B = Opened × List ℕ} (λ (x : Opened). (x, made.new.work)) (sym c.before.before.in-Ready.is) ∙ made.ensures)
 
 returns_2 : tie.Need-returns-in-Refused
 returns_2 c =
     let a = c.before.before.before.before.before.before.before.args in
     let made = c.before.before.before.open-opened in
-    opens_refused a.tag.now a.work.now made.new.0 c.in-Refused.k
-    (ap {B = Opened × List ℕ} (λ (x : Opened). (x, made.new.0)) (sym c.in-Refused.is) ∙ made.ensures)
+    opens_refused a.tag.now a.work.now made.new.work c.in-Refused.k
+    (ap {B = Opened × List ℕ} (λ (x : Opened). (x, made.new.work)) (sym c.in-Refused.is) ∙ made.ensures)
 
 pub open_any_spec : {M : Type 1} → statement M
 open_any_spec =
