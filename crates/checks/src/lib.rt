@@ -1,5 +1,6 @@
 // The checks of a record that is to be written, in the table's order. What they answer stands in specs/.
 #![tactic(auto)]
+
 pub mod ids;
 mod names;
 pub mod record;

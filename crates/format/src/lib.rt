@@ -1,5 +1,6 @@
 // The metered tag: the types of frames and records. What they mean stands in specs/.
 #![tactic(auto)]
+
 pub mod classes;
 pub mod numbered;
 pub mod refusals;

@@ -1,5 +1,6 @@
 // The meter: what reads a tag's counters and nothing else. What its answers mean stands in specs/.
 #![tactic(auto)]
+
 mod glance;
 mod going;
 pub mod opening;

@@ -1,5 +1,6 @@
 // Reading a metered tag: the reader's state and its answers. What they mean stands in specs/.
 #![tactic(auto)]
+
 pub mod headers;
 pub mod opening;
 pub mod stepping;

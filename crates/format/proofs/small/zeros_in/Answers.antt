@@ -12,8 +12,8 @@ loop-i-preserved c =
     let i = c.loop-i.i in
     let there = c.loop-i-test.true in
     elim c.if-s-i-eq0.branch [
-      then-s-i-eq0 w ↦ record { within = omega arith; few = omega arith; counted = omega (arith, zero_counts s i there w.if-s-i-eq0.true) }
-    | else-s-i-eq0 w ↦ record { within = omega arith; few = omega arith; counted = omega (arith, other_counts_not s i there w.if-s-i-eq0.false) }
+      | then-s-i-eq0 w ↦ record { within = omega arith; few = omega arith; counted = omega (arith, zero_counts s i there w.if-s-i-eq0.true) }
+      | else-s-i-eq0 w ↦ record { within = omega arith; few = omega arith; counted = omega (arith, other_counts_not s i there w.if-s-i-eq0.false) }
     ]
 
 pub returns : goal.returns

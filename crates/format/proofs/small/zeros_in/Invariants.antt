@@ -7,7 +7,7 @@ abbrev pub invariant-loop-i : goal.invariant-loop-i
 invariant-loop-i l = record {
   within : l.i ≤ length l.s;
   few : l.n ≤ l.i;
-  counted : l.n + zeros_in (drop l.i l.s) ≡ zeros_in l.s
+  counted : l.n + zeros_in (drop l.i l.s) ≡ zeros_in l.s;
 }
 
 abbrev pub decreases-loop-i : goal.decreases-loop-i
