@@ -1,4 +1,6 @@
 // The lines of the listing program, built into a lent buffer. What they say stands in format's specs/Listing.antt.
+#![tactic(auto)]
+
 ghost use Rattle.std.specs.Prelude.{◌≡◌, ◌+◌, ◌<◌, [], ◌∷◌, ◌++◌, length, leb};
 ghost use Rattle.format.specs.Numbers.{bytes_of};
 ghost use Rattle.format.specs.Ids.{id_len};

@@ -1,4 +1,6 @@
 // Synchsafe numbers, resynchronising and unsynchronising.
+#![tactic(auto)]
+
 mod blocks;
 mod loops;
 
@@ -30,6 +32,7 @@ pub enum Put {
 }
 
 // The synchsafe form of n: four bytes, each the next seven bits, highest first.
+#[tactic(auto, using(crate::proofs::Synchsafe::encoded))]
 pub fn encode_u32(n: u32) -> Encoded
     ensures { result ≡ encoded_of n }
 {

@@ -12,7 +12,6 @@ pub end_line_spec : {M : Type 1} → statement M
 end_line_spec =
     tie.close
     (tie.spec
-    (λ c. search rules)
     (λ c κs. search rules)
     (λ c. search rules)
     returns)

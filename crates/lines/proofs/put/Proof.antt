@@ -22,11 +22,10 @@ put_byte_requires c κs =
     room (λ l. l) refl (λ a b. refl) c.before.before.before.before.before.before.args.bytes.now c.before.before.before.loop-i.invariant.1 c.before.before.loop-i-test.true c.before.before.before.before.before.before.requires
 
 loop_again : tie.Need-loop-i-preserved invariant_loop decreases_loop
-loop_again c =
-    (
-      omega arith,
-      turn (λ l. l) refl (λ a b. refl) c.before.before.before.before.before.before.before.before.before.args.bytes.now c.before.before.before.before.before.before.loop-i.invariant.1 c.before.before.before.before.before.loop-i-test.true c.before.before.put_byte-next.ensures,
-    )
+loop_again c = (
+  omega arith,
+  turn (λ l. l) refl (λ a b. refl) c.before.before.before.before.before.before.before.before.before.args.bytes.now c.before.before.before.before.before.before.loop-i.invariant.1 c.before.before.before.before.before.loop-i-test.true c.before.before.put_byte-next.ensures,
+)
 
 same_length : tie.Need-shape_of-out invariant_loop decreases_loop
 same_length c = same c.before.loop-i.invariant.1

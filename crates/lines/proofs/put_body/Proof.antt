@@ -1,5 +1,4 @@
 -- `lines::put_body` meets its contract: calls that put one after another. Assumes nothing.
-use borrow.Author.Rules.{rules}
 use Rattle.lines.proofs.Puts.{andthen, room_left, front, same}
 use Rattle.lines.proofs.put_body.Statement.{statement}
 use Rattle.lines.proofs.put_body.Tie as tie
@@ -35,12 +34,10 @@ pub put_body_spec : {M : Type 1} → statement M
 put_body_spec =
     tie.close
     (tie.spec
-    (λ c. search rules)
     put_numbered_requires
     put_kind_requires
     put_short_requires
     put_detail_requires
-    (λ c. search rules)
     put_requires
     same_length
     returns)

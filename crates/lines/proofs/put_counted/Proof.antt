@@ -20,7 +20,6 @@ put_counted_spec =
     tie.close
     (tie.spec
     put_numbered_requires
-    (λ c. search rules)
     put_requires
     (λ c. search rules)
     returns)

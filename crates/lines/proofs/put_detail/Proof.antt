@@ -35,13 +35,10 @@ put_detail_spec =
     tie.close
     (tie.spec
     (λ c. search rules)
-    (λ c. search rules)
     put_requires
     put_hex_requires
     (λ c. search rules)
-    (λ c. search rules)
     put_numbered_requires
-    (λ c. search rules)
     put_numbered_requires_2
     (λ c. search rules)
     returns

@@ -1,6 +1,5 @@
 -- `lines::put_frame` meets its contract: calls that put one after another. Assumes nothing.
 use Rattle.format.specs.Listing.{frame_line}
-use borrow.Author.Rules.{rules}
 use Rattle.lines.proofs.Puts.{andthen, room_left, front, same}
 use Rattle.lines.proofs.put_frame.Statement.{statement}
 use Rattle.lines.proofs.put_frame.Tie as tie
@@ -42,12 +41,9 @@ pub put_frame_spec : {M : Type 1} → statement M
 put_frame_spec =
     tie.close
     (tie.spec
-    (λ c. search rules)
     put_numbered_requires
-    (λ c. search rules)
     put_requires
     put_id_requires
-    (λ c. search rules)
     put_numbered_requires_2
     put_body_requires
     same_length

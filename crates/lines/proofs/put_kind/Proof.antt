@@ -56,21 +56,15 @@ put_kind_spec =
     tie.close
     (tie.spec
     (λ c. search rules)
-    (λ c. search rules)
     put_requires
-    (λ c. search rules)
     (λ c. search rules)
     put_requires_2
     (λ c. search rules)
-    (λ c. search rules)
     put_requires_3
-    (λ c. search rules)
     (λ c. search rules)
     put_requires_4
     (λ c. search rules)
-    (λ c. search rules)
     put_requires_5
-    (λ c. search rules)
     (λ c. search rules)
     put_requires_6
     (λ c. search rules)

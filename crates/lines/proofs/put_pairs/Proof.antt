@@ -23,11 +23,10 @@ put_pair_requires c κs =
     room hex_in no_pairs pairs_join c.before.before.before.before.before.before.args.bytes.now c.before.before.before.loop-i.invariant.1 c.before.before.loop-i-test.true c.before.before.before.before.before.before.requires
 
 loop_again : tie.Need-loop-i-preserved invariant_loop decreases_loop
-loop_again c =
-    (
-      omega arith,
-      turn hex_in no_pairs pairs_join c.before.before.before.before.before.before.before.before.before.args.bytes.now c.before.before.before.before.before.before.loop-i.invariant.1 c.before.before.before.before.before.loop-i-test.true c.before.before.put_pair-next.ensures,
-    )
+loop_again c = (
+  omega arith,
+  turn hex_in no_pairs pairs_join c.before.before.before.before.before.before.before.before.before.args.bytes.now c.before.before.before.before.before.before.loop-i.invariant.1 c.before.before.before.before.before.loop-i-test.true c.before.before.put_pair-next.ensures,
+)
 
 same_length : tie.Need-shape_of-out invariant_loop decreases_loop
 same_length c = same c.before.loop-i.invariant.1

@@ -21,9 +21,7 @@ pub put_short_spec : {M : Type 1} → statement M
 put_short_spec =
     tie.close
     (tie.spec
-    (λ c. search rules)
     put_requires
-    (λ c. search rules)
     put_requires_2
     (λ c. search rules)
     returns

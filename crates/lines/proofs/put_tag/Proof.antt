@@ -1,6 +1,5 @@
 -- `lines::put_tag` meets its contract: calls that put one after another. Assumes nothing.
 use Rattle.format.specs.Listing.{tag_line}
-use borrow.Author.Rules.{rules}
 use Rattle.lines.proofs.Puts.{andthen, room_left, front, same}
 use Rattle.lines.proofs.put_tag.Statement.{statement}
 use Rattle.lines.proofs.put_tag.Tie as tie
@@ -42,15 +41,10 @@ pub put_tag_spec : {M : Type 1} → statement M
 put_tag_spec =
     tie.close
     (tie.spec
-    (λ c. search rules)
     put_numbered_requires
-    (λ c. search rules)
     put_numbered_requires_2
-    (λ c. search rules)
     put_numbered_requires_3
-    (λ c. search rules)
     put_numbered_requires_4
-    (λ c. search rules)
     put_requires
     same_length
     returns)

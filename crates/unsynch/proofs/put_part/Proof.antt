@@ -3,7 +3,6 @@ use mathlib.Core.Path.{◌≡◌, ap}
 use Prim.Native.Nat.{ℕ, ◌-◌, ◌≤◌}
 use mathlib.Core.Bool.{false}
 use mathlib.Core.List.{List}
-use lib.ListN.{length}
 use lib.Seq.{slice}
 use Rattle.laws.proofs.Slices.{slice_cut, slice_cut_none}
 use Rattle.unsynch.specs.declared.Put.{Put}

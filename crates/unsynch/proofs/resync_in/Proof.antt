@@ -63,16 +63,16 @@ edit_in_requires c κs =
 -- all is stored
 stored_all : (c : tie.After-slice_known-then-fits-1) →
     let at_edit = c.before.before in
-    let at_how = (let at_fits = at_edit.before.before.before in at_fits.before.before) in
+    let at_how = (let at_fits = at_edit.before.before.before in at_fits.before) in
     let at_start = start at_how.before in
     let mid = at_how.before.before.before.least-mid.result in
     (mid ≤ c.before.before.edit_in.result)
-    × ◌≡◌ {A = Out} (Put.Bytes (c.before.before.edit_in.result - mid), c.before.before.edit_in.new.0) (put_of 14 (whole at_start) mid at_start.args.area.now)
+    × ◌≡◌ {A = Out} (Put.Bytes (c.before.before.edit_in.result - mid), c.before.before.edit_in.new.area) (put_of 14 (whole at_start) mid at_start.args.area.now)
 stored_all c =
     let at_start = start c.before.before.before.before.before.before.before in
     let mid = c.before.before.before.before.before.before.before.before.before.least-mid in
     put_all 14 (whole at_start) mid.result at_start.args.area.now (omega arith) _ (cut c.before.before.before.before.before.before) c.before.before.before.before.before.fits.result c.before.before.before.before.before.fits.ensures
-    c.before.before.before.before.if-fits.true c.before.before.edit_in.result c.before.before.edit_in.new.0 c.before.before.edit_in.ensures
+    c.before.before.before.before.if-fits.true c.before.before.edit_in.result c.before.before.edit_in.new.area c.before.before.edit_in.ensures
 
 sub_t17 : tie.Need-overflow_sub-result
 sub_t17 c = (stored_all c).0

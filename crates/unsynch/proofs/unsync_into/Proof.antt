@@ -41,7 +41,7 @@ made c t led =
 returns : tie.Need-returns-then-is_led
 returns c =
     let a = (start c.before.before.before.before.before).args in
-    c.before.before.put_led.ensures ∙ ap (λ (w : List ℕ). placed_of w a.at a.out-1.now) (made c.before.before.before.before.before _ c.before.before.before.before.if-is_led.true)
+    c.before.before.put_led.ensures ∙ ap (λ (w : List ℕ). placed_of w a.at a.out.now) (made c.before.before.before.before.before _ c.before.before.before.before.if-is_led.true)
 
 put_part_requires : tie.Need-put_part-requires
 put_part_requires c κs =
@@ -50,7 +50,7 @@ put_part_requires c κs =
 returns_2 : tie.Need-returns
 returns_2 c =
     let a = (start c.before.before.before.before.before).args in
-    c.before.before.put_part.ensures ∙ ap (λ (w : List ℕ). placed_of w a.at a.out-1.now) (made c.before.before.before.before.before _ c.before.before.before.before.if-is_led.false)
+    c.before.before.put_part.ensures ∙ ap (λ (w : List ℕ). placed_of w a.at a.out.now) (made c.before.before.before.before.before _ c.before.before.before.before.if-is_led.false)
 
 pub unsync_into_spec : {M : Type 1} → statement M
 unsync_into_spec =

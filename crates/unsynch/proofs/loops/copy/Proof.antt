@@ -1,6 +1,6 @@
 -- `unsynch::loops::copy` meets its contract. Assumes nothing.
 use mathlib.Core.Path.{◌≡◌, refl}
-use Prim.Native.Nat.{◌+◌, ◌-◌, ◌≤◌, ◌<◌}
+use Prim.Native.Nat.{◌+◌, ◌-◌, ◌≤◌}
 use lib.Seq.{slice}
 use Rattle.laws.proofs.Stores.{Storing, copy_begin, copy_turn, copy_end}
 use native.Mathlib.Omega.{arith}

@@ -1,8 +1,7 @@
 -- `unsynch::loops::edit` meets its contract. Assumes nothing.
 use mathlib.Core.Path.{◌∙◌}
-use Prim.Native.Nat.{◌+◌}
 use mathlib.Core.Bool.{false}
-use lib.ListN.{set, get_or}
+use lib.ListN.{get_or}
 use lib.Seq.{slice}
 use mathlib.Core.List.{◌∷◌}
 use Rattle.laws.proofs.Stores.{Storing, begin, same_list, put, lies, next_lies, rest}
@@ -19,8 +18,8 @@ start c = c.before.before.before
 
 -- it comes before the others
 first : (c : tie.After-shared_slice_known-2-1) → let a = (start c).args in
-    Storing a.buf-1.now a.at (edited a.how false (slice a.from a.to a.s.now))
-    a.buf-1.now a.at (get_or a.s.now a.from 0 ∷ edited_after a.how a.s.now a.from a.to)
+    Storing a.buf.now a.at (edited a.how false (slice a.from a.to a.s.now))
+    a.buf.now a.at (get_or a.s.now a.from 0 ∷ edited_after a.how a.s.now a.from a.to)
 first c =
     let a = (start c).args in
     same_list (plain_first a.how a.s.now a.from a.to (omega arith) (omega arith)) (begin _ _ _ (start c).requires.1.0)

@@ -1,7 +1,7 @@
 -- `unsynch::loops::edit_in_after` meets its contract. Assumes nothing.
-use mathlib.Core.Path.{◌≡◌, refl, ap}
-use Prim.Native.Nat.{ℕ, ◌+◌, ◌-◌, ◌≤◌, ◌<◌}
-use lib.ListN.{length, take}
+use mathlib.Core.Path.{◌≡◌, refl}
+use Prim.Native.Nat.{◌+◌, ◌-◌, ◌≤◌, ◌<◌}
+use lib.ListN.{take}
 use Rattle.laws.proofs.Stores.{Storing, begin, done}
 use Rattle.unsynch.specs.Edits.{edited_after}
 use Rattle.unsynch.proofs.Edits.{edited_end}
@@ -32,7 +32,7 @@ loop_again : tie.Need-loop-i-preserved invariant_loop decreases_loop
 loop_again c =
     let a = c.before.before.before.before.before.before.before.before.args in
     let L = c.before.before.before.before.before.before.loop-i in
-    let t = (piece_in a.how a.area.now L.i (L.i + c.before.before.before.before.least.result) a.to (omega arith) (omega arith) (omega arith) a.at (omega arith) (omega arith) L.invariant.2 L.invariant.4.long L.invariant.3 L.invariant.4).1 c.before.before.edit_chunk-o.result c.before.before.edit_chunk-o.new.0 c.before.before.edit_chunk-o.ensures in
+    let t = (piece_in a.how a.area.now L.i (L.i + c.before.before.before.before.least.result) a.to (omega arith) (omega arith) (omega arith) a.at (omega arith) (omega arith) L.invariant.2 L.invariant.4.long L.invariant.3 L.invariant.4).1 c.before.before.edit_chunk-o.result c.before.before.edit_chunk-o.new.area c.before.before.edit_chunk-o.ensures in
     (omega arith, omega arith, omega arith, t.1, t.2)
 
 same_length : tie.Need-shape_of-area invariant_loop decreases_loop

@@ -1,5 +1,4 @@
 -- `unsynch::loops::edited_len` meets its contract. Assumes nothing.
-use mathlib.Core.Path.{ap, ◌∙◌}
 use Rattle.unsynch.proofs.Edits.{few_after, length_longer, length_shorter}
 use borrow.Author.Rules.{rules}
 use native.Mathlib.Omega.{arith}

@@ -1,5 +1,5 @@
 -- `unsynch::loops::fits` meets its contract. Assumes nothing.
-use mathlib.Core.Path.{◌≡◌, sym, ap}
+use mathlib.Core.Path.{sym, ap}
 use Prim.Native.Nat.{ℕ, ◌+◌, ◌≤◌}
 use mathlib.Core.Bool.{false, ◌&&◌}
 use borrow.Author.Tests.{le-leb}
