@@ -1,6 +1,6 @@
 -- What looking into a body answers. Assumes nothing.
 use mathlib.Core.Path.{◌≡◌, refl, sym, ap, ◌∙◌}
-use Prim.Native.Nat.{ℕ, suc, ◌+◌, ◌-◌, ◌≤◌, ◌<◌}
+use Prim.Native.Nat.{ℕ, suc, ◌+◌, ◌≤◌, ◌<◌}
 use native.Mathlib.Nat.{le_refl}
 use native.Mathlib.Omega.{arith}
 use mathlib.Core.Bool.{Bool, true, false}
@@ -10,7 +10,7 @@ use lib.Seq.{slice}
 use lib.Dec.{eqb}
 use borrow.Author.Tests.{eqb-true, ne_eqb}
 use Rattle.laws.proofs.Slices.{slice_drop, slice_next}
-use Rattle.format.specs.Bytes.{pick, first}
+use Rattle.format.specs.Bytes.{pick}
 use Rattle.format.specs.Record.{body_refusal, run_of, parts_of}
 use Rattle.format.specs.Walk.{Out, inside_of}
 use Rattle.format.specs.declared.Version.{Version}

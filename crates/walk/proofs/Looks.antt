@@ -297,7 +297,7 @@ passed_frame kind start next b Look.Plain false h = sym (h false)
 pub passed_seen : (kind : Kind) (start next : ℕ) (b : List ℕ) (body : Look) (odd : Bool) → OneOf (0 ∷ 2 ∷ 3 ∷ 4 ∷ 5 ∷ []) (tag_of kinds.the_type kind)
     → passed_as body next odd ≡ seen_as (both body (plain_if (not odd))) kind start next b
 passed_seen Kind.Text start next b body odd h = passed_frame Kind.Text start next b body odd (λ t. refl)
-passed_seen Kind.Popularimeter start next b body odd h = absurd (miss (0 ∷ 2 ∷ 3 ∷ 4 ∷ 5 ∷ []) 1 tt h)
+passed_seen Kind.Popularimeter start next b _ odd h = absurd (miss (0 ∷ 2 ∷ 3 ∷ 4 ∷ 5 ∷ []) 1 tt h)
 passed_seen Kind.Table start next b body odd h = passed_frame Kind.Table start next b body odd (λ t. refl)
 passed_seen Kind.Chapter start next b body odd h = passed_frame Kind.Chapter start next b body odd (λ t. refl)
 passed_seen Kind.Contents start next b body odd h = passed_frame Kind.Contents start next b body odd (λ t. refl)

@@ -77,13 +77,13 @@ run_begins t c = sym c.in-Run.is ∙ c.before.look.ensures
 
 body_returns : (t : ℕ) → look-body-lts.Need-returns-then-to-at (body_calls t) (look_body_at t) look-body.Post
 body_returns t c =
-    let at_run = c.before.before in
+    let at_run = c.before in
     let a = c.before.before.before.before.args in
     body_none a.version (a.depth + 1) a.kind a.from a.to a.s.now _ (run_begins t at_run) (omega (arith, c.if-to-at.true))
 
 body_look_run_requires : (t : ℕ) → look-body-lts.Need-look_run-requires (body_calls t) (look_body_at t) look-body.Post
 body_look_run_requires t c κs =
-    let at_run = c.before.before in
+    let at_run = c.before in
     let a = c.before.before.before.before.args in
     let at = c.before.in-Run.at in
     let m : 2 * (a.to - a.from) + 1 ≡ t = c.before.before.before.before.requires.0 in
@@ -97,7 +97,7 @@ body_returns_2 t c =
 
 body_returns_3 : (t : ℕ) → look-body-lts.Need-returns-else-to-at (body_calls t) (look_body_at t) look-body.Post
 body_returns_3 t c =
-    let at_run = c.before.before.before in
+    let at_run = c.before.before in
     let a = c.before.before.before.before.before.args in
     c.look_run.ensures ∙ body_run a.version (a.depth + 1) a.kind a.from a.to a.s.now _ (run_begins t at_run)
 
@@ -169,7 +169,7 @@ run_goes t c =
 
 run_look_body_requires : (t : ℕ) → look-run-lts.Need-look_body-body-requires (run_calls t) (look_run_at t) look-run.Post invariant_loop decreases_loop
 run_look_body_requires t c κs =
-    let at_kind = c.before in
+    let at_kind = c in
     let a = c.before.before.before.before.before.args in
     let L = c.before.before.loop-k in
     let on = run_goes t at_kind in
@@ -186,8 +186,8 @@ run_turned t c =
 
 run_returns_3 : (t : ℕ) → look-run-lts.Need-returns-in-Stop-turned (run_calls t) (look_run_at t) look-run.Post invariant_loop decreases_loop
 run_returns_3 t c =
-    let at_turned = c.before.before.before in
-    let at_kind = at_turned.before.before.before in
+    let at_turned = c.before in
+    let at_kind = at_turned.before.before in
     let a = c.before.before.before.before.before.before.before.before.args in
     let L = c.before.before.before.before.before.loop-k in
     let on = run_goes t at_kind in
@@ -198,14 +198,14 @@ run_returns_3 t c =
 
 run_loop_less : (t : ℕ) → look-run-lts.Need-loop-k-smaller (run_calls t) (look_run_at t) look-run.Post invariant_loop decreases_loop
 run_loop_less t c =
-    let at_turned = c.before.before.before in
-    let on = run_goes t at_turned.before.before.before in
+    let at_turned = c.before in
+    let on = run_goes t at_turned.before.before in
     omega (arith, on.begins, on.ordered, on.within)
 
 run_loop_again : (t : ℕ) → look-run-lts.Need-loop-k-preserved (run_calls t) (look_run_at t) look-run.Post invariant_loop decreases_loop
 run_loop_again t c =
-    let at_turned = c.before.before.before in
-    let at_kind = at_turned.before.before.before in
+    let at_turned = c.before in
+    let at_kind = at_turned.before.before in
     let a = c.before.before.before.before.before.before.before.before.args in
     let L = c.before.before.before.before.before.loop-k in
     let on = run_goes t at_kind in

@@ -33,7 +33,7 @@ module _ (c : tie.After-look_ahead) where
 -- a frame was found
 module _ (c : tie.In-Body) where
   abbrev ahead : tie.After-look_ahead
-  ahead = c.before.before
+  ahead = c.before
 
   abbrev met : tie.Start
   met = ahead.before.before.before
@@ -62,24 +62,24 @@ module _ (c : tie.In-Body) where
 
 look_body_requires : tie.Need-look_body-requires
 look_body_requires c κs =
-    let on = body_lies c.before.before in
+    let on = body_lies c.before in
     (on.ordered, omega (arith, on.within), omega arith, omega arith)
 
 returns : tie.Need-returns-in-Stop
 returns c =
-    let at_ahead = c.before.before.before in
+    let at_ahead = c.before in
     let a = c.before.before.before.before.args in
     seen_stopped a.version a.at _ _ (here at_ahead c.in-Stop.is) ∙ ap (seen_of a.version a.at) (same_end at_ahead)
 
 returns_2 : tie.Need-returns-in-End
 returns_2 c =
-    let at_ahead = c.before.before in
+    let at_ahead = c.before in
     let a = c.before.before.before.before.args in
     seen_ended a.version a.at _ (here at_ahead c.in-End.is) ∙ ap (seen_of a.version a.at) (same_end at_ahead)
 
 returns_3 : tie.Need-returns-in-Popularimeter
 returns_3 c =
-    let at_kind = c.before.before.before.before.before in
+    let at_kind = c.before.before.before in
     let a = (met at_kind).args in
     let odd = c.before.before.before.in-Body.odd in
     let b = slice (first at_kind) (next at_kind) a.s.now in
@@ -91,7 +91,7 @@ returns_3 c =
 
 returns_4 : tie.Need-returns-in_default
 returns_4 c =
-    let at_kind = c.before.before.before.before in
+    let at_kind = c.before.before.before in
     let a = (met at_kind).args in
     let odd = c.before.before.before.in-Body.odd in
     let b = slice (first at_kind) (next at_kind) a.s.now in

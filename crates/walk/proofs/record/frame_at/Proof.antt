@@ -48,16 +48,16 @@ returns_3 c =
     let a = c.before.before.before.before.before.before.before.before.before.before.before.before.args in
     frame_refused a.version a.in_work a.begin a.at a.end a.tag.now a.work.now c.before.before.before.before.before.before.before.before.before.source-s.result.now c.before.before.before.before.before.before.before.before.before.source-s.ensures
     (found c.before.before.before.before.before.before.before) c.before.before.before.before.before.before.shown_kind-kind.result c.before.before.before.before.before.is_resynced-resynced.result c.before.before.before.before.before.before.shown_kind-kind.ensures c.before.before.before.before.before.is_resynced-resynced.ensures
-    c.before.before.before.enter.new.0 c.in-Refused-enter.k
-    (ap {B = Entered × List ℕ} (λ (x : Entered). (x, c.before.before.before.enter.new.0)) (sym c.in-Refused-enter.is) ∙ c.before.before.before.enter.ensures)
+    c.before.before.before.enter.new.work c.in-Refused-enter.k
+    (ap {B = Entered × List ℕ} (λ (x : Entered). (x, c.before.before.before.enter.new.work)) (sym c.in-Refused-enter.is) ∙ c.before.before.before.enter.ensures)
 
 returns_4 : tie.Need-returns-in-Body
 returns_4 c =
     let a = c.before.before.before.before.before.before.before.before.before.before.before.before.before.before.before.args in
     frame_shown a.version a.in_work a.begin a.at a.end a.tag.now a.work.now c.before.before.before.before.before.before.before.before.before.before.before.before.source-s.result.now c.before.before.before.before.before.before.before.before.before.before.before.before.source-s.ensures
     (found c.before.before.before.before.before.before.before.before.before.before) c.before.before.before.before.before.before.before.before.before.shown_kind-kind.result c.before.before.before.before.before.before.before.before.is_resynced-resynced.result c.before.before.before.before.before.before.before.before.before.shown_kind-kind.ensures c.before.before.before.before.before.before.before.before.is_resynced-resynced.ensures
-    c.before.before.before.before.before.before.enter.new.0 c.before.before.before.in-Body.body c.before.before.before.in-Body.parts
-    (ap {B = Entered × List ℕ} (λ (x : Entered). (x, c.before.before.before.before.before.before.enter.new.0)) (sym c.before.before.before.in-Body.is) ∙ c.before.before.before.before.before.before.enter.ensures)
+    c.before.before.before.before.before.before.enter.new.work c.before.before.before.in-Body.body c.before.before.before.in-Body.parts
+    (ap {B = Entered × List ℕ} (λ (x : Entered). (x, c.before.before.before.before.before.before.enter.new.work)) (sym c.before.before.before.in-Body.is) ∙ c.before.before.before.before.before.before.enter.ensures)
     c.record_of-record.result c.before.beyond.result c.before.before.either-in_room.result c.before.beyond.ensures c.before.before.either-in_room.ensures c.record_of-record.ensures
 
 pub frame_at_spec : {M : Type 1} → statement M

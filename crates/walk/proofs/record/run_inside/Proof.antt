@@ -21,13 +21,13 @@ returns_3 : tie.Need-returns-then-resynced
 returns_3 c =
     let a = c.before.before.before.before.before.before.before.before.before.args in
     run_behind a.in_work a.resynced a.version a.run a.to a.tag.now a.work.now c.before.before.before.before.before.if-in_work.false c.before.before.before.before.if-resynced.true
-    (c.before.before.walk_in.result, c.before.before.walk_in.new.0) c.before.before.walk_in.ensures
+    (c.before.before.walk_in.result, c.before.before.walk_in.new.area) c.before.before.walk_in.ensures
 
 returns_4 : tie.Need-returns
 returns_4 c =
     let a = c.before.before.before.before.before.before.before.before.before.args in
     run_apart a.in_work a.resynced a.version a.run a.to a.tag.now a.work.now c.before.before.before.before.before.if-in_work.false c.before.before.before.before.if-resynced.false
-    (c.before.before.walk-2.result, c.before.before.walk-2.new.0) c.before.before.walk-2.ensures
+    (c.before.before.walk-2.result, c.before.before.walk-2.new.room) c.before.before.walk-2.ensures
 
 pub run_inside_spec : {M : Type 1} → statement M
 run_inside_spec =

@@ -85,11 +85,11 @@ body_in_enum_known_n t c = search rules
 
 body_in_sub_shown_in : (t : ℕ) → body-in-lts.Need-slice_bounds-shown_in-count (body_in_calls t) (body_in_at t) body_in_lem.Post
 body_in_sub_shown_in t c =
-    omega (arith, c.before.before.before.resync_in.auto.0)
+    omega (arith, c.before.before.before.resync_in.auto.area)
 
 body_in_part_shown_in_start : (t : ℕ) → body-in-lts.Need-slice_bounds-shown_in-start (body_in_calls t) (body_in_at t) body_in_lem.Post
 body_in_part_shown_in_start t c =
-    omega (arith, c.before.before.before.resync_in.auto.0)
+    omega (arith, c.before.before.before.resync_in.auto.area)
 
 body_in_part_shown_in_end : (t : ℕ) → body-in-lts.Need-slice_bounds-shown_in-end (body_in_calls t) (body_in_at t) body_in_lem.Post
 body_in_part_shown_in_end t c = omega arith
@@ -100,7 +100,7 @@ body_in_shown_in_requires t c κs =
     let b = slice a.from a.to a.area.now in
     let u = resynchronised b in
     let room = drop a.split a.area.now in
-    let a₁ = c.before.before.before.before.resync_in.new.0 in
+    let a₁ = c.before.before.before.before.resync_in.new.area in
     let put = in_area_lem a.from a.to a.split a.area.now c.before.before.before.before.before.before.before.before.requires.1.1 c.before.before.before.before.resync_in.result a₁ c.before.before.before.before.resync_in.ensures in
     let n = c.before.in-Bytes.n in
     let f = put_bytes u room n (sym put.0 ∙ c.before.in-Bytes.is) in
@@ -119,7 +119,7 @@ body_in_shown_in_requires_2 t c κs =
 
 body_in_same_length : (t : ℕ) → body-in-lts.Need-shape_of-area-in-Refused (body_in_calls t) (body_in_at t) body_in_lem.Post
 body_in_same_length t c =
-    c.before.before.before.resync_in.auto.0
+    c.before.before.before.resync_in.auto.area
 
 body_in_returns : (t : ℕ) → body-in-lts.Need-returns-in-Refused (body_in_calls t) (body_in_at t) body_in_lem.Post
 body_in_returns t c =
@@ -128,7 +128,7 @@ body_in_returns t c =
     let u = resynchronised b in
     let room = drop a.split a.area.now in
     let go = walked a.strict a.version (a.depth + 1) in
-    let a₁ = c.before.before.before.resync_in.new.0 in
+    let a₁ = c.before.before.before.resync_in.new.area in
     let put = in_area_lem a.from a.to a.split a.area.now c.before.before.before.before.before.before.before.requires.1.1 c.before.before.before.resync_in.result a₁ c.before.before.before.resync_in.ensures in
     let k = c.in-Refused.k in
     ap {B = Out} (λ (z : List ℕ). (k, z)) put.1
@@ -138,8 +138,8 @@ body_in_returns t c =
 body_in_same_length_2 : (t : ℕ) → body-in-lts.Need-shape_of-area-in-Bytes (body_in_calls t) (body_in_at t) body_in_lem.Post
 body_in_same_length_2 t c =
     let a = c.before.before.before.before.before.before.before.before.before.before.before.args in
-    let a₁ : List ℕ = c.before.before.before.before.before.before.before.resync_in.new.0 in
-    same_len_mid a.split (length a₁ - a.split) a₁ c.before.before.shown_in.new.0 c.before.before.shown_in.auto.0 ∙ c.before.before.before.before.before.before.before.resync_in.auto.0
+    let a₁ : List ℕ = c.before.before.before.before.before.before.before.resync_in.new.area in
+    same_len_mid a.split (length a₁ - a.split) a₁ c.before.before.shown_in.new.area c.before.before.shown_in.auto.area ∙ c.before.before.before.before.before.before.before.resync_in.auto.area
 
 body_in_returns_2 : (t : ℕ) → body-in-lts.Need-returns-in-Bytes (body_in_calls t) (body_in_at t) body_in_lem.Post
 body_in_returns_2 t c =
@@ -148,12 +148,12 @@ body_in_returns_2 t c =
     let u = resynchronised b in
     let room = drop a.split a.area.now in
     let go = walked a.strict a.version (a.depth + 1) in
-    let a₁ = c.before.before.before.before.before.before.before.resync_in.new.0 in
+    let a₁ = c.before.before.before.before.before.before.before.resync_in.new.area in
     let put = in_area_lem a.from a.to a.split a.area.now c.before.before.before.before.before.before.before.before.before.before.before.requires.1.1 c.before.before.before.before.before.before.before.resync_in.result a₁ c.before.before.before.before.before.before.before.resync_in.ensures in
     let n = c.before.before.before.before.in-Bytes.n in
     let f = put_bytes u room n (sym put.0 ∙ c.before.before.before.before.in-Bytes.is) in
     let r = c.before.before.shown_in.result in
-    let p' = c.before.before.shown_in.new.0 in
+    let p' = c.before.before.shown_in.new.area in
     let back = part_back a₁ a.area.now (into_of u room).1 p' a.split c.before.before.before.before.before.before.before.before.before.before.before.requires.1.2 put.1 in
     let e : ◌≡◌ {A = Out} (r, p') (resynced_of go a.kind u room) =
     c.before.before.shown_in.ensures
@@ -163,7 +163,7 @@ body_in_returns_2 t c =
     ∙ ap (behind (take a.split a.area.now)) (e ∙ as_resynced a.resynced go a.kind b room c.before.before.before.before.before.before.before.before.before.if-resynced.true)
 
 body_in_same_length_3 : (t : ℕ) → body-in-lts.Need-shape_of-area-else-resynced (body_in_calls t) (body_in_at t) body_in_lem.Post
-body_in_same_length_3 t c = c.before.before.shown_in-else-resynced.auto.0
+body_in_same_length_3 t c = c.before.before.shown_in-else-resynced.auto.area
 
 body_in_returns_3 : (t : ℕ) → body-in-lts.Need-returns-else-resynced (body_in_calls t) (body_in_at t) body_in_lem.Post
 body_in_returns_3 t c =
@@ -208,7 +208,7 @@ shown_in_returns t c =
     (looked_refused a.kind a.from b k go room (sym c.in-Refused.is ∙ c.before.look.ensures))
 
 shown_in_same_length_2 : (t : ℕ) → shown-in-lts.Need-shape_of-area-in-Run (shown_in_calls t) (shown_in_at t) shown-in.Post
-shown_in_same_length_2 t c = c.before.before.walk_in.auto.0
+shown_in_same_length_2 t c = c.before.before.walk_in.auto.area
 
 shown_in_returns_2 : (t : ℕ) → shown-in-lts.Need-returns-in-Run (shown_in_calls t) (shown_in_at t) shown-in.Post
 shown_in_returns_2 t c =
@@ -287,19 +287,19 @@ walk_in_body_in_requires : (t : ℕ) → walk-in-lts.Need-body_in-r-requires (wa
 walk_in_body_in_requires t c κs =
     let a = c.before.before.before.before.before.before.before.args in
     let L = c.before.before.before.loop-k in
-    let on = walk_in_onward t c.before.before in
+    let on = walk_in_onward t c.before in
     let m : 3 * (a.to - a.from) ≡ t = c.before.before.before.before.before.before.before.requires.0 in
     let less : 3 * (c.before.in-Body.stop - c.before.in-Body.start) + 2 < t = omega (arith, on.begins, on.ordered, on.within, L.invariant) in
     (less, (on.ordered, omega (arith, on.within, L.invariant), omega (arith, L.invariant), on.shallow))
 
 walk_in_same_length_2 : (t : ℕ) → walk-in-lts.Need-shape_of-area-then-r-ne0 (walk_in_calls t) (walk_in_at t) walk-in.Post walk_in_Inv_loop walk-in-μ-loop
 walk_in_same_length_2 t c =
-    c.before.before.before.body_in-r.auto.0 ∙ c.before.before.before.before.before.before.before.loop-k.invariant.4
+    c.before.before.before.body_in-r.auto.area ∙ c.before.before.before.before.before.before.before.loop-k.invariant.4
 
 walk_in_returns_2 : (t : ℕ) → walk-in-lts.Need-returns-then-r-ne0 (walk_in_calls t) (walk_in_at t) walk-in.Post walk_in_Inv_loop walk-in-μ-loop
 walk_in_returns_2 t c =
     let at_body_in = c.before.before.before in
-    let at_kind = at_body_in.before.before.before in
+    let at_kind = at_body_in.before.before in
     let a = c.before.before.before.before.before.before.before.before.before.before.before.args in
     let L = c.before.before.before.before.before.before.before.loop-k in
     let mid = c.before.before.before.before.before.before.before.before.before.least-mid.result in
@@ -307,19 +307,19 @@ walk_in_returns_2 t c =
     let on = walk_in_onward t at_kind in
     let hm : mid ≤ length L.area = omega (arith, L.invariant) in
     let o = body_of c.before.before.before.before.before.in-Body.resynced (walked a.strict a.version (a.depth + 1)) c.before.before.before.before.before.in-Body.kind (slice c.before.before.before.before.before.in-Body.start c.before.before.before.before.before.in-Body.stop L.area) (drop mid L.area) in
-    halt a.strict a.version a.depth L.at end mid c.before.before.before.before.before.in-Body.stop L.area c.before.before.before.body_in-r.new.0 c.before.before.before.body_in-r.result o hm L.invariant.1 (on.same (drop mid L.area)) c.before.before.before.body_in-r.ensures c.if-r-ne0.true ∙ L.invariant.5
+    halt a.strict a.version a.depth L.at end mid c.before.before.before.before.before.in-Body.stop L.area c.before.before.before.body_in-r.new.area c.before.before.before.body_in-r.result o hm L.invariant.1 (on.same (drop mid L.area)) c.before.before.before.body_in-r.ensures c.if-r-ne0.true ∙ L.invariant.5
 
 walk_in_loop_less : (t : ℕ) → walk-in-lts.Need-loop-k-smaller (walk_in_calls t) (walk_in_at t) walk-in.Post walk_in_Inv_loop walk-in-μ-loop
 walk_in_loop_less t c =
     let at_body_in = c.before.before.before in
-    let at_kind = at_body_in.before.before.before in
+    let at_kind = at_body_in.before.before in
     let on = walk_in_onward t at_kind in
     omega (arith, on.begins, on.ordered, on.within)
 
 walk_in_loop_again : (t : ℕ) → walk-in-lts.Need-loop-k-preserved (walk_in_calls t) (walk_in_at t) walk-in.Post walk_in_Inv_loop walk-in-μ-loop
 walk_in_loop_again t c =
     let at_body_in = c.before.before.before in
-    let at_kind = at_body_in.before.before.before in
+    let at_kind = at_body_in.before.before in
     let a = c.before.before.before.before.before.before.before.before.before.before.before.args in
     let L = c.before.before.before.before.before.before.before.loop-k in
     let mid = c.before.before.before.before.before.before.before.before.before.least-mid.result in
@@ -331,8 +331,8 @@ walk_in_loop_again t c =
       L.invariant.1,
       L.invariant.2,
       L.invariant.3,
-      c.before.before.before.body_in-r.auto.0 ∙ L.invariant.4,
-      go_on_lem a.strict a.version a.depth L.at end mid c.before.before.before.before.before.in-Body.stop L.area c.before.before.before.body_in-r.new.0 c.before.before.before.body_in-r.result o hm L.invariant.1 (on.same (drop mid L.area)) c.before.before.before.body_in-r.ensures c.if-r-ne0.false ∙ L.invariant.5,
+      c.before.before.before.body_in-r.auto.area ∙ L.invariant.4,
+      go_on_lem a.strict a.version a.depth L.at end mid c.before.before.before.before.before.in-Body.stop L.area c.before.before.before.body_in-r.new.area c.before.before.before.body_in-r.result o hm L.invariant.1 (on.same (drop mid L.area)) c.before.before.before.body_in-r.ensures c.if-r-ne0.false ∙ L.invariant.5,
     )
 
 pub +body_in_shown_in_walk_in_spec : {M : Type 1} → statement M

@@ -66,7 +66,7 @@ body_enum_known_k t c = search rules
 
 body_same_length : (t : ℕ) → body-lts.Need-shape_of-room-in-Refused (body_calls t) (body_at t) body.Post
 body_same_length t c =
-    c.before.before.before.resync_into.auto.0
+    c.before.before.before.resync_into.auto.room
 
 body_returns : (t : ℕ) → body-lts.Need-returns-in-Refused (body_calls t) (body_at t) body.Post
 body_returns t c =
@@ -76,7 +76,7 @@ body_returns t c =
     let go = walked a.strict a.version (a.depth + 1) in
     let u = resynchronised b in
     let e0 : c.before.before.before.resync_into.result ≡ (into_of u room).0 = ap (λ (o : Put × List ℕ). o.0) c.before.before.before.resync_into.ensures in
-    let e1 : c.before.before.before.resync_into.new.0 ≡ (into_of u room).1 = ap (λ (o : Put × List ℕ). o.1) c.before.before.before.resync_into.ensures in
+    let e1 : c.before.before.before.resync_into.new.room ≡ (into_of u room).1 = ap (λ (o : Put × List ℕ). o.1) c.before.before.before.resync_into.ensures in
     let k = c.in-Refused.k in
     ap {B = Out} (λ (z : List ℕ). (k, z)) e1
     ∙ sym (put_refused u room go a.kind k (sym e0 ∙ c.in-Refused.is))
@@ -92,13 +92,13 @@ body_shown_in_requires t c κs =
     let room = a.room.now in
     let u = resynchronised b in
     let e0 : c.before.before.before.before.resync_into.result ≡ (into_of u room).0 = ap (λ (o : Put × List ℕ). o.0) c.before.before.before.before.resync_into.ensures in
-    let e1 : c.before.before.before.before.resync_into.new.0 ≡ (into_of u room).1 = ap (λ (o : Put × List ℕ). o.1) c.before.before.before.before.resync_into.ensures in
+    let e1 : c.before.before.before.before.resync_into.new.room ≡ (into_of u room).1 = ap (λ (o : Put × List ℕ). o.1) c.before.before.before.before.resync_into.ensures in
     let f = put_bytes u room c.before.in-Bytes.n (sym e0 ∙ c.before.in-Bytes.is) in
     (omega arith, omega arith, omega (arith, fitted_room f, ap length e1), c.before.before.before.before.before.before.before.before.before.requires.1.2)
 
 body_same_length_2 : (t : ℕ) → body-lts.Need-shape_of-room-in-Bytes (body_calls t) (body_at t) body.Post
 body_same_length_2 t c =
-    c.before.before.shown_in.auto.0 ∙ c.before.before.before.before.before.before.before.resync_into.auto.0
+    c.before.before.shown_in.auto.area ∙ c.before.before.before.before.before.before.before.resync_into.auto.room
 
 body_returns_2 : (t : ℕ) → body-lts.Need-returns-in-Bytes (body_calls t) (body_at t) body.Post
 body_returns_2 t c =
@@ -108,7 +108,7 @@ body_returns_2 t c =
     let go = walked a.strict a.version (a.depth + 1) in
     let u = resynchronised b in
     let e0 : c.before.before.before.before.before.before.before.resync_into.result ≡ (into_of u room).0 = ap (λ (o : Put × List ℕ). o.0) c.before.before.before.before.before.before.before.resync_into.ensures in
-    let e1 : c.before.before.before.before.before.before.before.resync_into.new.0 ≡ (into_of u room).1 = ap (λ (o : Put × List ℕ). o.1) c.before.before.before.before.before.before.before.resync_into.ensures in
+    let e1 : c.before.before.before.before.before.before.before.resync_into.new.room ≡ (into_of u room).1 = ap (λ (o : Put × List ℕ). o.1) c.before.before.before.before.before.before.before.resync_into.ensures in
     let n = c.before.before.before.before.in-Bytes.n in
     let f = put_bytes u room n (sym e0 ∙ c.before.before.before.before.in-Bytes.is) in
     c.before.before.shown_in.ensures
@@ -149,7 +149,7 @@ body_returns_3 t c =
     ∙ as_stored a.resynced go a.kind b room c.before.before.if-resynced.false
 
 body_same_length_3 : (t : ℕ) → body-lts.Need-shape_of-room (body_calls t) (body_at t) body.Post
-body_same_length_3 t c = c.before.before.walk.auto.0
+body_same_length_3 t c = c.before.before.walk.auto.room
 
 body_returns_4 : (t : ℕ) → body-lts.Need-returns-in-Run (body_calls t) (body_at t) body.Post
 body_returns_4 t c =
@@ -213,50 +213,50 @@ walk_body_requires : (t : ℕ) → walk-lts.Need-body-r-requires (walk_calls t) 
 walk_body_requires t c κs =
     let a = c.before.before.before.before.before.before.before.args in
     let L = c.before.before.before.loop-k in
-    let on = walk_onward t c.before.before in
+    let on = walk_onward t c.before in
     let m : 2 * (a.to - a.from) ≡ t = c.before.before.before.before.before.before.before.requires.0 in
     let less : 2 * (c.before.in-Body.stop - c.before.in-Body.start) + 1 < t = omega (arith, on.begins, on.ordered, on.within, L.invariant) in
     (less, (on.ordered, omega (arith, on.within, L.invariant), on.shallow))
 
 walk_same_length_2 : (t : ℕ) → walk-lts.Need-shape_of-room-then-r-ne0 (walk_calls t) (walk_at t) walk.Post walk_Inv_loop walk-μ-loop
 walk_same_length_2 t c =
-    c.before.before.before.body-r.auto.0 ∙ c.before.before.before.before.before.before.before.loop-k.invariant.3
+    c.before.before.before.body-r.auto.room ∙ c.before.before.before.before.before.before.before.loop-k.invariant.3
 
 walk_returns_2 : (t : ℕ) → walk-lts.Need-returns-then-r-ne0 (walk_calls t) (walk_at t) walk.Post walk_Inv_loop walk-μ-loop
 walk_returns_2 t c =
     let at_body = c.before.before.before in
-    let at_kind = at_body.before.before.before in
+    let at_kind = at_body.before.before in
     let a = c.before.before.before.before.before.before.before.before.before.before.before.args in
     let L = c.before.before.before.before.before.before.before.loop-k in
     let end = c.before.before.before.before.before.before.before.before.least-end.result in
     let on = walk_onward t at_kind in
     let o = body_of c.before.before.before.before.before.in-Body.resynced (walked a.strict a.version (a.depth + 1)) c.before.before.before.before.before.in-Body.kind (slice c.before.before.before.before.before.in-Body.start c.before.before.before.before.before.in-Body.stop a.s.now) L.room in
     let rest = walked a.strict a.version a.depth (slice c.before.before.before.before.before.in-Body.stop end a.s.now) in
-    let e : ◌≡◌ {A = Out} (c.before.before.before.body-r.result, c.before.before.before.body-r.new.0) o = c.before.before.before.body-r.ensures in
+    let e : ◌≡◌ {A = Out} (c.before.before.before.body-r.result, c.before.before.before.body-r.new.room) o = c.before.before.before.body-r.ensures in
     e ∙ sym (on.same L.room ∙ then_halt o rest (λ z. c.if-r-ne0.true (ap (λ (p : Out). p.0) e ∙ z))) ∙ L.invariant.4
 
 walk_loop_less : (t : ℕ) → walk-lts.Need-loop-k-smaller (walk_calls t) (walk_at t) walk.Post walk_Inv_loop walk-μ-loop
 walk_loop_less t c =
     let at_body = c.before.before.before in
-    let at_kind = at_body.before.before.before in
+    let at_kind = at_body.before.before in
     let on = walk_onward t at_kind in
     omega (arith, on.begins, on.ordered, on.within)
 
 walk_loop_again : (t : ℕ) → walk-lts.Need-loop-k-preserved (walk_calls t) (walk_at t) walk.Post walk_Inv_loop walk-μ-loop
 walk_loop_again t c =
     let at_body = c.before.before.before in
-    let at_kind = at_body.before.before.before in
+    let at_kind = at_body.before.before in
     let a = c.before.before.before.before.before.before.before.before.before.before.before.args in
     let L = c.before.before.before.before.before.before.before.loop-k in
     let end = c.before.before.before.before.before.before.before.before.least-end.result in
     let on = walk_onward t at_kind in
     let o = body_of c.before.before.before.before.before.in-Body.resynced (walked a.strict a.version (a.depth + 1)) c.before.before.before.before.before.in-Body.kind (slice c.before.before.before.before.before.in-Body.start c.before.before.before.before.before.in-Body.stop a.s.now) L.room in
     let rest = walked a.strict a.version a.depth (slice c.before.before.before.before.before.in-Body.stop end a.s.now) in
-    let e : ◌≡◌ {A = Out} (c.before.before.before.body-r.result, c.before.before.before.body-r.new.0) o = c.before.before.before.body-r.ensures in (
+    let e : ◌≡◌ {A = Out} (c.before.before.before.body-r.result, c.before.before.before.body-r.new.room) o = c.before.before.before.body-r.ensures in (
       omega (arith, on.begins, on.ordered, L.invariant.0),
       L.invariant.1,
       L.invariant.2,
-      c.before.before.before.body-r.auto.0 ∙ L.invariant.3,
+      c.before.before.before.body-r.auto.room ∙ L.invariant.3,
       ap rest (ap (λ (p : Out). p.1) e) ∙ sym (on.same L.room ∙ then_on o rest (sym (ap (λ (p : Out). p.0) e) ∙ c.if-r-ne0.false)) ∙ L.invariant.4,
     )
 
