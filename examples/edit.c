@@ -2,7 +2,7 @@
  * Sets the title in the tag at the front of a file, in place: it is replaced where there is one, added where there is none,
  * and removed where none is given. rust/examples/edit.rs is the same in Rust.
  *
- *     rt staticlib capi
+ *     tools/library
  *     cc -std=c99 -Iinclude examples/edit.c target/staticlib/libcapi.a -o edit
  *     ./edit FILE [TITLE]
  *

@@ -2,7 +2,7 @@
  * Prints the user and the counter of each popularimeter in a tag, from a file or from standard input, and why counters may
  * be missing. Then writes a small tag, and reads it back in the same way. rust/examples/minutes.rs is the same in Rust.
  *
- *     rt staticlib capi
+ *     tools/library
  *     cc -std=c99 -Iinclude examples/minutes.c target/staticlib/libcapi.a -o minutes
  *     ./minutes FILE
  *

@@ -2,7 +2,7 @@
  * Raises the counter of a user in the tag at the front of a file, in place. rust/examples/raise.rs is the same in Rust; the
  * program streamvault does it with more care for files that change meanwhile.
  *
- *     rt staticlib capi
+ *     tools/library
  *     cc -std=c99 -Iinclude examples/raise.c target/staticlib/libcapi.a -o raise
  *     ./raise USER AMOUNT FILE
  *

@@ -2,7 +2,7 @@
  * Writes a tag to a file: a title, a popularimeter, a lookup table, a chapter with a title of its own, and a table of
  * contents. rust/examples/write.rs is the same in Rust.
  *
- *     rt staticlib capi
+ *     tools/library
  *     cc -std=c99 -Iinclude examples/write.c target/staticlib/libcapi.a -o write
  *     ./write FILE
  *

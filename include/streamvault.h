@@ -1,7 +1,7 @@
 /*
  * Streamvault: reads and writes ID3v2 tags (2.2, 2.3 and 2.4).
  *
- * Link the static library, target/staticlib/libcapi.a (`rt staticlib capi`). It is for x86-64 Linux, and needs memcpy,
+ * Link the static library, target/staticlib/libcapi.a (`tools/library`). It is for x86-64 Linux, and needs memcpy,
  * memmove and memset from the C library and nothing else. It allocates nothing, keeps nothing between calls and calls
  * nothing back, so any thread may use it.
  *

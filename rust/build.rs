@@ -1,7 +1,7 @@
 //! Finds or builds the static library, and links it.
 //!
-//! In this order: the folder that `STREAMVAULT_LIB_DIR` names; `rt staticlib capi`, where `rt` is on the path; the archive
-//! that an earlier `rt staticlib capi` left in the repository.
+//! In this order: the folder that `STREAMVAULT_LIB_DIR` names; `tools/library`, where `rt` is on the path; the archive
+//! that an earlier `tools/library` left in the repository.
 
 use std::env;
 use std::fs;
@@ -47,16 +47,31 @@ fn archive() -> PathBuf {
     let root = Path::new(&variable("CARGO_MANIFEST_DIR")).join("..");
     let left = root.join("target/staticlib").join(ARCHIVE);
     if on_path("rt") && root.join("crates.txt").is_file() {
-        println!("cargo:rerun-if-changed={}", root.join("crates").display());
-        println!("cargo:rerun-if-changed={}", root.join("crates.txt").display());
+        rerun_if_changed(&root);
         prove(&root);
-        return given(left, "rt staticlib capi left none");
+        return given(left, "tools/library left none");
     }
     println!("cargo:rerun-if-changed={}", left.display());
     given(
         left,
         "to build it takes rt on the path and the repository around this package. STREAMVAULT_LIB_DIR can name a folder that has it",
     )
+}
+
+/// The build is done anew where a source, a definition or a proof changed; what `rt` keeps in `out` beside them does not count.
+fn rerun_if_changed(root: &Path) {
+    println!("cargo:rerun-if-changed={}", root.join("crates.txt").display());
+    let Ok(crates) = fs::read_dir(root.join("crates")) else {
+        fail("the repository has no crates/");
+    };
+    for folder in crates.flatten() {
+        for part in ["src", "specs", "proofs"] {
+            let part = folder.path().join(part);
+            if part.is_dir() {
+                println!("cargo:rerun-if-changed={}", part.display());
+            }
+        }
+    }
 }
 
 /// The archive, if it is there.
@@ -69,15 +84,15 @@ fn given(path: PathBuf, otherwise: &str) -> PathBuf {
 
 /// Proves the exported functions and writes the archive.
 fn prove(root: &Path) {
-    let done = Command::new("rt").args(["staticlib", "capi"]).current_dir(root).output();
+    let done = Command::new(root.join("tools/library")).output();
     match done {
         Ok(output) if output.status.success() => {}
         Ok(output) => {
             eprint!("{}", String::from_utf8_lossy(&output.stdout));
             eprint!("{}", String::from_utf8_lossy(&output.stderr));
-            fail("`rt staticlib capi` did not prove the library");
+            fail("`tools/library` did not prove the library");
         }
-        Err(error) => fail(&format!("rt cannot be run: {error}")),
+        Err(error) => fail(&format!("tools/library cannot be run: {error}")),
     }
 }
 

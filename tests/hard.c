@@ -2,7 +2,7 @@
  * Hard use of the C interface, for valgrind and sanitizers: every buffer is a block of its own, as long as it is said to be,
  * so that a read or a write outside it is seen.
  *
- *     rt staticlib capi
+ *     tools/library
  *     cc -std=c99 -g -Iinclude tests/hard.c target/staticlib/libcapi.a -o hard
  *     valgrind --error-exitcode=1 ./hard 100000
  *

@@ -30,9 +30,10 @@ fn header() -> String {
     header.split_once("/*\n * ---- conveniences\n").expect("conveniences").0.to_string()
 }
 
-/// Every file of the exporting crate's source, one after another.
+/// Every file of the exporting crate's source and of the library's below it, one after another.
 fn source() -> String {
     let mut out = String::new();
+    gather(&root().join("crates/capi_c/src"), &mut out);
     gather(&root().join("crates/capi/src"), &mut out);
     out
 }
@@ -74,11 +75,11 @@ fn named(parameter: &str) -> (String, String) {
     (name.trim().to_string(), kind.trim().to_string())
 }
 
-/// The functions marked `#[no_mangle] pub extern "C"`. A slice is a pointer and a count.
+/// The functions marked `#[unsafe(no_mangle)] pub extern "C"`. A slice is a pointer and a count.
 fn exported(source: &str) -> Functions {
     let source = plain(source);
     let mut functions = Functions::new();
-    for item in source.split("#[no_mangle] ").skip(1) {
+    for item in source.split("#[unsafe(no_mangle)] ").skip(1) {
         let item = item.strip_prefix("pub extern \"C\" fn ").expect("an exported function is pub extern \"C\"");
         let (name, _) = item.split_once('(').unwrap();
         let (list, after) = between(item, "(", ")");
