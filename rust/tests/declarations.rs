@@ -288,7 +288,7 @@ fn refusals(sys: &str) -> Vec<String> {
 #[test]
 fn a_parameter_that_differs_is_seen() {
     let source = "
-        #[no_mangle]
+        #[unsafe(no_mangle)]
         pub extern \"C\" fn sv_a(tag: &[u8], n: u64, out: &mut [u64]) -> u32
             ensures { λ r. ⌜ r ≡ 0 ⌝ } // (a comment)
         { 0 }
