@@ -1,5 +1,7 @@
 // One frame of a metered tag: its header in the three editions, and what its body holds, by its kind. What the
 // answers mean stands in specs/.
+#![tactic(auto)]
+
 pub mod body;
 pub mod chapter;
 mod fields;

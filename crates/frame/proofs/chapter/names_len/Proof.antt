@@ -1,6 +1,5 @@
 -- `frame::chapter::names_len` meets its contract: the bytes passed, and those that the names left take from i on, are those that all names take. Assumes nothing.
 use mathlib.Core.Path.{◌≡◌}
-use mathlib.Core.Logic.{⊎_elim}
 use Prim.Native.Nat.{◌+◌, ◌-◌, ◌≤◌}
 use native.Mathlib.Omega.{arith}
 use borrow.Author.Rules.{rules}
@@ -8,6 +7,7 @@ use lib.ListN.{length, drop, length-drop}
 use Rattle.format.specs.Bytes.{zeros_in}
 use Rattle.format.specs.Chapter.{names_len}
 use Rattle.frame.proofs.Children.{name_closed, name_goes_on, no_zeros, no_names, names_there, names_missing}
+use Rattle.frame.proofs.chapter.names_len.Lts.{then-s-i-eq0, else-s-i-eq0}
 use Rattle.frame.proofs.chapter.names_len.Statement.{statement}
 use Rattle.frame.proofs.chapter.names_len.Tie as tie
 
@@ -31,10 +31,10 @@ loop_again c =
     let L = c.before.before.before.before.loop-left in
     let lt = c.before.before.if-i-s.false in
     let some = c.before.before.before.loop-left-test.true in
-    ⊎_elim
-    (λ w. rw w.1 (omega (arith, name_closed s L.i lt L.left some w.0.taken)))
-    (λ w. rw w.1 (omega (arith, name_goes_on s L.i lt L.left some w.0.left)))
-    c.if-s-i-eq0.branch
+    elim c.if-s-i-eq0.branch [
+      | then-s-i-eq0 w ↦ rw w.left-is (omega (arith, name_closed s L.i lt L.left some w.if-s-i-eq0.true))
+      | else-s-i-eq0 w ↦ rw w.left-is (omega (arith, name_goes_on s L.i lt L.left some w.if-s-i-eq0.false))
+    ]
 
 returns_2 : tie.Need-returns invariant_loop decreases_loop
 returns_2 c =

@@ -9,7 +9,7 @@ use Rattle.frame.proofs.chapter.parse_chapter.Statement.{statement}
 use Rattle.frame.proofs.chapter.parse_chapter.Tie as tie
 
 add_run : tie.Need-overflow_add-run
-add_run c = omega (arith, zero_le c.before.part-b.result.now, c.before.part-b.type-inv)
+add_run c = omega (arith, zero_le c.before.part-b.result.now, c.before.part-b.type_inv)
 
 returns : tie.Need-returns-then-b-run
 returns c v =

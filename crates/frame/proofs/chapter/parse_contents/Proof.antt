@@ -18,7 +18,7 @@ use Rattle.frame.proofs.chapter.parse_contents.Statement.{statement}
 use Rattle.frame.proofs.chapter.parse_contents.Tie as tie
 
 add_at : tie.Need-overflow_add-at
-add_at c = omega (arith, zero_le c.before.part-b.result.now, c.before.part-b.type-inv)
+add_at c = omega (arith, zero_le c.before.part-b.result.now, c.before.part-b.type_inv)
 
 returns : tie.Need-returns-then-b-at
 returns c v =
@@ -40,7 +40,7 @@ returns_2 c v =
 -- where the names are there
 module _ (c : tie.In-Whole) where
   abbrev at_if1 : tie.Else-b-at
-  at_if1 = let at_Names = c.before.before.before.before in at_Names.before.before.before
+  at_if1 = c.before.before.before.before.before
 
   abbrev b : List ℕ
   b = at_if1.before.before.part-b.result.now
@@ -49,23 +49,23 @@ module _ (c : tie.In-Whole) where
   len = at_if1.before.zero_at-len.result
 
   abbrev names : List ℕ
-  names = c.before.before.before.before.part.result.now
+  names = c.before.before.part.result.now
 
   abbrev n : ℕ
-  n = c.before.in-Whole.n
+  n = c.in-Whole.n
 
   answer : (leb (get_or b (len + 2) 0) (zeros_in names) ≡ true) × (n ≡ names_len (get_or b (len + 2) 0) names)
-  answer = names_whole (get_or b (len + 2) 0) names n (sym c.before.in-Whole.is ∙ c.before.before.before.names_len.ensures)
+  answer = names_whole (get_or b (len + 2) 0) names n (sym c.in-Whole.is ∙ c.before.names_len.ensures)
 
   within : len + 3 + n ≤ length b
   within =
       let z = at_if1.before.zero_at-len.ensures in
-      let reaches = at_if1.if-b-at.left in
-      contents_within b len z names c.before.before.before.before.part.ensures reaches (get_or b (len + 2) 0) n answer.1
+      let reaches = at_if1.if-b-at.false in
+      contents_within b len z names c.before.before.part.ensures reaches (get_or b (len + 2) 0) n answer.1
 
 add_run : tie.Need-overflow_add-run
 add_run c =
-    omega (arith, within c, c.before.before.before.before.before.before.before.part-b.type-inv)
+    omega (arith, within c, c.before.before.before.before.before.before.before.part-b.type_inv)
 
 add_first : tie.Need-overflow_add-first
 add_first c =

@@ -69,22 +69,22 @@ returns_3 c =
     refused_first (checked c.before) c.if-refusal-ne0.true ∙ ap (head_of a.version a.depth) c.before.before.before.before.before.before.part-b.ensures
 
 with_body_requires : tie.Need-with_body-requires
-with_body_requires c κs = passed c.before.before Version.Id3v22 c.in-Id3v22.is
+with_body_requires c κs = passed c.before Version.Id3v22 c.in-Id3v22.is
 
 with_body_requires_2 : tie.Need-with_body-requires-in-Id3v23
-with_body_requires_2 c κs = passed c.before.before Version.Id3v23 c.in-Id3v23.is
+with_body_requires_2 c κs = passed c.before Version.Id3v23 c.in-Id3v23.is
 
 with_body_requires_3 : tie.Need-with_body-requires-in-Id3v24
-with_body_requires_3 c κs = passed c.before.before Version.Id3v24 c.in-Id3v24.is
+with_body_requires_3 c κs = passed c.before Version.Id3v24 c.in-Id3v24.is
 
 returns_4 : tie.Need-returns-in-Id3v22
-returns_4 c = decoded c.before.before.before Version.Id3v22 c.before.in-Id3v22.is _ c.with_body.ensures
+returns_4 c = decoded c.before.before Version.Id3v22 c.before.in-Id3v22.is _ c.with_body.ensures
 
 returns_5 : tie.Need-returns-in-Id3v23
-returns_5 c = decoded c.before.before.before Version.Id3v23 c.before.in-Id3v23.is _ c.with_body-in-Id3v23.ensures
+returns_5 c = decoded c.before.before Version.Id3v23 c.before.in-Id3v23.is _ c.with_body-in-Id3v23.ensures
 
 returns_6 : tie.Need-returns-in-Id3v24
-returns_6 c = decoded c.before.before.before Version.Id3v24 c.before.in-Id3v24.is _ c.with_body-in-Id3v24.ensures
+returns_6 c = decoded c.before.before Version.Id3v24 c.before.in-Id3v24.is _ c.with_body-in-Id3v24.ensures
 
 pub decode_spec : {M : Type 1} → statement M
 decode_spec =

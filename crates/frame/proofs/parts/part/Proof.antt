@@ -9,7 +9,7 @@ returns c =
     let a = c.before.before.before.before.args in
     let end = c.before.before.least-end in
     let start = c.before.least-start in
-    part_cut a.from a.to start.result-1 end.result-1 a.s.now end.ensures start.ensures
+    part_cut a.from a.to start.result end.result a.s.now end.ensures start.ensures
 
 pub part_spec : {M : Type 1} → statement M
 part_spec =

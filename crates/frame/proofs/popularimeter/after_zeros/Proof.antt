@@ -22,24 +22,19 @@ sub_loop c = c.loop-i.invariant.order
 shared_slice_read_if1 : tie.Need-bounds-s-i invariant_loop decreases_loop
 shared_slice_read_if1 c = let p = c.before.before.before.requires in omega arith
 
-returns : tie.Need-returns-then-s-i-ne0 invariant_loop decreases_loop
-returns c =
-    let a = c.before.before.before.before.args in
-    let L = c.before.before.before.loop-i in
-    begins_large a.from a.to a.s.now c.before.before.before.before.requires.1 L.i L.invariant (omega arith) (λ zero. omega (arith, c.if-s-i-ne0.true))
-
 loop_again : tie.Need-loop-i-preserved invariant_loop decreases_loop
 loop_again c =
     let a = c.before.before.before.before.args in
     let L = c.before.before.before.loop-i in
-    skip a.from a.to a.s.now c.before.before.before.before.requires.1 L.i L.invariant (omega arith) (omega (arith, c.if-s-i-ne0.false))
+    skip a.from a.to a.s.now c.before.before.before.before.requires.1 L.i L.invariant (omega arith) (omega arith)
 
-returns_2 : tie.Need-returns invariant_loop decreases_loop
-returns_2 c =
+returns : tie.Need-returns invariant_loop decreases_loop
+returns c =
     let a = c.before.before.args in
     let L = c.before.loop-i in
     begins_last a.from a.to a.s.now c.before.before.requires.1 L.i L.invariant (omega arith)
 
+-- The early return is answered in the list, so that nothing here cites its condition by name: an edit of it is to fall at the goal.
 pub after_zeros_spec : {M : Type 1} → statement M
 after_zeros_spec =
     tie.close
@@ -49,8 +44,11 @@ after_zeros_spec =
     loop_holds
     sub_loop
     shared_slice_read_if1
-    returns
+    (λ c.
+    let a = c.before.before.before.before.args in
+    let L = c.before.before.before.loop-i in
+    begins_large a.from a.to a.s.now c.before.before.before.before.requires.1 L.i L.invariant (omega arith) (λ zero. omega arith))
     (λ c. search rules)
     (λ c. search rules)
     loop_again
-    returns_2)
+    returns)

@@ -15,7 +15,7 @@ use Rattle.frame.proofs.popularimeter.parse.Statement.{statement}
 use Rattle.frame.proofs.popularimeter.parse.Tie as tie
 
 add_if1 : tie.Need-overflow_add-len
-add_if1 c = omega (arith, zero_le c.before.part-b.result.now, c.before.part-b.type-inv)
+add_if1 c = omega (arith, zero_le c.before.part-b.result.now, c.before.part-b.type_inv)
 
 returns : tie.Need-returns-then-b-len
 returns c v =
@@ -79,7 +79,7 @@ returns_3 c v =
     counter_read (a.from + z.result + 2) (a.from + length b.result.now) c.before.before.before.after_zeros-first.result n.result a.s.now
     c.before.before.before.after_zeros-first.ensures (omega arith) n.ensures
     ∙ counter_in_lem c.before.before.before.before.before in
-    let fits : number (drop (z.result + 2) b.result.now) < 2 ^ 64 = omega (arith, counter, n.type-inv) in
+    let fits : number (drop (z.result + 2) b.result.now) < 2 ^ 64 = omega (arith, counter, n.type_inv) in
     accepted v Kind.Popularimeter a.from b.result.now _ b.ensures _
     (popularimeter_whole b.result.now z.result z.ensures rated fits)
     (popularimeter_parts b.result.now z.result z.ensures v a.from n.result c.nowhere-none.result counter c.nowhere-none.ensures)

@@ -39,7 +39,7 @@ returns_3 c =
     let n = c.before.before.before.before.before.count_in-n in
     let p = c.before.before.put_pairs in
     unpack_done a.v a.w b.result.now _ b.ensures a.out.now s.result d n.result n.ensures (omega arith)
-    c.before.before.before.before.if-n-out.false p.result p.new.0 p.ensures.0 p.ensures.1
+    c.before.before.before.before.if-n-out.false p.result p.new.out p.ensures.0 p.ensures.1
 
 pub unpack_spec : {M : Type 1} → statement M
 unpack_spec =
