@@ -1,4 +1,6 @@
 // One record written to a tag and read back, over lent buffers: what the calls ensure, put together.
+#![tactic(auto)]
+
 mod reading;
 mod writing;
 

@@ -1,5 +1,7 @@
-// The exported functions, for C and Rust: include/streamvault.h declares them. State and records lie in words that the
-// caller lends. What each call answers and leaves stands in specs/Calls.antt.
+// The functions that include/streamvault.h declares, for Rattle: capi_c exports them to C and Rust. State and records lie in
+// words that the caller lends. What each call answers and leaves stands in specs/Calls.antt.
+#![tactic(auto)]
+
 mod meters;
 mod places;
 mod records;
@@ -42,8 +44,7 @@ const END: u32 = 256;
 const NONE: u64 = 0;
 
 // Reads the header of a tag into four words: version, flags, size, ext.
-#[unsafe(no_mangle)]
-pub extern "C" fn sv_header(tag: &[u8], header: &mut [u64]) -> u32
+pub fn sv_header(tag: &[u8], header: &mut [u64]) -> u32
     ensures { (result, header.new) ≡ sv_header tag.now header.old }
 {
     if header.len() < places::HEADER_WORDS {
@@ -60,8 +61,7 @@ pub extern "C" fn sv_header(tag: &[u8], header: &mut [u64]) -> u32
 }
 
 // Opens a tag: the reader's words then say a reader at the first frame.
-#[unsafe(no_mangle)]
-pub extern "C" fn sv_open(tag: &[u8], work: &mut [u8], reader: &mut [u64]) -> u32
+pub fn sv_open(tag: &[u8], work: &mut [u8], reader: &mut [u64]) -> u32
     ensures { (result, work.new, reader.new) ≡ sv_open tag.now work.old reader.old }
 {
     if reader.len() < places::READER_WORDS {
@@ -78,13 +78,7 @@ pub extern "C" fn sv_open(tag: &[u8], work: &mut [u8], reader: &mut [u64]) -> u3
 }
 
 // Reads the next frame into the record's words. The reader's words then say the moved reader, or why it has stopped.
-#[unsafe(no_mangle)]
-pub extern "C" fn sv_step(
-    tag: &[u8],
-    work: &mut [u8],
-    reader: &mut [u64],
-    record: &mut [u64],
-) -> u32
+pub fn sv_step(tag: &[u8], work: &mut [u8], reader: &mut [u64], record: &mut [u64]) -> u32
     ensures { (result, work.new, reader.new, «record».new) ≡ sv_step tag.now work.old reader.old «record».old }
 {
     if (reader.len() < places::READER_WORDS) | (record.len() < places::RECORD_WORDS) {
@@ -113,8 +107,7 @@ pub extern "C" fn sv_step(
 }
 
 // Opens a tag for its counters alone: the meter's words then say a meter at the first frame.
-#[unsafe(no_mangle)]
-pub extern "C" fn sv_meter_open(tag: &[u8], work: &mut [u8], meter: &mut [u64]) -> u32
+pub fn sv_meter_open(tag: &[u8], work: &mut [u8], meter: &mut [u64]) -> u32
     ensures { (result, work.new, meter.new) ≡ sv_meter_open tag.now work.old meter.old }
 {
     if meter.len() < places::METER_WORDS {
@@ -132,13 +125,7 @@ pub extern "C" fn sv_meter_open(tag: &[u8], work: &mut [u8], meter: &mut [u64]) 
 
 // Goes on to the next whole popularimeter of the top level, into its words. The meter's words then say the moved meter, or
 // why it has stopped. Those of a meter that has stopped stay as they are.
-#[unsafe(no_mangle)]
-pub extern "C" fn sv_meter_next(
-    tag: &[u8],
-    work: &mut [u8],
-    meter: &mut [u64],
-    metered: &mut [u64],
-) -> u32
+pub fn sv_meter_next(tag: &[u8], work: &mut [u8], meter: &mut [u64], metered: &mut [u64]) -> u32
     ensures { (result, work.new, meter.new, metered.new) ≡ sv_meter_next tag.now work.old meter.old metered.old }
 {
     if (meter.len() < places::METER_WORDS) | (metered.len() < places::METERED_WORDS) {
@@ -171,8 +158,7 @@ fn store_raised(counter: &mut [u64], raised: Raised) -> u32
 
 // Adds an amount to the counter of a user's popularimeter, in the counter's bytes that are there. The word then says the new
 // counter. A refusal changes nothing.
-#[unsafe(no_mangle)]
-pub extern "C" fn sv_raise(tag: &mut [u8], user: &[u8], amount: u64, counter: &mut [u64]) -> u32
+pub fn sv_raise(tag: &mut [u8], user: &[u8], amount: u64, counter: &mut [u64]) -> u32
     ensures { (result, tag.new, counter.new) ≡ sv_raise tag.old user.now amount counter.old }
 {
     if counter.len() < places::COUNTER_WORDS {
@@ -193,8 +179,7 @@ fn number_of(edited: Edited) -> u32
 }
 
 // Puts a record's frame in the place of the frame with this number. A refusal changes nothing.
-#[unsafe(no_mangle)]
-pub extern "C" fn sv_replace(
+pub fn sv_replace(
     tag: &mut [u8],
     number: u64,
     record: &[u64],
@@ -214,8 +199,7 @@ pub extern "C" fn sv_replace(
 }
 
 // Takes away the frame with this number. A refusal changes nothing.
-#[unsafe(no_mangle)]
-pub extern "C" fn sv_remove(tag: &mut [u8], number: u64) -> u32
+pub fn sv_remove(tag: &mut [u8], number: u64) -> u32
     ensures { (result, tag.new) ≡ sv_remove tag.old number }
 {
     let edited = edit::remove(tag, number as usize);
@@ -223,8 +207,7 @@ pub extern "C" fn sv_remove(tag: &mut [u8], number: u64) -> u32
 }
 
 // Puts a record's frame after the last. A refusal changes nothing.
-#[unsafe(no_mangle)]
-pub extern "C" fn sv_append(
+pub fn sv_append(
     tag: &mut [u8],
     record: &[u64],
     name: &[u8],
@@ -244,8 +227,7 @@ pub extern "C" fn sv_append(
 
 // Adds an amount to the counter of a user's popularimeter, in the counter's bytes that are there or, where these are too few,
 // in a frame that takes more room. The word then says the new counter. A refusal changes nothing.
-#[unsafe(no_mangle)]
-pub extern "C" fn sv_lift(tag: &mut [u8], user: &[u8], amount: u64, counter: &mut [u64]) -> u32
+pub fn sv_lift(tag: &mut [u8], user: &[u8], amount: u64, counter: &mut [u64]) -> u32
     ensures { (result, tag.new, counter.new) ≡ sv_lift tag.old user.now amount counter.old }
 {
     if counter.len() < places::COUNTER_WORDS {
@@ -270,8 +252,7 @@ fn store_begun(writer: &mut [u64], begun: Begun) -> u32
 }
 
 // Begins a writer: version 2, 3 or 4, mode 0 (off), 1 (crate) or 2 (standard), altered 0 or 1.
-#[unsafe(no_mangle)]
-pub extern "C" fn sv_begin(version: u64, mode: u64, altered: u64, writer: &mut [u64]) -> u32
+pub fn sv_begin(version: u64, mode: u64, altered: u64, writer: &mut [u64]) -> u32
     ensures { (result, writer.new) ≡ sv_begin version mode altered writer.old }
 {
     if writer.len() < places::WRITER_WORDS {
@@ -291,8 +272,7 @@ pub extern "C" fn sv_begin(version: u64, mode: u64, altered: u64, writer: &mut [
 }
 
 // Begins a writer of mode 0 (off), for a file that is not altered.
-#[unsafe(no_mangle)]
-pub extern "C" fn sv_begin_plain(version: u64, writer: &mut [u64]) -> u32
+pub fn sv_begin_plain(version: u64, writer: &mut [u64]) -> u32
     ensures { (result, writer.new) ≡ sv_begin_plain version writer.old }
 {
     if writer.len() < places::WRITER_WORDS {
@@ -306,8 +286,7 @@ pub extern "C" fn sv_begin_plain(version: u64, writer: &mut [u64]) -> u32
 }
 
 // Adds a record after the frames that the collecting buffer holds. The count is how many bytes it took there.
-#[unsafe(no_mangle)]
-pub extern "C" fn sv_add(
+pub fn sv_add(
     record: &[u64],
     name: &[u8],
     names: &[u8],
@@ -345,8 +324,7 @@ pub extern "C" fn sv_add(
 }
 
 // Finishes a tag: its header, the frames of the collecting buffer and the padding. The count is how many bytes these are.
-#[unsafe(no_mangle)]
-pub extern "C" fn sv_finish(
+pub fn sv_finish(
     padding: u64,
     buffer: &[u8],
     output: &mut [u8],
@@ -388,13 +366,7 @@ fn references(out: &mut [u32], fields: Fields, rest: &[u8]) -> Unpacked
 }
 
 // The deviations that the packed references of a table hold, two by two. The count is how many numbers these are.
-#[unsafe(no_mangle)]
-pub extern "C" fn sv_references(
-    record: &[u64],
-    rest: &[u8],
-    deviations: &mut [u32],
-    count: &mut [u64],
-) -> u32
+pub fn sv_references(record: &[u64], rest: &[u8], deviations: &mut [u32], count: &mut [u64]) -> u32
     ensures { (result, deviations.new, count.new) ≡ sv_references «record».now rest.now deviations.old count.old }
 {
     if (record.len() < places::RECORD_WORDS) | (count.len() < places::COUNT_WORDS) {

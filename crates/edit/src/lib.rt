@@ -1,5 +1,7 @@
 // One frame of the top level of a plain tag replaced, removed, or added after the last, in place: the header stays, and
 // padding shrinks or grows. What the answers mean stands in specs/.
+#![tactic(auto)]
+
 mod lifting;
 mod locating;
 

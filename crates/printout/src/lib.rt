@@ -1,4 +1,6 @@
 // The listing of a tag, line after line in a lent buffer. What the lines are stands in specs/Lines.antt.
+#![tactic(auto)]
+
 ghost use Rattle.std.specs.Prelude.{◌≡◌, ◌<◌, length};
 ghost use Rattle.lines.specs.Placed.{placed_of};
 ghost use Rattle.reader.specs.Reader.{header_of};

@@ -1,5 +1,7 @@
 // Raising a counter in place: found by its user among the popularimeters of the top level of a plain tag. What the answer
 // means stands in specs/.
+#![tactic(auto)]
+
 pub mod counter;
 pub mod frames;
 pub mod scanning;

@@ -60,6 +60,7 @@ fn append(
 impl Writer {
     // Adds a record as a frame: refused with nothing changed, skipped where an altered file loses it, or put after the frames there.
     // It also tells that the heading's numbers are of their types, which a caller cannot see inside an enum.
+    #[tactic(auto, using(crate::proofs::Adds::skipped))]
     pub fn add(
         self,
         buffer: &mut [u8],

@@ -1,4 +1,6 @@
 // Writing a metered tag: the writer's state and its answers. What they mean stands in specs/.
+#![tactic(auto)]
+
 mod add;
 pub mod begin;
 pub mod between;

@@ -22,30 +22,30 @@ slice_reshare_prefix_read_one : tie.Need-slice_bounds-read_one-end
 slice_reshare_prefix_read_one c =
     let a = (at_start c.before.before.before.before.before.before).args in
     let w = c.before.before.before.before.before.before.write_one-wrote.ensures in
-    tag_within a.version a.mode a.padding (given c.before.before.before.before.before.before) a.buffer-1.now a.output-1.now a.work-1.now w.0 c.before.in-Tag.is
+    tag_within a.version a.mode a.padding (given c.before.before.before.before.before.before) a.buffer.now a.output.now a.work.now w.0 c.before.in-Tag.is
 
 slice_aggregate_read_one : tie.Need-slice_bounds-read_one-end-in-Tag
 slice_aggregate_read_one c =
     let a = (at_start c.before.before.before.before.before.before).args in
-    sym (length-take-le _ c.before.before.before.before.before.before.write_one-wrote.new.1.0 (tag_within a.version a.mode a.padding (given c.before.before.before.before.before.before) a.buffer-1.now a.output-1.now a.work-1.now c.before.before.before.before.before.before.write_one-wrote.ensures.0 c.before.in-Tag.is))
+    sym (length-take-le _ c.before.before.before.before.before.before.write_one-wrote.new.output (tag_within a.version a.mode a.padding (given c.before.before.before.before.before.before) a.buffer.now a.output.now a.work.now c.before.before.before.before.before.before.write_one-wrote.ensures.0 c.before.in-Tag.is))
 
 returns : tie.Need-returns-in-One
 returns c =
     let a = (at_start c.before.before.before.before.before.before.before.before.before.before).args in
     let w = c.before.before.before.before.before.before.before.before.before.before.write_one-wrote.ensures in
-    back_read a.version a.mode a.padding (given c.before.before.before.before.before.before.before.before.before.before) a.buffer-1.now a.output-1.now a.work-1.now w.0 w.1 c.before.before.before.before.before.in-Tag.is c.in-One.is c.before.before.before.read_one-only.ensures
+    back_read a.version a.mode a.padding (given c.before.before.before.before.before.before.before.before.before.before) a.buffer.now a.output.now a.work.now w.0 w.1 c.before.before.before.before.before.in-Tag.is c.in-One.is c.before.before.before.read_one-only.ensures
 
 returns_2 : tie.Need-returns-in-Other
 returns_2 c =
     let a = (at_start c.before.before.before.before.before.before.before.before.before.before).args in
     let w = c.before.before.before.before.before.before.before.before.before.before.write_one-wrote.ensures in
-    back_read a.version a.mode a.padding (given c.before.before.before.before.before.before.before.before.before.before) a.buffer-1.now a.output-1.now a.work-1.now w.0 w.1 c.before.before.before.before.before.in-Tag.is c.in-Other.is c.before.before.before.read_one-only.ensures
+    back_read a.version a.mode a.padding (given c.before.before.before.before.before.before.before.before.before.before) a.buffer.now a.output.now a.work.now w.0 w.1 c.before.before.before.before.before.in-Tag.is c.in-Other.is c.before.before.before.read_one-only.ensures
 
 returns_3 : tie.Need-returns-in-Refused
 returns_3 c =
     let a = (at_start c.before.before.before.before.before).args in
     let w = c.before.before.before.before.before.write_one-wrote.ensures in
-    back_refused a.version a.mode a.padding (given c.before.before.before.before.before) a.buffer-1.now a.output-1.now a.work-1.now w.0 c.in-Refused.is
+    back_refused a.version a.mode a.padding (given c.before.before.before.before.before) a.buffer.now a.output.now a.work.now w.0 c.in-Refused.is
 
 pub there_and_back_spec : {M : Type 1} → statement M
 there_and_back_spec =

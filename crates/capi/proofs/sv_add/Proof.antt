@@ -16,26 +16,26 @@ use Rattle.capi.proofs.sv_add.Tie as tie
 abbrev given : tie.Else-record-writer → tie.Start
 given t = let known = t.before.before.before.before in let all_Known = known.before.before in all_Known.before.before.before
 
-room : (t : tie.Else-record-writer) → let a = (given t).args in (19 ≤ length a.«record».now) × ((4 ≤ length a.writer-1.now) × (1 ≤ length a.count.now))
-room t = let a = (given t).args in enough3 19 4 1 a.«record».now a.writer-1.now a.count.now t.if-record-writer.false
+room : (t : tie.Else-record-writer) → let a = (given t).args in (19 ≤ length a.«record».now) × ((4 ≤ length a.writer.now) × (1 ≤ length a.count.now))
+room t = let a = (given t).args in enough3 19 4 1 a.«record».now a.writer.now a.count.now t.if-record-writer.false
 
 -- ---- the writer has answered, and its answer picks the case
 
 abbrev at_heading : tie.After-slice_known-4-1 → tie.After-load_heading-given
-at_heading c = let at_good = c.before.before.before.before in at_good.before.before.before
+at_heading c = let at_good = c.before.before.before.before in at_good.before
 
 abbrev at_writer : tie.After-slice_known-4-1 → tie.After-load_writer-state
-at_writer c = (at_heading c).before.before.before.before
+at_writer c = (at_heading c).before.before
 
 abbrev at_words : tie.After-slice_known-4-1 → tie.Else-record-writer
-at_words c = (at_writer c).before.before
+at_words c = (at_writer c).before
 
 answer_picks : (c : tie.After-slice_known-4-1) {r : Added} → c.before.before.add-added.result ≡ r
-    → let a = (given (at_words c)).args in sv_add a.«record».now a.name.now a.names.now a.rest.now a.deviations.now a.buffer-1.now a.writer-1.now a.count.now ≡ after_add (r, c.before.before.add-added.new.1.0) a.writer-1.now a.count.now
+    → let a = (given (at_words c)).args in sv_add a.«record».now a.name.now a.names.now a.rest.now a.deviations.now a.buffer.now a.writer.now a.count.now ≡ after_add (r, c.before.before.add-added.new.buffer) a.writer.now a.count.now
 answer_picks c h =
-    let w = sym (at_writer c).load-writer.ensures ∙ (at_heading c).before.before.state.given.1 in
-    let g = sym (at_heading c).load-heading.ensures ∙ c.before.before.before.before.in-Good-given.is in
-    add_then _ _ _ _ _ _ _ _ (at_words c).if1.false w g c.before.before.add-added.ensures.0 h
+    let w = sym (at_writer c).load_writer-state.ensures ∙ (at_heading c).before.in-Good.is in
+    let g = sym (at_heading c).load_heading-given.ensures ∙ c.before.before.before.before.in-Good-given.is in
+    add_then _ _ _ _ _ _ _ _ (at_words c).if-record-writer.false w g c.before.before.add-added.ensures.0 h
 
 -- ---- the needs
 

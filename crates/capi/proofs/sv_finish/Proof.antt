@@ -22,15 +22,15 @@ room t = let a = (given t).args in enough2 4 1 a.writer.now a.count.now t.if-wri
 -- ---- the writer has answered, and its answer picks the case
 
 abbrev at_loaded : tie.After-slice_known-3-1 → tie.After-load_writer-state
-at_loaded c = let at_good = c.before.before.before.before in at_good.before.before.before
+at_loaded c = let at_good = c.before.before.before.before in at_good.before
 
 abbrev at_words : tie.After-slice_known-3-1 → tie.Else-writer-count
 at_words c = (at_loaded c).before
 
 answer_picks : (c : tie.After-slice_known-3-1) {r : Finished} → c.before.before.finish-finished.result ≡ r
-    → let a = (given (at_words c)).args in sv_finish a.padding a.buffer.now a.output-1.now a.writer.now a.count.now ≡ after_finish (r, c.before.before.finish-finished.new.1.0) a.count.now
+    → let a = (given (at_words c)).args in sv_finish a.padding a.buffer.now a.output.now a.writer.now a.count.now ≡ after_finish (r, c.before.before.finish-finished.new.output) a.count.now
 answer_picks c h =
-    finish_then _ _ _ _ _ (at_words c).if1.false (sym (at_loaded c).load-writer.ensures ∙ c.before.before.before.before.in-Good.is) c.before.before.finish-finished.ensures h
+    finish_then _ _ _ _ _ (at_words c).if-writer-count.false (sym (at_loaded c).load_writer-state.ensures ∙ c.before.before.before.before.in-Good.is) c.before.before.finish-finished.ensures h
 
 -- ---- the needs
 

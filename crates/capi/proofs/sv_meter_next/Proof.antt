@@ -21,14 +21,14 @@ use Rattle.capi.proofs.sv_meter_next.Tie as tie
 abbrev given : tie.Else-meter-metered → tie.Start
 given t = let all_Known = t.before.before.before in all_Known.before.before
 
-room : (t : tie.Else-meter-metered) → let a = (given t).args in (11 ≤ length a.meter-1.now) × (6 ≤ length a.metered-1.now)
-room t = let a = (given t).args in enough2 11 6 a.meter-1.now a.metered-1.now t.if-meter-metered.false
+room : (t : tie.Else-meter-metered) → let a = (given t).args in (11 ≤ length a.meter.now) × (6 ≤ length a.metered.now)
+room t = let a = (given t).args in enough2 11 6 a.meter.now a.metered.now t.if-meter-metered.false
 
 abbrev at_runs : tie.After-version_in-given → tie.Else-not-is_running
 at_runs c = c.before.before
 
 abbrev at_words : tie.After-version_in-given → tie.Else-meter-metered
-at_words c = (at_runs c).before.before.before
+at_words c = (at_runs c).before.before
 
 -- ---- the needs
 
@@ -51,7 +51,7 @@ slice_read_version_in c = let h = room c.before.before.before in omega (arith, h
 returns_3 : tie.Need-returns-in_default
 returns_3 c =
     let t = at_words c.before in
-    sym (next_unknown _ _ _ _ t.if-meter-metered.left (bad_version (word 0 (given t).args.meter.now) (sym c.before.version_in-given.ensures ∙ c.in_default.is)))
+    sym (next_unknown _ _ _ _ t.if-meter-metered.false (bad_version (word 0 (given t).args.meter.now) (sym c.before.version_in-given.ensures ∙ c.in_default.is)))
 
 running_requires : tie.Need-running-requires
 running_requires c κs = (room (at_words c.before)).0
@@ -65,10 +65,10 @@ returns_4 : tie.Need-returns
 returns_4 c =
     let t = at_words c.before.before.before.before.before.before.before.before.before.before.before.before.before in
     let a = (given t).args in
-    let v = good_version (word 0 a.meter-1.now) (sym c.before.before.before.before.before.before.before.before.before.before.before.before.before.version_in-given.ensures ∙ c.before.before.before.before.before.before.before.before.before.before.before.before.in-Good.is) in
-    let m = c.before.before.before.before.before.before.before.before.before.before.before.running.ensures ∙ ap (λ (z : Version). meter_with z Stop.running a.meter-1.now) v.1 in
-    let n = c.before.before.before.before.before.before.before.before.before.next-next.ensures ∙ ap (λ (z : Meter). next_of z a.tag.now a.work-1.now) m in
-    next_then _ _ _ _ t.if-meter-metered.left v.0 (sym (at_runs c.before.before.before.before.before.before.before.before.before.before.before.before.before).before.is-running.ensures ∙ not-false _ (at_runs c.before.before.before.before.before.before.before.before.before.before.before.before.before).if2.false) n c.before.before.before.before.answered.ensures
+    let v = good_version (word 0 a.meter.now) (sym c.before.before.before.before.before.before.before.before.before.before.before.before.before.version_in-given.ensures ∙ c.before.before.before.before.before.before.before.before.before.before.before.before.in-Good.is) in
+    let m = c.before.before.before.before.before.before.before.before.before.before.before.running.ensures ∙ ap (λ (z : Version). meter_with z Stop.Running a.meter.now) v.1 in
+    let n = c.before.before.before.before.before.before.before.before.before.next-next.ensures ∙ ap (λ (z : Meter). next_of z a.tag.now a.work.now) m in
+    next_then _ _ _ _ t.if-meter-metered.false v.0 (sym (at_runs c.before.before.before.before.before.before.before.before.before.before.before.before.before).before.is_running.ensures ∙ not-false _ (at_runs c.before.before.before.before.before.before.before.before.before.before.before.before.before).if-not-is_running.false-raw) n c.before.before.before.before.answered.ensures
 
 pub sv_meter_next_spec : {M : Type 1} → statement M
 sv_meter_next_spec =

@@ -22,15 +22,15 @@ room t = let a = (given t).args in enough2 19 1 a.«record».now a.count.now t.i
 -- ---- the references are put, and the answer picks the case
 
 abbrev at_loaded : tie.After-slice_known-3-1 → tie.After-load_heading-given
-at_loaded c = let at_good = c.before.before.before.before in at_good.before.before.before
+at_loaded c = let at_good = c.before.before.before.before in at_good.before
 
 abbrev at_words : tie.After-slice_known-3-1 → tie.Else-record-count
 at_words c = (at_loaded c).before
 
 answer_picks : (c : tie.After-slice_known-3-1) {o : Unpacked} → c.before.before.references-put.result ≡ o
-    → let a = (given (at_words c)).args in sv_references a.«record».now a.rest.now a.deviations-1.now a.count.now ≡ after_unpack (o, c.before.before.references-put.new.0) a.count.now
+    → let a = (given (at_words c)).args in sv_references a.«record».now a.rest.now a.deviations.now a.count.now ≡ after_unpack (o, c.before.before.references-put.new.out) a.count.now
 answer_picks c h =
-    references_then _ _ _ _ (at_words c).if1.false (sym (at_loaded c).load-heading.ensures ∙ c.before.before.before.before.in-Good.is) c.before.before.references-put.ensures h
+    references_then _ _ _ _ (at_words c).if-record-count.false (sym (at_loaded c).load_heading-given.ensures ∙ c.before.before.before.before.in-Good.is) c.before.before.references-put.ensures h
 
 -- ---- the needs
 

@@ -15,21 +15,21 @@ use Rattle.capi.proofs.sv_step.Tie as tie
 abbrev given : tie.Else-reader-record → tie.Start
 given t = let all_Known = t.before.before.before in all_Known.before.before
 
-room : (t : tie.Else-reader-record) → let a = (given t).args in (7 ≤ length a.reader-1.now) × (19 ≤ length a.«record».now)
-room t = let a = (given t).args in enough2 7 19 a.reader-1.now a.«record».now t.if-reader-record.false
+room : (t : tie.Else-reader-record) → let a = (given t).args in (7 ≤ length a.reader.now) × (19 ≤ length a.«record».now)
+room t = let a = (given t).args in enough2 7 19 a.reader.now a.«record».now t.if-reader-record.false
 
 -- ---- the reader has made its step, whose answer picks the case
 
 abbrev at_loaded : tie.After-slice_known-4-1 → tie.After-load_reader-given
-at_loaded c = let at_good = c.before.before.before.before in at_good.before.before.before
+at_loaded c = let at_good = c.before.before.before.before in at_good.before
 
 abbrev at_words : tie.After-slice_known-4-1 → tie.Else-reader-record
-at_words c = (at_loaded c).before.before
+at_words c = (at_loaded c).before
 
 answer_picks : (c : tie.After-slice_known-4-1) {s : Step} → c.before.before.step-step.result ≡ s
-    → let a = (given (at_words c)).args in sv_step a.tag.now a.work-1.now a.reader-1.now a.«record».now ≡ after_step (s, c.before.before.step-step.new.1.0) a.reader-1.now a.«record».now
+    → let a = (given (at_words c)).args in sv_step a.tag.now a.work.now a.reader.now a.«record».now ≡ after_step (s, c.before.before.step-step.new.work) a.reader.now a.«record».now
 answer_picks c h =
-    step_then _ _ _ _ (at_words c).if1.false (sym (at_loaded c).load-reader.ensures ∙ c.before.before.before.before.in-Good.is) c.before.before.step-step.ensures h
+    step_then _ _ _ _ (at_words c).if-reader-record.false (sym (at_loaded c).load_reader-given.ensures ∙ c.before.before.before.before.in-Good.is) c.before.before.step-step.ensures h
 
 -- ---- the needs
 

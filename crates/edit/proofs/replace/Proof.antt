@@ -11,7 +11,7 @@ use Rattle.edit.proofs.replace.Statement.{statement}
 use Rattle.edit.proofs.replace.Tie as tie
 
 abbrev start : tie.After-locate-located → tie.Start
-start c = let known = c.before.before.before in known.before.before.before.before
+start c = let known = c.before.before.before in known.before.before.before
 
 -- the numbers that were given are of their types
 fits : (s : tie.Start) → let a = s.args in Fits (content_of a.heading.fields a.name.now a.names.now a.rest.now a.deviations.now)

@@ -21,11 +21,11 @@ loop_holds c =
 
 same_length : tie.Need-shape_of-work-in-Done invariant_loop decreases_loop
 same_length c =
-    c.before.before.before.before.before.put_step.auto.0 ∙ c.before.before.before.before.before.before.before.before.before.loop-number.invariant.works
+    c.before.before.before.before.before.put_step.auto.work ∙ c.before.before.before.before.before.before.before.before.before.loop-number.invariant.works
 
 same_length_2 : tie.Need-shape_of-out-in-Done invariant_loop decreases_loop
 same_length_2 c =
-    c.before.before.before.before.before.put_step.auto.1.0 ∙ c.before.before.before.before.before.before.before.before.before.loop-number.invariant.outs
+    c.before.before.before.before.before.put_step.auto.out ∙ c.before.before.before.before.before.before.before.before.before.loop-number.invariant.outs
 
 returns : tie.Need-returns-in-Done invariant_loop decreases_loop
 returns c =
@@ -34,7 +34,7 @@ returns c =
 loop_again : tie.Need-loop-number-preserved invariant_loop decreases_loop
 loop_again c =
     let p = c.before.before.before.before.before.put_step in
-    again c.before.before.before.before.before.before.before.before.before.loop-number.invariant c.before.before.before.before.before.before.before.before.loop-number-test.true p.ensures p.auto.0 p.auto.1.0 c.in-On.is
+    again c.before.before.before.before.before.before.before.before.before.loop-number.invariant c.before.before.before.before.before.before.before.before.loop-number-test.true p.ensures p.auto.work p.auto.out c.in-On.is
 
 same_length_3 : tie.Need-shape_of-work invariant_loop decreases_loop
 same_length_3 c = c.before.loop-number.invariant.works

@@ -7,7 +7,7 @@ use Rattle.printout.proofs.put_line.Tie as tie
 returns : tie.Need-returns
 returns c =
     let a = c.before.before.before.before.before.before.before.before.before.before.before.before.args in
-    user_within a.version a.number a.r a.at a.out.now {o = c.before.before.frame_line.new.0} a.s.now c.before.before.before.before.before.before.least-from.ensures c.before.before.before.before.before.least.ensures c.before.before.frame_line.ensures
+    user_within a.version a.number a.r a.at a.out.now {o = c.before.before.frame_line.new.out} a.s.now c.before.before.before.before.before.before.least-from.ensures c.before.before.before.before.before.least.ensures c.before.before.frame_line.ensures
 
 pub put_line_spec : {M : Type 1} → statement M
 put_line_spec =

@@ -6,17 +6,13 @@ use Rattle.printout.proofs.put_step.Tie as tie
 
 returns : tie.Need-returns-in-Upto
 returns c =
-    let behind_put_record = c.before.before.before.before in
-    let behind_record = behind_put_record.before.before.before.before in
     let a = c.before.before.before.before.before.before.before.before.before.before.before.before.before.args in
-    turn_on a.reader a.number a.at a.tag.now a.work.now a.out.now c.before.before.before.before.before.before.before.before.step.ensures behind_record.before.«record».given.1 c.before.before.before.put_record.ensures c.in-Upto.is
+    turn_on a.reader a.number a.at a.tag.now a.work.now a.out.now c.before.before.before.before.before.before.before.before.step.ensures c.before.before.before.before.before.in-Frame.is c.before.before.before.put_record.ensures c.in-Upto.is
 
 returns_2 : tie.Need-returns-in-Full
 returns_2 c =
-    let at_put_record = c.before.before.before.before in
-    let at_record = at_put_record.before.before.before.before in
     let a = c.before.before.before.before.before.before.before.before.before.before.before.before.before.args in
-    full a.reader a.number a.at a.tag.now a.work.now a.out.now c.before.before.before.before.before.before.before.before.step.ensures at_record.«record».given.1 c.before.before.before.put_record.ensures c.in-Full.is
+    full a.reader a.number a.at a.tag.now a.work.now a.out.now c.before.before.before.before.before.before.before.before.step.ensures c.before.before.before.before.before.in-Frame.is c.before.before.before.put_record.ensures c.in-Full.is
 
 returns_3 : tie.Need-returns-in-End
 returns_3 c =

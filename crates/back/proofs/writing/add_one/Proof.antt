@@ -20,22 +20,22 @@ at_start c =
 -- what comes of what adding the record answered
 adds : (c : tie.After-add-added) {x : Added} → c.add-added.result ≡ x →
     let a = (at_start c).args in
-    let o = add_of a.writer (rec_of a.heading a.name.now a.names.now a.rest.now a.deviations.now) a.buffer-1.now in
-    on_added a.padding a.output-1.now x c.add-added.new.1.0 ≡ on_added a.padding a.output-1.now o.0 o.1
+    let o = add_of a.writer (rec_of a.heading a.name.now a.names.now a.rest.now a.deviations.now) a.buffer.now in
+    on_added a.padding a.output.now x c.add-added.new.buffer ≡ on_added a.padding a.output.now o.0 o.1
 adds c known =
     let a = (at_start c).args in
     let r = rec_of a.heading a.name.now a.names.now a.rest.now a.deviations.now in
-    answered (on_added a.padding a.output-1.now) {o = add_of a.writer r a.buffer-1.now} known c.add-added.ensures.0
+    answered (on_added a.padding a.output.now) {o = add_of a.writer r a.buffer.now} known c.add-added.ensures.0
 
 returns : tie.Need-returns-in-Done
 returns c =
-    let b = c.before.before.before.before.before.before.before.before.add-added.new.1.0 in
+    let b = c.before.before.before.before.before.before.before.before.add-added.new.buffer in
     let finishes = answered {C = Writing} (λ (f : Finished) (o : List ℕ). (wrote_as f, (b, o))) c.in-Done.is c.before.before.before.finish-finished.ensures in
     (finishes ∙ adds c.before.before.before.before.before.before.before.before c.before.before.before.before.before.in-Accepted.is, c.before.before.before.before.before.before.before.before.add-added.ensures.1)
 
 returns_2 : tie.Need-returns-in-Refused-finished
 returns_2 c =
-    let b = c.before.before.before.before.before.before.before.before.add-added.new.1.0 in
+    let b = c.before.before.before.before.before.before.before.before.add-added.new.buffer in
     let finishes = answered {C = Writing} (λ (f : Finished) (o : List ℕ). (wrote_as f, (b, o))) c.in-Refused-finished.is c.before.before.before.finish-finished.ensures in
     (finishes ∙ adds c.before.before.before.before.before.before.before.before c.before.before.before.before.before.in-Accepted.is, tt)
 

@@ -12,34 +12,34 @@ start c = c.before.before.before.before
 
 -- the raise, where it was refused with 44
 abbrev raised : tie.Else-k-ne-COUNTER_TOO_SHORT → tie.After-raise_at-raised
-raised c = let refused = c.before.before.before in refused.before.before.before
+raised c = c.before.before.before.before
 
 returns : tie.Need-returns-then-k-ne-COUNTER_TOO_SHORT
 returns c =
     let a = (start c.before.before.before.before).args in
-    lift_refused a.begin a.start a.stop a.counter a.last a.user.now a.amount a.tag-1.now c.before.before.before.before.raise_at-raised.ensures c.before.in-Refused.is c.if-k-ne-COUNTER_TOO_SHORT.true
+    lift_refused a.begin a.start a.stop a.counter a.last a.user.now a.amount a.tag.now c.before.before.before.before.raise_at-raised.ensures c.before.in-Refused.is c.if-k-ne-COUNTER_TOO_SHORT.true
 
-short : (c : tie.Else-k-ne-COUNTER_TOO_SHORT) → (raised c).raise-at.result ≡ Raised.Refused 44
+short : (c : tie.Else-k-ne-COUNTER_TOO_SHORT) → (raised c).raise_at-raised.result ≡ Raised.Refused 44
 short c = c.before.in-Refused.is ∙ ap Raised.Refused c.if-k-ne-COUNTER_TOO_SHORT.false
 
 add_outgrow : tie.Need-overflow_add-counter
 add_outgrow c =
     let at_raise = raised c.before in
     let a = (start at_raise).args in
-    let small = lift_small a.begin a.start a.stop a.counter a.last a.user.now a.amount a.tag-1.now at_raise.raise_at-raised.ensures (short c.before) in
+    let small = lift_small a.begin a.start a.stop a.counter a.last a.user.now a.amount a.tag.now at_raise.raise_at-raised.ensures (short c.before) in
     omega arith
 
 returns_2 : tie.Need-returns-in-Counts
 returns_2 c =
     let a = (start c.before.before.before).args in
-    lift_counts a.begin a.start a.stop a.counter a.last a.user.now a.amount a.tag-1.now c.before.before.before.raise_at-raised.ensures c.in-Counts.is
+    lift_counts a.begin a.start a.stop a.counter a.last a.user.now a.amount a.tag.now c.before.before.before.raise_at-raised.ensures c.in-Counts.is
 
 returns_3 : tie.Need-returns-else-k-ne-COUNTER_TOO_SHORT
 returns_3 c =
     let at_raise = raised c.before.before.before.before in
     let a = (start at_raise).args in
     c.before.before.outgrow.ensures
-    ∙ lift_grown a.begin a.start a.stop a.counter a.last a.user.now a.amount a.tag-1.now at_raise.raise_at-raised.ensures (short c.before.before.before.before)
+    ∙ lift_grown a.begin a.start a.stop a.counter a.last a.user.now a.amount a.tag.now at_raise.raise_at-raised.ensures (short c.before.before.before.before)
 
 pub lift_found_spec : {M : Type 1} → statement M
 lift_found_spec =

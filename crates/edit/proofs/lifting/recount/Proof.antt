@@ -11,16 +11,16 @@ use Rattle.edit.proofs.lifting.recount.Statement.{statement}
 use Rattle.edit.proofs.lifting.recount.Tie as tie
 
 abbrev start : tie.After-put_between-edited → tie.Start
-start c = let given = c.before.before.before.before in given.before.before.before.before
+start c = let given = c.before.before.before.before in given.before.before.before.before.before
 
 -- what the put comes to, with the id that the edition has
 placed : (c : tie.After-put_between-edited) → let a = (start c).args in
-    ◌≡◌ {A = Edit} (c.put_between-edited.result, c.put_between-edited.new.0)
-    (placed_of a.version a.gap (counted (meter_id a.version) a.user.now a.rating a.counter) a.tag-1.now)
+    ◌≡◌ {A = Edit} (c.put_between-edited.result, c.put_between-edited.new.buffer)
+    (placed_of a.version a.gap (counted (meter_id a.version) a.user.now a.rating a.counter) a.tag.now)
 placed c =
     let a = (start c).args in
     c.put_between-edited.ensures
-    ∙ ap {B = Edit} (λ (id : ℕ). placed_of a.version a.gap (counted id a.user.now a.rating a.counter) a.tag-1.now) c.before.before.before.before.before.before.meter_id.ensures
+    ∙ ap {B = Edit} (λ (id : ℕ). placed_of a.version a.gap (counted id a.user.now a.rating a.counter) a.tag.now) c.before.before.before.before.before.before.meter_id.ensures
 
 returns : tie.Need-returns-in-Done
 returns c =
@@ -35,7 +35,6 @@ recount_spec =
     tie.close
     (tie.spec
     (λ c κs. search rules)
-    (λ c. search rules)
     (λ c. search rules)
     (λ c. search rules)
     (λ c κs. search rules)

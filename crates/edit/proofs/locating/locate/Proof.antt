@@ -19,4 +19,4 @@ returns_2 c = told c.before c.in-Frames.is
 
 pub locate_spec : {M : Type 1} → statement M
 locate_spec =
-    tie.close (tie.spec (λ c. search rules) (λ c κs. search rules) (λ c. search rules) (λ c. search rules) returns returns_2)
+    tie.close (tie.spec (λ c κs. search rules) (λ c. search rules) (λ c. search rules) returns returns_2)

@@ -41,7 +41,7 @@ abbrev start : tie.After-look_at invariant_loop decreases_loop → tie.Start inv
 start c = (at_loop c).before.before.before
 
 seen : (c : tie.After-look_at invariant_loop decreases_loop) {x : Seen} → c.look_at.result ≡ x
-    → x ≡ seen_of (start c).args.version (at_loop c).loop.at (slice (at_loop c).loop.at (start c).args.end (start c).args.tag.now)
+    → x ≡ seen_of (start c).args.version (at_loop c).loop-k.at (slice (at_loop c).loop-k.at (start c).args.end (start c).args.tag.now)
 seen c e = sym e ∙ c.look_at.ensures
 
 loop_holds : tie.Need-loop-k-init invariant_loop decreases_loop
@@ -51,7 +51,7 @@ returns : tie.Need-returns-in-Stops invariant_loop decreases_loop
 unfolding scanned_in
 returns c =
     let a = (start c.before).args in
-    let L = (at_loop c.before).loop in
+    let L = (at_loop c.before).loop-k in
     look_stops Scanned.Refused a.version (slice a.begin a.end a.tag.now) a.oddly (slice L.at a.end a.tag.now) L.odd L.invariant.0 _
     _ (says_stops (says a.version L.at a.end a.tag.now (seen c.before c.in-Stops.is)))
 
@@ -59,7 +59,7 @@ returns_2 : tie.Need-returns-in-End invariant_loop decreases_loop
 unfolding scanned_in scanned_on
 returns_2 c =
     let a = (start c.before.before).args in
-    let L = (at_loop c.before.before).loop in
+    let L = (at_loop c.before.before).loop-k in
     let rest = slice L.at a.end a.tag.now in
     let ends = says_end (says a.version L.at a.end a.tag.now (seen c.before.before c.before.in-End.is)) in
     c.after_last.ensures
@@ -69,14 +69,14 @@ returns_2 c =
 -- a frame of another kind
 other : (c : tie.In-Frame invariant_loop decreases_loop)
     → let a = (start c.before).args in
-    MetOther a.version (at_loop c.before).loop.at a.end a.tag.now c.in-Frame.next c.in-Frame.itself
+    MetOther a.version (at_loop c.before).loop-k.at a.end a.tag.now c.in-Frame.next c.in-Frame.itself
 other c =
     let a = (start c.before).args in
-    says_other (says a.version (at_loop c.before).loop.at a.end a.tag.now (seen c.before c.in-Frame.is))
+    says_other (says a.version (at_loop c.before).loop-k.at a.end a.tag.now (seen c.before c.in-Frame.is))
 
 loop_less : tie.Need-loop-k-smaller-in-Frame invariant_loop decreases_loop
 loop_less c =
-    let le = (start c.before.before).pre in
+    let le = (start c.before.before).requires in
     let m = (other c.before).met in
     omega (arith, later le m, within le m)
 
@@ -84,7 +84,7 @@ loop_again : tie.Need-loop-k-preserved-in-Frame invariant_loop decreases_loop
 loop_again c =
     let a = (start c.before.before).args in
     let le = (start c.before.before).requires in
-    let L = (at_loop c.before.before).loop in
+    let L = (at_loop c.before.before).loop-k in
     let m = other c.before in
     let rest = blocks_in a.version (slice c.before.in-Frame.next a.end a.tag.now) in (
       look_again le m.met L.odd L.invariant.0,
@@ -101,30 +101,30 @@ loop_again c =
 -- a popularimeter
 meter : (c : tie.In-Popularimeter invariant_loop decreases_loop)
     → let a = (start c.before).args in
-    MetMeter a.version (at_loop c.before).loop.at a.end a.tag.now c.in-Popularimeter.next c.in-Popularimeter.itself c.in-Popularimeter.name c.in-Popularimeter.counter
+    MetMeter a.version (at_loop c.before).loop-k.at a.end a.tag.now c.in-Popularimeter.next c.in-Popularimeter.itself c.in-Popularimeter.name c.in-Popularimeter.counter
 meter c =
     let a = (start c.before).args in
-    says_meter (says a.version (at_loop c.before).loop.at a.end a.tag.now (seen c.before c.in-Popularimeter.is))
+    says_meter (says a.version (at_loop c.before).loop-k.at a.end a.tag.now (seen c.before c.in-Popularimeter.is))
 
 user_in_lem : (c : tie.After-struct_known-1 invariant_loop decreases_loop) → let name = c.before.in-Popularimeter.name in
     name.start + name.len ≤ (start c.before.before).args.end
 user_in_lem c =
-    let le = (start c.before.before).pre in
+    let le = (start c.before.before).requires in
     let m = meter c.before in
     omega (arith, user_fits le m, within le m.met)
 
 add_start : tie.Need-overflow_add-start invariant_loop decreases_loop
-add_start c = let s = start c.before.before in omega (arith, user_in_lem c, s.requires, s.fits)
+add_start c = let s = start c.before.before in omega (arith, user_in_lem c, s.requires, s.ranges)
 
 add_start_2 : tie.Need-overflow_add-start-in-Popularimeter invariant_loop decreases_loop
-add_start_2 c = let s = start c.before.before in omega (arith, user_in_lem c, s.requires, s.fits)
+add_start_2 c = let s = start c.before.before in omega (arith, user_in_lem c, s.requires, s.ranges)
 
 is_user_requires : tie.Need-is_user-mine-requires invariant_loop decreases_loop
 is_user_requires c κs = let s = start c.before.before in omega (arith, user_in_lem c, s.requires)
 
 loop_less_2 : tie.Need-loop-k-smaller invariant_loop decreases_loop
 loop_less_2 c =
-    let le = (start c.before.before.before.before.before).pre in
+    let le = (start c.before.before.before.before.before).requires in
     let m = (meter c.before.before.before.before).met in
     omega (arith, later le m, within le m)
 
@@ -132,7 +132,7 @@ loop_again_2 : tie.Need-loop-k-preserved invariant_loop decreases_loop
 loop_again_2 c =
     let a = (start c.before.before.before.before.before).args in
     let le = (start c.before.before.before.before.before).requires in
-    let L = (at_loop c.before.before.before.before.before).loop in
+    let L = (at_loop c.before.before.before.before.before).loop-k in
     let m = meter c.before.before.before.before in
     let v = a.version in
     let rest = blocks_in v (slice c.before.before.before.before.in-Popularimeter.next a.end a.tag.now) in (

@@ -13,12 +13,12 @@ start c = c.before.before.before
 returns : tie.Need-returns-then-is_too_long
 returns c =
     let a = (start c.before).args in
-    finish_long a.self a.padding a.buffer.now a.output-1.now (sym c.before.is_too_long.ensures ∙ c.if-is_too_long.true)
+    finish_long a.self a.padding a.buffer.now a.output.now (sym c.before.is_too_long.ensures ∙ c.if-is_too_long.true)
 
 returns_2 : tie.Need-returns-then-buffer-used
 returns_2 c =
     let a = (start c.before.before).args in
-    finish_missing a.self a.padding a.buffer.now a.output-1.now (sym c.before.before.is_too_long.ensures ∙ c.before.if-is_too_long.false) c.if-buffer-used.true
+    finish_missing a.self a.padding a.buffer.now a.output.now (sym c.before.before.is_too_long.ensures ∙ c.before.if-is_too_long.false) c.if-buffer-used.true
 
 put_tag_requires : tie.Need-put_tag-put-requires
 put_tag_requires c κs =
@@ -28,13 +28,13 @@ returns_3 : tie.Need-returns-in-Bytes
 returns_3 c =
     let a = (start c.before.before.before.before.before.before.before).args in
     let short = sym c.before.before.before.before.before.before.before.is_too_long.ensures ∙ c.before.before.before.before.before.before.if-is_too_long.false in
-    finish_done a.self a.padding a.buffer.now a.output-1.now short c.before.before.before.before.before.if-buffer-used.false c.before.before.before.put_tag-put.ensures c.in-Bytes.is
+    finish_done a.self a.padding a.buffer.now a.output.now short c.before.before.before.before.before.if-buffer-used.false c.before.before.before.put_tag-put.ensures c.in-Bytes.is
 
 returns_4 : tie.Need-returns-in-Refused
 returns_4 c =
     let a = (start c.before.before.before.before.before.before.before).args in
     let short = sym c.before.before.before.before.before.before.before.is_too_long.ensures ∙ c.before.before.before.before.before.before.if-is_too_long.false in
-    finish_full a.self a.padding a.buffer.now a.output-1.now short c.before.before.before.before.before.if-buffer-used.false c.before.before.before.put_tag-put.ensures c.in-Refused.is
+    finish_full a.self a.padding a.buffer.now a.output.now short c.before.before.before.before.before.if-buffer-used.false c.before.before.before.put_tag-put.ensures c.in-Refused.is
 
 pub finish_spec : {M : Type 1} → statement M
 finish_spec =

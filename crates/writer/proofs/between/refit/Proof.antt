@@ -43,7 +43,7 @@ add_if2 : tie.Need-overflow_add-gap
 add_if2 c =
     let s = start c.before.before.before.before in
     let o = places c.before.before.before in
-    omega (arith, o.low, o.middle, o.high, o.inside, s.fits)
+    omega (arith, o.low, o.middle, o.high, o.inside, s.ranges.size.fits)
 
 returns_2 : tie.Need-returns-then-gap-from
 returns_2 c =
@@ -55,7 +55,7 @@ add_shift : tie.Need-overflow_add-from
 add_shift c =
     let s = start c.before.before.before.before.before.before in
     let o = places c.before.before.before.before.before in
-    omega (arith, o.low, o.middle, o.high, o.inside, s.fits, c.before.if-gap-from.false)
+    omega (arith, o.low, o.middle, o.high, o.inside, s.ranges.size.fits, c.before.if-gap-from.false)
 
 put_frame_requires : tie.Need-put_frame-requires
 put_frame_requires c κs =

@@ -20,17 +20,17 @@ plan_of_requires c κs =
     few_names a.name.now a.names.now a.rest.now a.deviations.now a.fields c.before.before.before.before.requires
 
 slice_aggregate_measure_pieces : tie.Need-slice_bounds-measure_pieces-end
-slice_aggregate_measure_pieces c = sym (length-take-le _ _ c.before.plan_of-plan.ensures.name-fits)
+slice_aggregate_measure_pieces c = sym (length-take-le _ _ c.before.plan_of-plan.ensures.name_fits)
 
 slice_aggregate_measure_pieces_2 : tie.Need-slice_bounds-measure_pieces-end-2
-slice_aggregate_measure_pieces_2 c = sym (length-take-le _ _ c.before.before.plan_of-plan.ensures.small-fits)
+slice_aggregate_measure_pieces_2 c = sym (length-take-le _ _ c.before.before.plan_of-plan.ensures.small_fits)
 
 slice_aggregate_measure_pieces_3 : tie.Need-slice_bounds-measure_pieces-end-3
-slice_aggregate_measure_pieces_3 c = sym (length-take-le _ _ c.before.before.plan_of-plan.ensures.names-fit)
+slice_aggregate_measure_pieces_3 c = sym (length-take-le _ _ c.before.before.plan_of-plan.ensures.names_fit)
 
 slice_aggregate_measure_pieces_4 : tie.Need-slice_bounds-measure_pieces-end-4
 slice_aggregate_measure_pieces_4 c =
-    sym (length-take-le _ _ c.before.before.plan_of-plan.ensures.rest-fits)
+    sym (length-take-le _ _ c.before.before.plan_of-plan.ensures.rest_fits)
 
 measure_references_requires : tie.Need-measure_references-requires
 measure_references_requires c κs =
@@ -43,7 +43,7 @@ returns c =
     let a = (start c.before.before.before.before).args in
     let p = c.before.before.before.before.plan_of-plan in
     let r = p.result in
-    let front = take r.name a.name.now ++ (take r.len r.bytes-1 ++ (take r.names a.names.now ++ take r.rest a.rest.now)) in
+    let front = take r.name a.name.now ++ (take r.len r.bytes ++ (take r.names a.names.now ++ take r.rest a.rest.now)) in
     rw (p.ensures.body a.deviations.now)
     (then_sized a.mode a.pen front (packed_of a.fields a.deviations.now) c.before.measure_pieces-next.ensures c.measure_references.ensures)
 

@@ -29,7 +29,7 @@ lies c =
     rw c.used_of-used.ensures (used_lies a.fields (length a.name.now) (length a.names.now) (length a.rest.now))
 
 slice_aggregate_zeros_in : tie.Need-slice_bounds-zeros_in-end
-slice_aggregate_zeros_in c = sym (length-take-le _ _ (lies c).names-fit)
+slice_aggregate_zeros_in c = sym (length-take-le _ _ (lies c).names_fit)
 
 -- how many names there are, whatever the deviations
 children : (c : tie.After-zeros_in) (ds : List ℕ) → let a = (start c.before).args in

@@ -25,7 +25,7 @@ abbrev front : tie.After-plan_of-plan → List ℕ
 front c =
     let a = (start c).args in
     let r = c.plan_of-plan.result in
-    take r.name a.name.now ++ (take r.len r.bytes-1 ++ (take r.names a.names.now ++ take r.rest a.rest.now))
+    take r.name a.name.now ++ (take r.len r.bytes ++ (take r.names a.names.now ++ take r.rest a.rest.now))
 
 -- what is left to put, before them
 all_left : (c : tie.After-plan_of-plan) → let a = (start c).args in
@@ -37,10 +37,10 @@ all_left c =
 
 -- and after them
 abbrev planned : tie.After-put_pieces-next → tie.After-plan_of-plan
-planned c = let at_slices = c.before.before.before in at_slices.before.before.before.before
+planned c = c.before.before.before.before
 
 references_left : (c : tie.After-put_pieces-next) → let a = (start (planned c)).args in
-    Writing a.mode a.pen (body (start (planned c))) a.buffer.now c.put_pieces-next.result (packed_of a.fields a.deviations.now) c.put_pieces-next.new.0
+    Writing a.mode a.pen (body (start (planned c))) a.buffer.now c.put_pieces-next.result (packed_of a.fields a.deviations.now) c.put_pieces-next.new.buffer
 references_left c =
     let a = (start (planned c)).args in
     piece_put (front (planned c)) (packed_of a.fields a.deviations.now) (all_left (planned c)) c.put_pieces-next.ensures
@@ -51,18 +51,18 @@ plan_of_requires c κs =
     few_names a.name.now a.names.now a.rest.now a.deviations.now a.fields c.before.before.before.before.before.requires.0
 
 slice_aggregate_put_pieces : tie.Need-slice_bounds-put_pieces-end
-slice_aggregate_put_pieces c = sym (length-take-le _ _ c.before.before.plan_of-plan.ensures.name-fits)
+slice_aggregate_put_pieces c = sym (length-take-le _ _ c.before.before.plan_of-plan.ensures.name_fits)
 
 slice_aggregate_put_pieces_2 : tie.Need-slice_bounds-put_pieces-end-2
-slice_aggregate_put_pieces_2 c = sym (length-take-le _ _ c.before.before.before.plan_of-plan.ensures.small-fits)
+slice_aggregate_put_pieces_2 c = sym (length-take-le _ _ c.before.before.before.plan_of-plan.ensures.small_fits)
 
 slice_aggregate_put_pieces_3 : tie.Need-slice_bounds-put_pieces-end-3
 slice_aggregate_put_pieces_3 c =
-    sym (length-take-le _ _ c.before.before.before.plan_of-plan.ensures.names-fit)
+    sym (length-take-le _ _ c.before.before.before.plan_of-plan.ensures.names_fit)
 
 slice_aggregate_put_pieces_4 : tie.Need-slice_bounds-put_pieces-end-4
 slice_aggregate_put_pieces_4 c =
-    sym (length-take-le _ _ c.before.before.before.plan_of-plan.ensures.rest-fits)
+    sym (length-take-le _ _ c.before.before.before.plan_of-plan.ensures.rest_fits)
 
 put_pieces_requires : tie.Need-put_pieces-next-requires
 put_pieces_requires c κs =

@@ -23,20 +23,20 @@ all_left c = let a = c.args in begin a.mode a.pen (a.a.now ++ (a.b.now ++ (a.c.n
 
 first_put : (c : tie.After-put_bytes-first) → let a = (start c).args in
     let rest = a.b.now ++ (a.c.now ++ a.d.now) in
-    Writing a.mode a.pen (a.a.now ++ rest) a.buffer.now c.put_bytes-first.result rest c.put_bytes-first.new.0
+    Writing a.mode a.pen (a.a.now ++ rest) a.buffer.now c.put_bytes-first.result rest c.put_bytes-first.new.buffer
 first_put c =
     let s = start c in
     piece_put s.args.a.now (s.args.b.now ++ (s.args.c.now ++ s.args.d.now)) (all_left s) c.put_bytes-first.ensures
 
 second_put : (c : tie.After-put_bytes-second) → let a = (start2 c).args in
     let rest = a.c.now ++ a.d.now in
-    Writing a.mode a.pen (a.a.now ++ (a.b.now ++ rest)) a.buffer.now c.put_bytes-second.result rest c.put_bytes-second.new.0
+    Writing a.mode a.pen (a.a.now ++ (a.b.now ++ rest)) a.buffer.now c.put_bytes-second.result rest c.put_bytes-second.new.buffer
 second_put c =
     let a = (start2 c).args in
     piece_put a.b.now (a.c.now ++ a.d.now) (first_put c.before.before.before.before) c.put_bytes-second.ensures
 
 third_put : (c : tie.After-put_bytes-third) → let a = (start3 c).args in
-    Writing a.mode a.pen (a.a.now ++ (a.b.now ++ (a.c.now ++ a.d.now))) a.buffer.now c.put_bytes-third.result a.d.now c.put_bytes-third.new.0
+    Writing a.mode a.pen (a.a.now ++ (a.b.now ++ (a.c.now ++ a.d.now))) a.buffer.now c.put_bytes-third.result a.d.now c.put_bytes-third.new.buffer
 third_put c =
     let a = (start3 c).args in
     piece_put a.c.now a.d.now (second_put c.before.before.before.before) c.put_bytes-third.ensures
