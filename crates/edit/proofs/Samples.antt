@@ -24,7 +24,7 @@ use Rattle.writer.specs.Answers.{begun_writer, added_number, added_writer, finis
 use Rattle.writer.specs.declared.Writer.{Writer}
 use Rattle.writer.specs.declared.Finished.{Finished}
 use Rattle.writer.specs.declared.Edited.{Edited}
-use Rattle.raise.specs.Promises.{PlainRuns, also}
+use Rattle.raise.specs.Promises.{PlainRuns}
 use Rattle.raise.proofs.Samples.{runs_22, runs_23, runs_24}
 use Rattle.edit.specs.Edit.{replaced_of, removed_of, appended_of}
 use Rattle.edit.specs.Promises.{replacing, removing, appending, HasRoom}

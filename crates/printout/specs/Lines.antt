@@ -6,7 +6,6 @@ use Rattle.format.specs.Ids.{id_len}
 use Rattle.format.specs.Record.{buffer_of}
 use Rattle.format.specs.Listing.{tag_line, frame_line, end_line, refused_line}
 use Rattle.format.specs.declared.Version.{Version}
-use Rattle.format.specs.declared.Version.TheVariants.{Id3v22, Id3v23, Id3v24}
 use Rattle.format.specs.declared.Record.{Record}
 use Rattle.format.specs.Numbered.{version_number}
 use Rattle.reader.specs.Reader.{header_of, open_of, step_of}

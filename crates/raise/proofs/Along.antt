@@ -18,7 +18,7 @@ use Rattle.raise.specs.declared.seeking.Sought.{Sought}
 use Rattle.raise.specs.Raise.{is_mine, field_in, field_at, places_from, block_at, counted_tag, raise_to, on_places, on_tag, tag_version, tag_blocks, raised_of}
 use Rattle.raise.specs.Frames.{looked_as}
 use Rattle.raise.specs.Seeks.{also_of, found_on, sought_by, sought_on, sought_of, raised_at, raised_by}
-use Rattle.raise.proofs.Plainness.{PlainBlock, plain_at, Plain, tag_plain}
+use Rattle.raise.proofs.Plainness.{PlainBlock, plain_at, tag_plain}
 use Rattle.raise.proofs.Stored.{mine_kind, field_ends}
 use Rattle.raise.proofs.Search.{found}
 use Rattle.raise.proofs.Stores.{ends_before}

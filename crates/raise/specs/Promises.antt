@@ -1,5 +1,5 @@
 -- What is promised of raising a counter, on the definitions alone (document 01, "Raising a counter"; request f). Assumes nothing.
-use Rattle.std.specs.Prelude.{◌≡◌, ◌⊎◌, ℕ, zero, suc, ◌+◌, ◌^◌, ◌≤◌, ◌<◌, Bool, false, List, [], ◌∷◌, length, take, drop, get_or, set}
+use Rattle.std.specs.Prelude.{◌≡◌, ◌⊎◌, ℕ, suc, ◌+◌, ◌^◌, ◌≤◌, ◌<◌, Bool, false, List, [], ◌∷◌, length, take, drop, get_or, set}
 use Rattle.format.specs.Bytes.{pick, zero_at}
 use Rattle.format.specs.Header.{size_of, version_of}
 use Rattle.format.specs.Popularimeter.{counter_bytes}

@@ -169,7 +169,7 @@ sets_before o p (x ∷ h) l =
 
 header_length : (v : Version) (m : Mode) (size : ℕ) → length (header_bytes v m size) ≡ 10
 unfolding digits
-header_length v m size = refl
+header_length v m _ = refl
 
 tag_is : (v : Version) (m : Mode) (padding : ℕ) (frames : List ℕ)
     → tag_of v m padding frames ≡ header_bytes v m (length (whole_of v m frames) + padding) ++ (whole_of v m frames ++ zeros padding)

@@ -1,13 +1,12 @@
 -- Laws of packing a table's references a byte at a time. Assumes nothing.
-use mathlib.Core.Path.{◌≡◌, refl, sym, ap, ◌∙◌, subst}
+use mathlib.Core.Path.{◌≡◌, refl, sym, ap, ◌∙◌}
 use Prim.Native.Nat.{ℕ, zero, suc, ◌+◌, ◌-◌, ◌*◌, ◌/◌, ◌%◌, ◌^◌, ◌≤◌, ◌<◌}
 use native.Mathlib.Nat.{zero-div, mul_assoc, mul_right_comm, mul-le-mul_left, div-add-mod', add-mul, mul-mod_left}
-use native.Mathlib.Numerals.{add-one}
 use native.Mathlib.Omega.{arith}
 use mathlib.Core.Bool.{true}
 use mathlib.Core.List.{List, [], ◌∷◌, ◌++◌, append-nil, append_assoc}
-use lib.ListN.{length, take, drop, get_or, length-append, length-replicate, drop_of_length-le}
-use lib.Seq.{take_at, drop_at, drop-cons, take-append-add, take-append_seam}
+use lib.ListN.{length, take, drop, get_or, length-append, length-replicate}
+use lib.Seq.{take_at, drop_at, take-append-add}
 use lib.Dec.{ltb}
 use lib.Bits.{bit_or, or_shifted, or_zero_r}
 use lib.Pow.{pow_pos, pow-add, shl-shr, high, mod-pow-add}

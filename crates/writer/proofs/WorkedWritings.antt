@@ -9,7 +9,7 @@ use Rattle.format.specs.Bytes.{first, named, ascii, among}
 use Rattle.format.specs.Numbers.{digits}
 use Rattle.format.specs.Unsynch.{unsync}
 use Rattle.format.specs.Ids.{all_id_bytes, kind_of}
-use Rattle.format.specs.Record.{Rec, Content, raw}
+use Rattle.format.specs.Record.{Rec, raw}
 use Rattle.format.specs.Encode.{body_bytes, encode, refusal_of, tag_of}
 use Rattle.format.specs.declared.Version.{Version}
 use Rattle.format.specs.declared.Version.TheVariants.{Id3v22, Id3v23, Id3v24}

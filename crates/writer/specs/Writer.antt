@@ -1,5 +1,5 @@
 -- Beginning a writer, adding a record and finishing a tag, with every lent buffer (document 01, "Writing", "Refusal numbers"). Assumes nothing.
-use Rattle.std.specs.Prelude.{ℕ, ◌+◌, ◌^◌, Bool, true, false, not, ◌&&◌, ◌||◌, List, length, take, ltb, leb, eqb}
+use Rattle.std.specs.Prelude.{ℕ, ◌+◌, ◌^◌, Bool, false, not, ◌&&◌, ◌||◌, List, length, take, ltb, leb, eqb}
 use Rattle.std.proofs.lemmas.List.Edits.{sets}
 use Rattle.format.specs.Bytes.{pick}
 use Rattle.format.specs.Header.{version_of}
