@@ -252,6 +252,7 @@ fn store_begun(writer: &mut [u64], begun: Begun) -> u32
 }
 
 // Begins a writer: version 2, 3 or 4, mode 0 (off), 1 (crate) or 2 (standard), altered 0 or 1.
+#[tactic(auto, using(crate::proofs::Left::begin_short, crate::proofs::Left::begin_altered, crate::proofs::Left::begin_version, crate::proofs::Left::begin_mode, crate::proofs::Left::begin_then))]
 pub fn sv_begin(version: u64, mode: u64, altered: u64, writer: &mut [u64]) -> u32
     ensures { (result, writer.new) ≡ sv_begin version mode altered writer.old }
 {
@@ -272,6 +273,7 @@ pub fn sv_begin(version: u64, mode: u64, altered: u64, writer: &mut [u64]) -> u3
 }
 
 // Begins a writer of mode 0 (off), for a file that is not altered.
+#[tactic(auto, using(crate::proofs::Left::begin_short, crate::proofs::Left::begin_version, crate::proofs::Left::begin_then))]
 pub fn sv_begin_plain(version: u64, writer: &mut [u64]) -> u32
     ensures { (result, writer.new) ≡ sv_begin_plain version writer.old }
 {
