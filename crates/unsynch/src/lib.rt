@@ -32,7 +32,7 @@ pub enum Put {
 }
 
 // The synchsafe form of n: four bytes, each the next seven bits, highest first.
-#[tactic(auto, using(crate::proofs::Synchsafe::encoded))]
+#[tactic(auto, using(crate::proofs::Synchsafe::encoded_by_digits))]
 pub fn encode_u32(n: u32) -> Encoded
     ensures { result ≡ encoded_of n }
 {
