@@ -1,8 +1,11 @@
-// Reading the cases of writing from standard input: what a case and a record say apart from their bytes. Their layout stands in
-// tests/records.py.
-ghost use Rattle.io.specs.Counts.{IsPrefixLen};
+// Reading the cases of writing: what a case and a record say apart from their bytes. Their layout stands in tests/records.py.
+#![tactic(auto)]
+
+ghost use Rattle.std.specs.Io.{ReadsAtMost};
 
 use format::{Fields, Heading};
+use std::io;
+use std::io::Read;
 use test_prints::input::{next_u8, next_u32, next_u64};
 
 // A case apart from its records. Its last lengths are of the collecting buffer, of what is lent beside the output, and of the output.
@@ -20,18 +23,18 @@ pub struct Case {
 }
 
 // A case whose version was read.
-pub fn next_case(version: &[u8; 1]) -> Case {
-    Case {
+pub fn next_case<R: Read>(from: &mut R, version: &[u8; 1]) -> io::Result<Case> {
+    Ok(Case {
         version: version[0],
-        by_mode: next_u8() != 0,
-        mode: next_u8(),
-        altered: next_u8() != 0,
-        padding: next_u64(),
-        buffer: next_u32(),
-        lent: next_u32(),
-        output: next_u32(),
-        records: next_u32(),
-    }
+        by_mode: next_u8(from)? != 0,
+        mode: next_u8(from)?,
+        altered: next_u8(from)? != 0,
+        padding: next_u64(from)?,
+        buffer: next_u32(from)?,
+        lent: next_u32(from)?,
+        output: next_u32(from)?,
+        records: next_u32(from)?,
+    })
 }
 
 // The low bytes of a number.
@@ -77,38 +80,38 @@ fn fields(kind: u8, a: u64, b: u64, c: u64, d: u64, e: u64) -> Fields {
 }
 
 // The next five numbers, as a kind has them.
-fn next_fields(kind: u8) -> Fields {
-    let a = next_u64();
-    let b = next_u64();
-    let c = next_u64();
-    let d = next_u64();
-    let e = next_u64();
-    fields(kind, a, b, c, d, e)
+fn next_fields<R: Read>(from: &mut R, kind: u8) -> io::Result<Fields> {
+    let a = next_u64(from)?;
+    let b = next_u64(from)?;
+    let c = next_u64(from)?;
+    let d = next_u64(from)?;
+    let e = next_u64(from)?;
+    Ok(fields(kind, a, b, c, d, e))
 }
 
 // The heading of the record that comes next.
-pub fn next_heading() -> Heading {
-    let kind = next_u8();
-    let id = next_u32();
-    let short = next_u8() != 0;
-    let compressed = next_u8() != 0;
-    let fields = next_fields(kind);
-    Heading {
+pub fn next_heading<R: Read>(from: &mut R) -> io::Result<Heading> {
+    let kind = next_u8(from)?;
+    let id = next_u32(from)?;
+    let short = next_u8(from)? != 0;
+    let compressed = next_u8(from)? != 0;
+    let fields = next_fields(from, kind)?;
+    Ok(Heading {
         id,
         short,
         compressed,
         fields,
-    }
+    })
 }
 
 // Puts the next n numbers at the front of a space, or as many as it takes, and answers how many.
-pub fn next_numbers(space: &mut [u32], n: u32) -> usize
-    ensures { IsPrefixLen result space.new }
+pub fn next_numbers<R: Read>(from: &mut R, space: &mut [u32], n: u32) -> io::Result<usize>
+    ensures { ReadsAtMost result space.new }
 {
     let mut i: usize = 0;
     while i < n as usize && i < space.len() {
-        space[i] = next_u32();
+        space[i] = next_u32(from)?;
         i += 1;
     }
-    i
+    Ok(i)
 }

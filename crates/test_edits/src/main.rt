@@ -1,35 +1,40 @@
 // Replays edits in place: reads cases from standard input, and prints for each edit what it answers and the sums of all the lent
 // bytes after it, and last these bytes. The layout of a case and of a line stands in tests/edits.py. A tag with what follows it
 // has at most 4096 bytes, and so has a user or a part of a record.
+#![tactic(auto)]
+
 use format::Heading;
 use loads::read32;
 use raise::Raised;
+use std::io;
+use std::io::{Read, Write};
+use streams::read_full;
 use test_prints::input::{next_bytes, next_u8, next_u32, next_u64};
 use test_prints::{decimal, hex, say, sums};
 use writer::Edited;
 
 // The number of a refusal.
-fn refused(k: u8) {
-    say(b" refused");
-    decimal(k as u64);
+fn refused<W: Write>(to: &mut W, k: u8) -> io::Result<()> {
+    say(to, b" refused")?;
+    decimal(to, k as u64)
 }
 
 // What an edit answers.
-fn edited(answer: Edited) {
+fn edited<W: Write>(to: &mut W, answer: Edited) -> io::Result<()> {
     match answer {
-        Edited::Done => say(b" done"),
-        Edited::Refused(k) => refused(k),
+        Edited::Done => say(to, b" done"),
+        Edited::Refused(k) => refused(to, k),
     }
 }
 
 // What a lift answers.
-fn lifted(answer: Raised) {
+fn lifted<W: Write>(to: &mut W, answer: Raised) -> io::Result<()> {
     match answer {
         Raised::Counts(counter) => {
-            say(b" counts");
-            decimal(counter);
+            say(to, b" counts")?;
+            decimal(to, counter)
         }
-        Raised::Refused(k) => refused(k),
+        Raised::Refused(k) => refused(to, k),
     }
 }
 
@@ -52,17 +57,27 @@ fn put(
 }
 
 // Reads the record that comes next, and puts it there.
-fn put_next(tag: &mut [u8], last: bool, number: usize) {
-    let heading = test_cases::next_heading();
+fn put_next<R: Read, W: Write>(
+    from: &mut R,
+    to: &mut W,
+    tag: &mut [u8],
+    last: bool,
+    number: usize,
+) -> io::Result<()> {
+    let heading = test_cases::next_heading(from)?;
     let mut name = [0u8; 4096];
-    let a = next_bytes(&mut name, next_u32());
+    let n = next_u32(from)?;
+    let a = next_bytes(from, &mut name, n)?;
     let mut names = [0u8; 4096];
-    let b = next_bytes(&mut names, next_u32());
+    let n = next_u32(from)?;
+    let b = next_bytes(from, &mut names, n)?;
     let mut rest = [0u8; 4096];
-    let c = next_bytes(&mut rest, next_u32());
+    let n = next_u32(from)?;
+    let c = next_bytes(from, &mut rest, n)?;
     let mut deviations = [0u32; 4096];
-    let d = test_cases::next_numbers(&mut deviations, next_u32());
-    edited(put(
+    let n = next_u32(from)?;
+    let d = test_cases::next_numbers(from, &mut deviations, n)?;
+    let answer = put(
         tag,
         last,
         number,
@@ -71,73 +86,85 @@ fn put_next(tag: &mut [u8], last: bool, number: usize) {
         &names[..b],
         &rest[..c],
         &deviations[..d],
-    ));
+    );
+    edited(to, answer)
 }
 
 // Reads a user and an amount, and lifts that user's counter.
-fn lift_next(tag: &mut [u8]) {
+fn lift_next<R: Read, W: Write>(from: &mut R, to: &mut W, tag: &mut [u8]) -> io::Result<()> {
     let mut user = [0u8; 4096];
-    let n = next_bytes(&mut user, next_u32());
-    let amount = next_u64();
-    lifted(edit::lift(tag, &user[..n], amount));
+    let most = next_u32(from)?;
+    let n = next_bytes(from, &mut user, most)?;
+    let amount = next_u64(from)?;
+    lifted(to, edit::lift(tag, &user[..n], amount))
 }
 
 // Reads the edit that comes next, makes it, and prints what it answers.
-fn edit_next(tag: &mut [u8]) {
-    match next_u8() {
+fn edit_next<R: Read, W: Write>(from: &mut R, to: &mut W, tag: &mut [u8]) -> io::Result<()> {
+    match next_u8(from)? {
         0 => {
-            say(b"replace");
-            put_next(tag, false, next_u64() as usize);
+            say(to, b"replace")?;
+            let number = next_u64(from)? as usize;
+            put_next(from, to, tag, false, number)
         }
         1 => {
-            say(b"remove");
-            edited(edit::remove(tag, next_u64() as usize));
+            say(to, b"remove")?;
+            let number = next_u64(from)? as usize;
+            edited(to, edit::remove(tag, number))
         }
         2 => {
-            say(b"append");
-            put_next(tag, true, 0);
+            say(to, b"append")?;
+            put_next(from, to, tag, true, 0)
         }
         _ => {
-            say(b"lift");
-            lift_next(tag);
+            say(to, b"lift")?;
+            lift_next(from, to, tag)
         }
     }
 }
 
 // Makes the edits of a case one after the other.
-fn replay(tag: &mut [u8], edits: u32) {
+fn replay<R: Read, W: Write>(
+    from: &mut R,
+    to: &mut W,
+    tag: &mut [u8],
+    edits: u32,
+) -> io::Result<()> {
     let mut i = 0;
     while i < edits {
-        edit_next(tag);
-        sums(tag);
-        say(b"\n");
+        edit_next(from, to, tag)?;
+        sums(to, tag)?;
+        say(to, b"\n")?;
         i += 1;
     }
-    say(b"then");
-    hex(tag);
-    say(b"\n");
+    say(to, b"then")?;
+    hex(to, tag)?;
+    say(to, b"\n")
 }
 
 // Reads a case and replays it, and answers whether there was one.
-fn next(number: u64) -> bool {
+fn next<R: Read, W: Write>(from: &mut R, to: &mut W, number: u64) -> io::Result<bool> {
     let mut front = [0u8; 4];
-    if io::read_full(0, &mut front) < 4 {
-        return false;
+    if read_full(from, &mut front)? < 4 {
+        return Ok(false);
     }
-    say(b"case");
-    decimal(number);
-    say(b"\n");
+    say(to, b"case")?;
+    decimal(to, number)?;
+    say(to, b"\n")?;
     let mut tag = [0u8; 4096];
-    let n = next_bytes(&mut tag, read32(&front, 0));
-    let edits = next_u32();
-    replay(&mut tag[..n], edits);
-    true
+    let n = next_bytes(from, &mut tag, read32(&front, 0))?;
+    let edits = next_u32(from)?;
+    replay(from, to, &mut tag[..n], edits)?;
+    Ok(true)
 }
 
 // The number of cases is not known, so that the loop counts up to one that no input reaches.
-fn main() {
+fn main(rt: HostRuntime) -> io::Result<()> {
+    let mut from = rt.stdin();
+    let mut to = rt.stdout();
     let mut number = 1;
-    while number < u64::MAX && next(number) {
+    while number < u64::MAX && next(&mut from, &mut to, number)? {
         number += 1;
     }
+    Ok(())
 }

@@ -1,10 +1,15 @@
 // Replays hand-made frames: reads cases from standard input, and prints for each what stands at its place and what the
 // work buffer holds then. The layout of a case and of a line stands in tests/frames.py.
+#![tactic(auto)]
+
 mod print;
 
 use format::numbered::version_of;
-use format::small::wide64;
+use format::small::{least, wide64};
 use format::{Shown, Version};
+use std::io;
+use std::io::{Read, Write};
+use streams::read_full;
 use test_prints::input::{next_bytes, next_u8, next_u32};
 use test_prints::{decimal, say};
 use walk::record::frame_at;
@@ -22,70 +27,73 @@ struct Case {
 }
 
 // A case whose edition was read.
-fn next_case(edition: &[u8; 1]) -> Case {
-    Case {
+fn next_case<R: Read>(from: &mut R, edition: &[u8; 1]) -> io::Result<Case> {
+    Ok(Case {
         version: version_of(wide64(edition[0])),
-        in_work: next_u8() != 0,
-        room: next_u32(),
-        begin: next_u32(),
-        at: next_u32(),
-        end: next_u32(),
-        len: next_u32(),
-    }
+        in_work: next_u8(from)? != 0,
+        room: next_u32(from)?,
+        begin: next_u32(from)?,
+        at: next_u32(from)?,
+        end: next_u32(from)?,
+        len: next_u32(from)?,
+    })
 }
 
 // What stands at a place.
-fn answer(shown: Shown) {
+fn answer<W: Write>(to: &mut W, shown: Shown) -> io::Result<()> {
     match shown {
-        Shown::Nothing => say(b" nothing"),
+        Shown::Nothing => say(to, b" nothing"),
         Shown::Refused(k) => {
-            say(b" refused");
-            decimal(k as u64);
+            say(to, b" refused")?;
+            decimal(to, k as u64)
         }
-        Shown::Frame(found, next) => print::frame(found, next),
+        Shown::Frame(found, next) => print::frame(to, found, next),
     }
 }
 
 // What stands at the place of a case, and the work buffer then.
-fn shown(case: Case, work: &mut [u8], tag: &[u8]) {
+fn shown<W: Write>(to: &mut W, case: Case, work: &mut [u8], tag: &[u8]) -> io::Result<()> {
     let v = case.version;
     let begin = case.begin as usize;
     let at = case.at as usize;
     let end = case.end as usize;
-    answer(frame_at(work, tag, v, case.in_work, begin, at, end));
-    print::room(work);
-    say(b"\n");
+    answer(to, frame_at(work, tag, v, case.in_work, begin, at, end))?;
+    print::room(to, work)?;
+    say(to, b"\n")
 }
 
 // Lends a case its room beside the bytes.
-fn replay(case: Case, tag: &[u8]) {
+fn replay<W: Write>(to: &mut W, case: Case, tag: &[u8]) -> io::Result<()> {
     let mut space = [0xA5u8; 65536];
-    let n = io::count(case.room as isize, &space);
-    shown(case, &mut space[..n], tag);
+    let n = least(case.room as usize, space.len());
+    shown(to, case, &mut space[..n], tag)
 }
 
 // Reads a case and replays it, and answers whether there was one. Bytes that are a work buffer are lent as that, with an empty tag.
-fn next(number: u64) -> bool {
+fn next<R: Read, W: Write>(from: &mut R, to: &mut W, number: u64) -> io::Result<bool> {
     let mut edition = [0u8; 1];
-    if io::read_full(0, &mut edition) < 1 {
-        return false;
+    if read_full(from, &mut edition)? < 1 {
+        return Ok(false);
     }
-    io::print_decimal(1, number);
-    let case = next_case(&edition);
+    write!(to, "{number}")?;
+    let case = next_case(from, &edition)?;
     let mut space = [0u8; 65536];
-    let n = next_bytes(&mut space, case.len);
+    let n = next_bytes(from, &mut space, case.len)?;
     if case.in_work {
-        shown(case, &mut space[..n], b"");
+        shown(to, case, &mut space[..n], b"")?;
     } else {
-        replay(case, &space[..n]);
+        replay(to, case, &space[..n])?;
     }
-    true
+    Ok(true)
 }
 
 // The number of cases is not known, so that the loop counts up to one that no input reaches.
-fn main() {
+fn main(rt: HostRuntime) -> io::Result<()> {
+    let mut from = rt.stdin();
+    let mut to = rt.stdout();
     let mut number = 1;
-    while number < u64::MAX && next(number) {
+    while number < u64::MAX && next(&mut from, &mut to, number)? {
         number += 1;
     }
+    Ok(())
 }

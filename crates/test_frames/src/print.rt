@@ -1,24 +1,27 @@
 // What is printed of a record and of a room.
+use format::small::least;
 use format::{Fields, Heading, Record, Span};
+use std::io;
+use std::io::Write;
 use test_prints::{decimal, either, say};
 
 // Two numbers.
-fn two(a: u32, b: u32) {
-    decimal(a as u64);
-    decimal(b as u64);
+fn two<W: Write>(to: &mut W, a: u32, b: u32) -> io::Result<()> {
+    decimal(to, a as u64)?;
+    decimal(to, b as u64)
 }
 
 // A kind and its numbers.
-fn fields(f: Fields) {
+fn fields<W: Write>(to: &mut W, f: Fields) -> io::Result<()> {
     match f {
         Fields::Text { encoding } => {
-            say(b" text");
-            decimal(encoding as u64);
+            say(to, b" text")?;
+            decimal(to, encoding as u64)
         }
         Fields::Popularimeter { rating, counter } => {
-            say(b" popularimeter");
-            decimal(rating as u64);
-            decimal(counter);
+            say(to, b" popularimeter")?;
+            decimal(to, rating as u64)?;
+            decimal(to, counter)
         }
         Fields::Table {
             frames,
@@ -27,10 +30,10 @@ fn fields(f: Fields) {
             bits_for_bytes,
             bits_for_millis,
         } => {
-            say(b" table");
-            decimal(frames as u64);
-            two(bytes, millis);
-            two(bits_for_bytes as u32, bits_for_millis as u32);
+            say(to, b" table")?;
+            decimal(to, frames as u64)?;
+            two(to, bytes, millis)?;
+            two(to, bits_for_bytes as u32, bits_for_millis as u32)
         }
         Fields::Chapter {
             start_time,
@@ -38,68 +41,69 @@ fn fields(f: Fields) {
             start_offset,
             end_offset,
         } => {
-            say(b" chapter");
-            two(start_time, end_time);
-            two(start_offset, end_offset);
+            say(to, b" chapter")?;
+            two(to, start_time, end_time)?;
+            two(to, start_offset, end_offset)
         }
         Fields::Contents { top_level, ordered } => {
-            say(b" contents");
-            either(top_level, b" 1", b" 0");
-            either(ordered, b" 1", b" 0");
+            say(to, b" contents")?;
+            either(to, top_level, b" 1", b" 0")?;
+            either(to, ordered, b" 1", b" 0")
         }
-        Fields::Raw => say(b" raw"),
+        Fields::Raw => say(to, b" raw"),
     }
 }
 
 // An id, a kind with its numbers, and the marks.
-fn heading(h: Heading) {
+fn heading<W: Write>(to: &mut W, h: Heading) -> io::Result<()> {
     let f = h.fields;
-    say(b" frame ");
-    io::print_hex(1, h.id as u64, 8);
-    fields(f);
-    either(h.short, b" short", b" whole");
-    either(h.compressed, b" compressed", b" plain");
+    say(to, b" frame ")?;
+    write!(to, "{:08x}", h.id)?;
+    fields(to, f)?;
+    either(to, h.short, b" short", b" whole")?;
+    either(to, h.compressed, b" compressed", b" plain")
 }
 
 // A span after its name.
-fn span(word: &[u8], s: Span) {
-    say(word);
-    decimal(s.start as u64);
-    decimal(s.len as u64);
+fn span<W: Write>(to: &mut W, word: &[u8], s: Span) -> io::Result<()> {
+    say(to, word)?;
+    decimal(to, s.start as u64)?;
+    decimal(to, s.len as u64)
 }
 
 // A record and the place after it.
-pub fn frame(r: Record, next: usize) {
+pub fn frame<W: Write>(to: &mut W, r: Record, next: usize) -> io::Result<()> {
     let h = r.heading;
-    heading(h);
-    say(b" at");
-    decimal(r.at as u64);
-    either(r.in_work, b" work", b" tag");
-    spans(r);
-    say(b" next");
-    decimal(next as u64);
+    heading(to, h)?;
+    say(to, b" at")?;
+    decimal(to, r.at as u64)?;
+    either(to, r.in_work, b" work", b" tag")?;
+    spans(to, r)?;
+    say(to, b" next")?;
+    decimal(to, next as u64)
 }
 
 // The spans of a record.
-fn spans(r: Record) {
+fn spans<W: Write>(to: &mut W, r: Record) -> io::Result<()> {
     let body = r.body;
     let name = r.name;
     let names = r.names;
     let rest = r.rest;
-    span(b" body", body);
-    span(b" name", name);
-    span(b" names", names);
-    span(b" rest", rest);
+    span(to, b" body", body)?;
+    span(to, b" name", name)?;
+    span(to, b" names", names)?;
+    span(to, b" rest", rest)
 }
 
 // What a room holds: its length, its first 64 bytes and, if there are more, the sums of all.
-pub fn room(s: &[u8]) {
-    let n = io::count(64, s);
-    say(b" room");
-    decimal(s.len() as u64);
-    test_prints::hex(&s[..n]);
+pub fn room<W: Write>(to: &mut W, s: &[u8]) -> io::Result<()> {
+    let n = least(64, s.len());
+    say(to, b" room")?;
+    decimal(to, s.len() as u64)?;
+    test_prints::hex(to, &s[..n])?;
     if s.len() > 64 {
-        say(b" sum");
-        test_prints::sums(s);
+        say(to, b" sum")?;
+        test_prints::sums(to, s)?;
     }
+    Ok(())
 }

@@ -1,4 +1,8 @@
 // The listing program with no input.
-fn main() {
-    show::run();
+#![tactic(auto)]
+
+use std::io;
+
+fn main(rt: HostRuntime) -> io::Result<()> {
+    show::run(&mut rt.stdin(), &mut rt.stdout())
 }

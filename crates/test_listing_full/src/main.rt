@@ -1,4 +1,8 @@
 // The listing program with an input that just fits.
-fn main() {
-    show::run();
+#![tactic(auto)]
+
+use std::io;
+
+fn main(rt: HostRuntime) -> io::Result<()> {
+    show::run(&mut rt.stdin(), &mut rt.stdout())
 }

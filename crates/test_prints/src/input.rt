@@ -1,7 +1,11 @@
-// Reading test data from standard input, numbers with the highest byte first. What is missing at the end counts as 0.
-ghost use Rattle.io.specs.Counts.{IsPrefixLen};
+// Reading test data, numbers with the highest byte first. What is missing at the end counts as 0.
+ghost use Rattle.std.specs.Io.{ReadsAtMost};
 
+use format::small::least;
 use loads::read32;
+use std::io;
+use std::io::Read;
+use streams::read_full;
 
 // A byte.
 fn of_one(b: &[u8; 1]) -> u8 {
@@ -9,30 +13,30 @@ fn of_one(b: &[u8; 1]) -> u8 {
 }
 
 // The next byte.
-pub fn next_u8() -> u8 {
+pub fn next_u8<R: Read>(from: &mut R) -> io::Result<u8> {
     let mut b = [0u8; 1];
-    io::read_full(0, &mut b);
-    of_one(&b)
+    read_full(from, &mut b)?;
+    Ok(of_one(&b))
 }
 
 // The number in the next four bytes.
-pub fn next_u32() -> u32 {
+pub fn next_u32<R: Read>(from: &mut R) -> io::Result<u32> {
     let mut b = [0u8; 4];
-    io::read_full(0, &mut b);
-    read32(&b, 0)
+    read_full(from, &mut b)?;
+    Ok(read32(&b, 0))
 }
 
 // The number in the next eight bytes.
-pub fn next_u64() -> u64 {
-    let high = next_u32() as u64;
-    let low = next_u32() as u64;
-    high * 4294967296 + low
+pub fn next_u64<R: Read>(from: &mut R) -> io::Result<u64> {
+    let high = next_u32(from)? as u64;
+    let low = next_u32(from)? as u64;
+    Ok(high * 4294967296 + low)
 }
 
 // Puts the next n bytes at the front of a space, or as many as it takes, and answers how many there were.
-pub fn next_bytes(space: &mut [u8], n: u32) -> usize
-    ensures { IsPrefixLen result space.new }
+pub fn next_bytes<R: Read>(from: &mut R, space: &mut [u8], n: u32) -> io::Result<usize>
+    ensures { ReadsAtMost result space.new }
 {
-    let most = io::count(n as isize, space);
-    io::read_full(0, &mut space[..most])
+    let most = least(n as usize, space.len());
+    read_full(from, &mut space[..most])
 }

@@ -1,56 +1,52 @@
-// What the programs that replay test data print to standard output, and how they read them.
+// What the programs that replay test data print, and how they read them.
+#![tactic(auto)]
+
 pub mod input;
 
 use format::small::wide64;
+use std::io;
+use std::io::Write;
 
 // Bytes as they are.
-pub fn say(text: &[u8]) {
-    io::write_all(1, text);
+pub fn say<W: Write>(to: &mut W, text: &[u8]) -> io::Result<()> {
+    to.write_all(text)
 }
 
 // A space and a number.
-pub fn decimal(n: u64) {
-    say(b" ");
-    io::print_decimal(1, n);
+pub fn decimal<W: Write>(to: &mut W, n: u64) -> io::Result<()> {
+    write!(to, " {n}")
 }
 
 // One of two words.
-pub fn either(yes: bool, a: &[u8], b: &[u8]) {
-    if yes {
-        say(a);
-    } else {
-        say(b);
-    }
+pub fn either<W: Write>(to: &mut W, yes: bool, a: &[u8], b: &[u8]) -> io::Result<()> {
+    if yes { say(to, a) } else { say(to, b) }
 }
 
 // Bytes in hexadecimal.
-fn pairs(s: &[u8]) {
-    let mut i = 0;
-    while i < s.len() {
-        io::print_hex(1, wide64(s[i]), 2);
-        i += 1;
+fn pairs<W: Write>(to: &mut W, s: &[u8]) -> io::Result<()> {
+    for x in s {
+        write!(to, "{:02x}", *x)?;
     }
+    Ok(())
 }
 
 // A space, and bytes in hexadecimal, a dash for none.
-pub fn hex(s: &[u8]) {
-    say(b" ");
+pub fn hex<W: Write>(to: &mut W, s: &[u8]) -> io::Result<()> {
+    say(to, b" ")?;
     if s.len() == 0 {
-        say(b"-");
+        say(to, b"-")?;
     }
-    pairs(s);
+    pairs(to, s)
 }
 
 // The sum of the bytes, and the sum of these sums, byte by byte.
-pub fn sums(s: &[u8]) {
+pub fn sums<W: Write>(to: &mut W, s: &[u8]) -> io::Result<()> {
     let mut a = 0;
     let mut b = 0;
-    let mut i = 0;
-    while i < s.len() {
-        a = std::num::wrapping_add_u64(a, wide64(s[i]));
+    for x in s {
+        a = std::num::wrapping_add_u64(a, wide64(*x));
         b = std::num::wrapping_add_u64(b, a);
-        i += 1;
     }
-    decimal(a);
-    decimal(b);
+    decimal(to, a)?;
+    decimal(to, b)
 }

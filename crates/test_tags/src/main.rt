@@ -1,4 +1,8 @@
 // Lists tags that were made by hand: tests/tags.py tells how.
-fn main() {
-    show::cases::run();
+#![tactic(auto)]
+
+use std::io;
+
+fn main(rt: HostRuntime) -> io::Result<()> {
+    show::cases::run(&mut rt.stdin(), &mut rt.stdout())
 }

@@ -10,15 +10,12 @@ use Rattle.loads.proofs.Words.{first_three}
 use Rattle.reader.proofs.headers.begins.Statement.{statement}
 use Rattle.reader.proofs.headers.begins.Tie as tie
 
-returns : tie.Need-returns-then-tag-lt10
-returns c = rw (lt-leb 10 (length c.before.before.args.tag.now) c.if-tag-lt10.true)
-
-returns_2 : tie.Need-returns
-returns_2 c =
+returns : tie.Need-returns
+returns c =
     let tag = c.before.before.before.args.tag.now in
     let e : c.read32.result / 256 ≡ number (take 3 tag) =
     ap (λ (n : ℕ). n / 256) c.read32.ensures ∙ first_three 0 tag (omega arith) (λ i. omega (arith, c.before.before.shared_slice_known-1.given i)) in
-    rw (e, le-leb 10 (length tag) c.before.if-tag-lt10.false)
+    rw (e, le-leb 10 (length tag) (omega arith))
 
 pub begins_spec : {M : Type 1} → statement M
-begins_spec = tie.close (tie.spec returns (λ c κs. search rules) returns_2)
+begins_spec = tie.close (tie.spec (λ c. rw (lt-leb 10 (length c.before.before.args.tag.now) (omega arith))) (λ c κs. search rules) returns)

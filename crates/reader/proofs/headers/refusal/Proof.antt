@@ -86,11 +86,8 @@ returns_6 : tie.Need-returns-then-end_of-lt16
 returns_6 c =
     missing_bytes (begun (at_clear c.before)) c.before.before.before.before.if-compressed.false (is_there c.before.before.before) (ends c.before) c.if-end_of-lt16.true
 
-returns_7 : tie.Need-returns-then-synchsafe-lt6
-returns_7 c = (sized c.before).0 c.if-synchsafe-lt6.true
-
-returns_8 : tie.Need-returns
-returns_8 c = (sized c.before).1 c.if-synchsafe-lt6.false
+returns_7 : tie.Need-returns
+returns_7 c = (sized c.before).1 (omega arith)
 
 pub refusal_spec : {M : Type 1} → statement M
 refusal_spec =
@@ -111,5 +108,5 @@ refusal_spec =
     (λ c κs. search rules)
     returns_6
     (λ c κs. search rules)
-    returns_7
-    returns_8)
+    (λ c. (sized c.before).0 (omega arith))
+    returns_7)

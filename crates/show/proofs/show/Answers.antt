@@ -1,0 +1,12 @@
+-- The listing fits its buffer.
+use Rattle.std.proofs.Common.{◌≤◌, length, arith, length-take}
+use Rattle.printout.proofs.Texts.{lines_within}
+use Rattle.show.proofs.show.Goals as goal
+
+pub slice_bounds-write_all-end : goal.slice_bounds-write_all-end
+slice_bounds-write_all-end g c = lines_within _ _ _ c.list.ensures c.in-Upto.is
+
+pub slice_bounds-write_all-end-in-Upto : goal.slice_bounds-write_all-end-in-Upto
+slice_bounds-write_all-end-in-Upto g c =
+    let within : c.in-Upto.n ≤ length c.list.new.out = lines_within _ _ _ c.list.ensures c.in-Upto.is in
+    omega (arith, length-take c.in-Upto.n c.list.new.out)
