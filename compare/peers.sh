@@ -21,8 +21,9 @@ set_up_x86
 cargo build -j1 --release --quiet --target "$target" --target-dir "$out" --manifest-path "${PACKAGE:-$repository/rust}/Cargo.toml" --bin streamvault
 program=()
 if command -v rt >/dev/null && [ ${#runner[@]} = 0 ]; then
-    (cd "$repository" && rt check listing) >"$out/listing.log" 2>&1 || { tail "$out/listing.log"; exit 1; }
-    program=(--program "$repository/target/bin/listing")
+    # to run it is what builds it
+    (cd "$repository/crates/listing" && rt run <stdin) >"$out/listing.log" 2>&1 || { tail "$out/listing.log"; exit 1; }
+    program=(--program "$repository/crates/listing/out/listing")
 fi
 python=${PYTHON:-/usr/bin/python3}
 streamvault=("${runner[@]}" "$out/$target/release/streamvault")
