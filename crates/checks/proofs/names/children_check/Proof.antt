@@ -10,14 +10,13 @@ returns : tie.Need-returns-then-last_byte-gt0
 returns c =
     sym (not_closed c.before.before.before.args.children.now (omega arith))
 
-returns_2 : tie.Need-returns-then-zeros_in-gt255
-returns_2 c =
-    sym (too_many c.before.before.before.before.before.args.children.now (omega arith))
-
-returns_3 : tie.Need-returns-else-zeros_in-gt255
-returns_3 c =
-    sym (all_closed c.before.before.before.before.before.args.children.now (omega arith) (omega arith))
-
+-- the two last answers stand in the list, so that no name in them hangs on the number in the test
 pub children_check_spec : {M : Type 1} → statement M
 children_check_spec =
-    tie.close (tie.spec (λ c κs. search rules) returns (λ c κs. search rules) returns_2 returns_3)
+    tie.close
+    (tie.spec
+    (λ c κs. search rules)
+    returns
+    (λ c κs. search rules)
+    (λ c. sym (too_many c.before.before.before.before.before.args.children.now (omega arith)))
+    (λ c. sym (all_closed c.before.before.before.before.before.args.children.now (omega arith) (omega arith))))
