@@ -20,32 +20,41 @@ given c =
 
 slice_reshare_prefix_read_one : tie.Need-slice_bounds-read_one-end
 slice_reshare_prefix_read_one c =
-    let a = (at_start c.before.before.before.before.before.before).args in
-    let w = c.before.before.before.before.before.before.write_one-wrote.ensures in
-    tag_within a.version a.mode a.padding (given c.before.before.before.before.before.before) a.buffer.now a.output.now a.work.now w.0 c.before.in-Tag.is
+    let at_write_one_wrote = c.before.before.before.before.before.before in
+    let a = (at_start at_write_one_wrote).args in
+    let w = at_write_one_wrote.write_one-wrote.ensures in
+    tag_within a.version a.mode a.padding (given at_write_one_wrote) a.buffer.now a.output.now a.work.now w.0 c.before.in-Tag.is
 
 slice_aggregate_read_one : tie.Need-slice_bounds-read_one-end-in-Tag
 slice_aggregate_read_one c =
-    let a = (at_start c.before.before.before.before.before.before).args in
-    sym (length-take-le _ c.before.before.before.before.before.before.write_one-wrote.new.output (tag_within a.version a.mode a.padding (given c.before.before.before.before.before.before) a.buffer.now a.output.now a.work.now c.before.before.before.before.before.before.write_one-wrote.ensures.0 c.before.in-Tag.is))
+    let at_write_one_wrote = c.before.before.before.before.before.before in
+    let a = (at_start at_write_one_wrote).args in
+    sym (length-take-le _ at_write_one_wrote.write_one-wrote.new.output (tag_within a.version a.mode a.padding (given at_write_one_wrote) a.buffer.now a.output.now a.work.now at_write_one_wrote.write_one-wrote.ensures.0 c.before.in-Tag.is))
 
 returns : tie.Need-returns-in-One
 returns c =
-    let a = (at_start c.before.before.before.before.before.before.before.before.before.before).args in
-    let w = c.before.before.before.before.before.before.before.before.before.before.write_one-wrote.ensures in
-    back_read a.version a.mode a.padding (given c.before.before.before.before.before.before.before.before.before.before) a.buffer.now a.output.now a.work.now w.0 w.1 c.before.before.before.before.before.in-Tag.is c.in-One.is c.before.before.before.read_one-only.ensures
+    let at_read_one_only = c.before.before.before in
+    let at_in_Tag = at_read_one_only.before.before in
+    let at_write_one_wrote = at_in_Tag.before.before.before.before.before in
+    let a = (at_start at_write_one_wrote).args in
+    let w = at_write_one_wrote.write_one-wrote.ensures in
+    back_read a.version a.mode a.padding (given at_write_one_wrote) a.buffer.now a.output.now a.work.now w.0 w.1 at_in_Tag.in-Tag.is c.in-One.is at_read_one_only.read_one-only.ensures
 
 returns_2 : tie.Need-returns-in-Other
 returns_2 c =
-    let a = (at_start c.before.before.before.before.before.before.before.before.before.before).args in
-    let w = c.before.before.before.before.before.before.before.before.before.before.write_one-wrote.ensures in
-    back_read a.version a.mode a.padding (given c.before.before.before.before.before.before.before.before.before.before) a.buffer.now a.output.now a.work.now w.0 w.1 c.before.before.before.before.before.in-Tag.is c.in-Other.is c.before.before.before.read_one-only.ensures
+    let at_read_one_only = c.before.before.before in
+    let at_in_Tag = at_read_one_only.before.before in
+    let at_write_one_wrote = at_in_Tag.before.before.before.before.before in
+    let a = (at_start at_write_one_wrote).args in
+    let w = at_write_one_wrote.write_one-wrote.ensures in
+    back_read a.version a.mode a.padding (given at_write_one_wrote) a.buffer.now a.output.now a.work.now w.0 w.1 at_in_Tag.in-Tag.is c.in-Other.is at_read_one_only.read_one-only.ensures
 
 returns_3 : tie.Need-returns-in-Refused
 returns_3 c =
-    let a = (at_start c.before.before.before.before.before).args in
-    let w = c.before.before.before.before.before.write_one-wrote.ensures in
-    back_refused a.version a.mode a.padding (given c.before.before.before.before.before) a.buffer.now a.output.now a.work.now w.0 c.in-Refused.is
+    let at_write_one_wrote = c.before.before.before.before.before in
+    let a = (at_start at_write_one_wrote).args in
+    let w = at_write_one_wrote.write_one-wrote.ensures in
+    back_refused a.version a.mode a.padding (given at_write_one_wrote) a.buffer.now a.output.now a.work.now w.0 c.in-Refused.is
 
 pub there_and_back_spec : {M : Type 1} → statement M
 there_and_back_spec =

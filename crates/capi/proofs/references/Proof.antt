@@ -8,11 +8,14 @@ use Rattle.capi.proofs.references.Tie as tie
 
 returns : tie.Need-returns-in-Table
 returns c =
-    rw (c.before.before.before.before.in-Table.is, ← take-length c.before.before.before.before.before.before.before.args.rest.now) c.before.before.unpack.ensures
+    let at_in_Table = c.before.before.before.before in
+    let at_start = at_in_Table.before.before.before in
+    rw (at_in_Table.in-Table.is, ← take-length at_start.args.rest.now) c.before.before.unpack.ensures
 
 returns_2 : tie.Need-returns-in_default
 returns_2 c =
-    let a = c.before.before.before.args in sym (no_references a.fields a.rest.now a.out.now c.in_default.in_default-own.keys2)
+    let at_start = c.before.before.before in
+    let a = at_start.args in sym (no_references a.fields a.rest.now a.out.now c.in_default.in_default-own.keys2)
 
 pub references_spec : {M : Type 1} → statement M
 references_spec =

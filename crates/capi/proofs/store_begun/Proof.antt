@@ -5,7 +5,8 @@ use Rattle.capi.proofs.store_begun.Tie as tie
 
 returns : tie.Need-returns-in-Ready
 returns c =
-    rw (c.before.before.before.before.in-Ready.is, c.before.before.store_writer.ensures)
+    let at_in_Ready = c.before.before.before.before in
+    rw (at_in_Ready.in-Ready.is, c.before.before.store_writer.ensures)
 
 returns_2 : tie.Need-returns-in-Refused
 returns_2 c = rw c.in-Refused.is

@@ -33,8 +33,9 @@ at_words c = (at_writer c).before
 answer_picks : (c : tie.After-slice_known-4-1) {r : Added} → c.before.before.add-added.result ≡ r
     → let a = (given (at_words c)).args in sv_add a.«record».now a.name.now a.names.now a.rest.now a.deviations.now a.buffer.now a.writer.now a.count.now ≡ after_add (r, c.before.before.add-added.new.buffer) a.writer.now a.count.now
 answer_picks c h =
+    let at_in_Good_given = c.before.before.before.before in
     let w = sym (at_writer c).load_writer-state.ensures ∙ (at_heading c).before.in-Good.is in
-    let g = sym (at_heading c).load_heading-given.ensures ∙ c.before.before.before.before.in-Good-given.is in
+    let g = sym (at_heading c).load_heading-given.ensures ∙ at_in_Good_given.in-Good-given.is in
     add_then _ _ _ _ _ _ _ _ (at_words c).if-record-writer.false w g c.before.before.add-added.ensures.0 h
 
 -- ---- the needs
@@ -57,7 +58,9 @@ load_heading_requires c κs = (room c.before.before).0
 
 returns_3 : tie.Need-returns-in_default-given
 returns_3 c =
-    sym (add_none _ _ _ _ _ _ _ _ c.before.before.before.before.if-record-writer.false (sym c.before.before.before.load_writer-state.ensures ∙ c.before.before.in-Good.is) (sym c.before.load_heading-given.ensures ∙ c.in_default-given.is))
+    let at_load_writer_state = c.before.before.before in
+    let at_if_record_writer = at_load_writer_state.before in
+    sym (add_none _ _ _ _ _ _ _ _ at_if_record_writer.if-record-writer.false (sym at_load_writer_state.load_writer-state.ensures ∙ c.before.before.in-Good.is) (sym c.before.load_heading-given.ensures ∙ c.in_default-given.is))
 
 store_writer_requires : tie.Need-store_writer-requires
 store_writer_requires c κs = (room (at_words c.before.before)).1.0
@@ -69,7 +72,8 @@ slice_write_count_2 c =
 
 returns_4 : tie.Need-returns-in-Accepted
 returns_4 c =
-    let e = answer_picks c.before.before.before.before.before c.before.before.before.before.in-Accepted.is in
+    let at_in_Accepted = c.before.before.before.before in
+    let e = answer_picks c.before.before.before.before.before at_in_Accepted.in-Accepted.is in
     rw set-set (cc (e, c.before.before.store_writer.ensures))
 
 returns_5 : tie.Need-returns-in-Refused

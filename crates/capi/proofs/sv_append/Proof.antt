@@ -10,7 +10,10 @@ returns c = sym (append_short _ _ _ _ _ _ c.if-record-lt-RECORD_WORDS.true)
 
 returns_2 : tie.Need-returns
 returns_2 c =
-    append_then _ _ _ _ _ _ c.before.before.before.before.before.before.if-record-lt-RECORD_WORDS.false c.before.before.before.before.before.heading_in-heading.ensures c.before.before.before.append-edited.ensures.0 c.number_of.ensures
+    let at_append_edited = c.before.before.before in
+    let at_heading_in_heading = at_append_edited.before.before in
+    let at_if_record_lt_RECORD_WORDS = at_heading_in_heading.before in
+    append_then _ _ _ _ _ _ at_if_record_lt_RECORD_WORDS.if-record-lt-RECORD_WORDS.false at_heading_in_heading.heading_in-heading.ensures at_append_edited.append-edited.ensures.0 c.number_of.ensures
 
 pub sv_append_spec : {M : Type 1} → statement M
 sv_append_spec =

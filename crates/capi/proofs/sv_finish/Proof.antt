@@ -30,7 +30,8 @@ at_words c = (at_loaded c).before
 answer_picks : (c : tie.After-slice_known-3-1) {r : Finished} → c.before.before.finish-finished.result ≡ r
     → let a = (given (at_words c)).args in sv_finish a.padding a.buffer.now a.output.now a.writer.now a.count.now ≡ after_finish (r, c.before.before.finish-finished.new.output) a.count.now
 answer_picks c h =
-    finish_then _ _ _ _ _ (at_words c).if-writer-count.false (sym (at_loaded c).load_writer-state.ensures ∙ c.before.before.before.before.in-Good.is) c.before.before.finish-finished.ensures h
+    let at_in_Good = c.before.before.before.before in
+    finish_then _ _ _ _ _ (at_words c).if-writer-count.false (sym (at_loaded c).load_writer-state.ensures ∙ at_in_Good.in-Good.is) c.before.before.finish-finished.ensures h
 
 -- ---- the needs
 

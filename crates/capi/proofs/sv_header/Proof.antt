@@ -10,7 +10,10 @@ returns c = sym (header_short _ _ c.if-header-lt-HEADER_WORDS.true)
 
 returns_2 : tie.Need-returns-in-Found
 returns_2 c =
-    rw c.before.before.store_header.ensures (sym (header_then _ _ c.before.before.before.before.before.before.if-header-lt-HEADER_WORDS.false (sym c.before.before.before.before.before.header-headed.ensures ∙ c.before.before.before.before.in-Found.is)))
+    let at_in_Found = c.before.before.before.before in
+    let at_header_headed = at_in_Found.before in
+    let at_if_header_lt_HEADER_WORDS = at_header_headed.before in
+    rw c.before.before.store_header.ensures (sym (header_then _ _ at_if_header_lt_HEADER_WORDS.if-header-lt-HEADER_WORDS.false (sym at_header_headed.header-headed.ensures ∙ at_in_Found.in-Found.is)))
 
 returns_3 : tie.Need-returns-in-Refused
 returns_3 c =

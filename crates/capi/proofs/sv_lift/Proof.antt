@@ -10,7 +10,9 @@ returns c = sym (lift_short _ _ _ _ c.if-counter-lt-COUNTER_WORDS.true)
 
 returns_2 : tie.Need-returns
 returns_2 c =
-    lift_then _ _ _ _ c.before.before.before.before.before.before.before.before.if-counter-lt-COUNTER_WORDS.false c.before.before.store_raised.ensures c.before.before.before.before.before.before.lift-raised.ensures
+    let at_lift_raised = c.before.before.before.before.before.before in
+    let at_if_counter_lt_COUNTER_WORDS = at_lift_raised.before.before in
+    lift_then _ _ _ _ at_if_counter_lt_COUNTER_WORDS.if-counter-lt-COUNTER_WORDS.false c.before.before.store_raised.ensures at_lift_raised.lift-raised.ensures
 
 pub sv_lift_spec : {M : Type 1} → statement M
 sv_lift_spec =

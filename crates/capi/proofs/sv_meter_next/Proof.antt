@@ -43,7 +43,8 @@ stopped_requires c κs = (room c.before.before).0
 
 returns_2 : tie.Need-returns-then-not-is_running
 returns_2 c =
-    rw c.stopped.ensures (sym (next_stopped _ _ _ _ c.before.before.before.if-meter-metered.false (sym c.before.before.is_running.ensures ∙ not-true _ c.before.if-not-is_running.true-raw)))
+    let at_if_meter_metered = c.before.before.before in
+    rw c.stopped.ensures (sym (next_stopped _ _ _ _ at_if_meter_metered.if-meter-metered.false (sym c.before.before.is_running.ensures ∙ not-true _ c.before.if-not-is_running.true-raw)))
 
 slice_read_version_in : tie.Need-bounds-meter-0
 slice_read_version_in c = let h = room c.before.before.before in omega (arith, h.0)
@@ -63,12 +64,17 @@ answered_requires c κs =
 
 returns_4 : tie.Need-returns
 returns_4 c =
-    let t = at_words c.before.before.before.before.before.before.before.before.before.before.before.before.before in
+    let at_answered = c.before.before.before.before in
+    let at_next_next = at_answered.before.before.before.before.before in
+    let at_running = at_next_next.before.before in
+    let at_in_Good = at_running.before in
+    let at_version_in_given = at_in_Good.before in
+    let t = at_words at_version_in_given in
     let a = (given t).args in
-    let v = good_version (word 0 a.meter.now) (sym c.before.before.before.before.before.before.before.before.before.before.before.before.before.version_in-given.ensures ∙ c.before.before.before.before.before.before.before.before.before.before.before.before.in-Good.is) in
-    let m = c.before.before.before.before.before.before.before.before.before.before.before.running.ensures ∙ ap (λ (z : Version). meter_with z Stop.Running a.meter.now) v.1 in
-    let n = c.before.before.before.before.before.before.before.before.before.next-next.ensures ∙ ap (λ (z : Meter). next_of z a.tag.now a.work.now) m in
-    next_then _ _ _ _ t.if-meter-metered.false v.0 (sym (at_runs c.before.before.before.before.before.before.before.before.before.before.before.before.before).before.is_running.ensures ∙ not-false _ (at_runs c.before.before.before.before.before.before.before.before.before.before.before.before.before).if-not-is_running.false-raw) n c.before.before.before.before.answered.ensures
+    let v = good_version (word 0 a.meter.now) (sym at_version_in_given.version_in-given.ensures ∙ at_in_Good.in-Good.is) in
+    let m = at_running.running.ensures ∙ ap (λ (z : Version). meter_with z Stop.Running a.meter.now) v.1 in
+    let n = at_next_next.next-next.ensures ∙ ap (λ (z : Meter). next_of z a.tag.now a.work.now) m in
+    next_then _ _ _ _ t.if-meter-metered.false v.0 (sym (at_runs at_version_in_given).before.is_running.ensures ∙ not-false _ (at_runs at_version_in_given).if-not-is_running.false-raw) n at_answered.answered.ensures
 
 pub sv_meter_next_spec : {M : Type 1} → statement M
 sv_meter_next_spec =

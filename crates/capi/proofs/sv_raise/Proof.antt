@@ -10,7 +10,9 @@ returns c = sym (raise_short _ _ _ _ c.if-counter-lt-COUNTER_WORDS.true)
 
 returns_2 : tie.Need-returns
 returns_2 c =
-    raise_then _ _ _ _ c.before.before.before.before.before.before.before.before.if-counter-lt-COUNTER_WORDS.false c.before.before.store_raised.ensures c.before.before.before.before.before.before.raise-raised.ensures
+    let at_raise_raised = c.before.before.before.before.before.before in
+    let at_if_counter_lt_COUNTER_WORDS = at_raise_raised.before.before in
+    raise_then _ _ _ _ at_if_counter_lt_COUNTER_WORDS.if-counter-lt-COUNTER_WORDS.false c.before.before.store_raised.ensures at_raise_raised.raise-raised.ensures
 
 pub sv_raise_spec : {M : Type 1} → statement M
 sv_raise_spec =

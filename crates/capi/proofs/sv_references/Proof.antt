@@ -30,7 +30,8 @@ at_words c = (at_loaded c).before
 answer_picks : (c : tie.After-slice_known-3-1) {o : Unpacked} → c.before.before.references-put.result ≡ o
     → let a = (given (at_words c)).args in sv_references a.«record».now a.rest.now a.deviations.now a.count.now ≡ after_unpack (o, c.before.before.references-put.new.out) a.count.now
 answer_picks c h =
-    references_then _ _ _ _ (at_words c).if-record-count.false (sym (at_loaded c).load_heading-given.ensures ∙ c.before.before.before.before.in-Good.is) c.before.before.references-put.ensures h
+    let at_in_Good = c.before.before.before.before in
+    references_then _ _ _ _ (at_words c).if-record-count.false (sym (at_loaded c).load_heading-given.ensures ∙ at_in_Good.in-Good.is) c.before.before.references-put.ensures h
 
 -- ---- the needs
 

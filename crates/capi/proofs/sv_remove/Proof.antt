@@ -7,7 +7,9 @@ use Rattle.capi.proofs.sv_remove.Tie as tie
 
 returns : tie.Need-returns
 unfolding sv_remove
-returns c = edit_then c.number_of.ensures c.before.before.before.remove-edited.ensures
+returns c =
+    let at_remove_edited = c.before.before.before in
+    edit_then c.number_of.ensures at_remove_edited.remove-edited.ensures
 
 pub sv_remove_spec : {M : Type 1} → statement M
 sv_remove_spec = tie.close (tie.spec (λ c κs. search rules) (λ c κs. search rules) (λ c. search rules) returns)

@@ -29,7 +29,8 @@ at_words c = (at_loaded c).before
 answer_picks : (c : tie.After-slice_known-4-1) {s : Step} → c.before.before.step-step.result ≡ s
     → let a = (given (at_words c)).args in sv_step a.tag.now a.work.now a.reader.now a.«record».now ≡ after_step (s, c.before.before.step-step.new.work) a.reader.now a.«record».now
 answer_picks c h =
-    step_then _ _ _ _ (at_words c).if-reader-record.false (sym (at_loaded c).load_reader-given.ensures ∙ c.before.before.before.before.in-Good.is) c.before.before.step-step.ensures h
+    let at_in_Good = c.before.before.before.before in
+    step_then _ _ _ _ (at_words c).if-reader-record.false (sym (at_loaded c).load_reader-given.ensures ∙ at_in_Good.in-Good.is) c.before.before.step-step.ensures h
 
 -- ---- the needs
 
@@ -59,17 +60,21 @@ store_reader_requires_3 c κs = let h = room (at_words c.before.before) in omega
 
 returns_3 : tie.Need-returns-in-Frame
 returns_3 c =
-    let e = answer_picks c.before.before.before.before.before.before.before.before.before c.before.before.before.before.before.before.before.before.in-Frame.is in
-    cc (e, c.before.before.before.before.before.before.store_reader.ensures, c.before.before.store_record.ensures)
+    let at_store_reader = c.before.before.before.before.before.before in
+    let at_in_Frame = at_store_reader.before.before in
+    let e = answer_picks c.before.before.before.before.before.before.before.before.before at_in_Frame.in-Frame.is in
+    cc (e, at_store_reader.store_reader.ensures, c.before.before.store_record.ensures)
 
 returns_4 : tie.Need-returns-in-End
 returns_4 c =
-    let e = answer_picks c.before.before.before.before.before c.before.before.before.before.in-End.is in
+    let at_in_End = c.before.before.before.before in
+    let e = answer_picks c.before.before.before.before.before at_in_End.in-End.is in
     cc (e, c.before.before.store_reader-in-End.ensures)
 
 returns_5 : tie.Need-returns-in-Refused
 returns_5 c =
-    let e = answer_picks c.before.before.before.before.before c.before.before.before.before.in-Refused.is in
+    let at_in_Refused = c.before.before.before.before in
+    let e = answer_picks c.before.before.before.before.before at_in_Refused.in-Refused.is in
     cc (e, c.before.before.store_reader-in-Refused.ensures)
 
 pub sv_step_spec : {M : Type 1} → statement M

@@ -29,8 +29,9 @@ returns c =
 
 returns_2 : tie.Need-returns-in-Frames
 returns_2 c =
+    let at_in_Frames = c.before.before.before.before in
     let a = (start c.before.before.before.before.before).args in
-    (c.before.before.put_between.ensures ∙ appended_found a.tag.now (known a.tag.now 0 (found c.before.before.before.before.before c.before.before.before.before.in-Frames.is)) _, fits (start c.before.before.before.before.before))
+    (c.before.before.put_between.ensures ∙ appended_found a.tag.now (known a.tag.now 0 (found c.before.before.before.before.before at_in_Frames.in-Frames.is)) _, fits (start c.before.before.before.before.before))
 
 pub append_spec : {M : Type 1} → statement M
 append_spec =

@@ -15,16 +15,19 @@ sought c e = sym e ∙ c.seek-sought.ensures
 
 returns : tie.Need-returns-in-Refused
 returns c =
-    let a = c.before.before.before.before.args in
+    let at_start = c.before.before.before.before in
+    let a = at_start.args in
     sym (lifted_sought a.tag.now a.user.now a.amount
     ∙ ap (λ (x : Sought). lifted_by x a.user.now a.amount a.tag.now) (sym (sought c.before c.in-Refused.is)))
 
 returns_2 : tie.Need-returns-in-Counter
 returns_2 c =
-    let a = c.before.before.before.before.before.before.before.before.args in
+    let at_in_Counter = c.before.before.before.before in
+    let at_start = at_in_Counter.before.before.before.before in
+    let a = at_start.args in
     c.before.before.lift_found.ensures
     ∙ sym (lifted_sought a.tag.now a.user.now a.amount
-    ∙ ap (λ (x : Sought). lifted_by x a.user.now a.amount a.tag.now) (sym (sought c.before.before.before.before.before c.before.before.before.before.in-Counter.is)))
+    ∙ ap (λ (x : Sought). lifted_by x a.user.now a.amount a.tag.now) (sym (sought c.before.before.before.before.before at_in_Counter.in-Counter.is)))
 
 pub lift_spec : {M : Type 1} → statement M
 lift_spec =

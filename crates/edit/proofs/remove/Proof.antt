@@ -36,8 +36,9 @@ returns_2 c =
 
 returns_3 : tie.Need-returns-in-Frame
 returns_3 c =
+    let at_in_Frame = c.before.before.before.before in
     let a = (start c.before.before.before.before.before.before).args in
-    ap {B = Edit} (λ (l : List ℕ). (Edited.Done, l)) c.before.before.shift.ensures ∙ removed_found a.tag.now a.number (frames c.before.before.before.before.before) c.before.before.before.before.in-Frame.is
+    ap {B = Edit} (λ (l : List ℕ). (Edited.Done, l)) c.before.before.shift.ensures ∙ removed_found a.tag.now a.number (frames c.before.before.before.before.before) at_in_Frame.in-Frame.is
 
 pub remove_spec : {M : Type 1} → statement M
 remove_spec =

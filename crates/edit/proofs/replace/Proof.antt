@@ -39,8 +39,9 @@ returns_2 c =
 
 returns_3 : tie.Need-returns-in-Frame
 returns_3 c =
+    let at_in_Frame = c.before.before.before.before in
     let a = (start c.before.before.before.before.before.before).args in
-    (c.before.before.put_between.ensures ∙ replaced_found a.tag.now a.number (frames c.before.before.before.before.before) c.before.before.before.before.in-Frame.is _, fits (start c.before.before.before.before.before.before))
+    (c.before.before.put_between.ensures ∙ replaced_found a.tag.now a.number (frames c.before.before.before.before.before) at_in_Frame.in-Frame.is _, fits (start c.before.before.before.before.before.before))
 
 pub replace_spec : {M : Type 1} → statement M
 replace_spec =

@@ -36,18 +36,23 @@ put_decimal_add_put_byte : (t : ℕ) → put-decimal-lts.Need-overflow_add-n (ca
 put_decimal_add_put_byte t c = search rules
 
 put_decimal_put_byte_requires : (t : ℕ) → put-decimal-lts.Need-put_byte-requires (calls t) (put_decimal_at t) put-decimal.Post
-put_decimal_put_byte_requires t c κs = rw (← one_digit _ c.before.if-n-lt10.true) at c.before.before.before.requires.1
+put_decimal_put_byte_requires t c κs =
+    let at_start = c.before.before.before in
+    rw (← one_digit _ c.before.if-n-lt10.true) at at_start.requires.1
 
 put_decimal_same_length : (t : ℕ) → put-decimal-lts.Need-shape_of-out-then-n-lt10 (calls t) (put_decimal_at t) put-decimal.Post
 put_decimal_same_length t c = search rules
 
 put_decimal_returns : (t : ℕ) → put-decimal-lts.Need-returns-then-n-lt10 (calls t) (put_decimal_at t) put-decimal.Post
-put_decimal_returns t c = in_words c.before.before.put_byte.ensures (one_digit _ c.before.before.before.before.if-n-lt10.true)
+put_decimal_returns t c =
+    let at_if_n_lt10 = c.before.before.before.before in
+    in_words c.before.before.put_byte.ensures (one_digit _ at_if_n_lt10.if-n-lt10.true)
 
 put_decimal_put_decimal_requires : (t : ℕ) → put-decimal-lts.Need-put_decimal-next-requires (calls t) (put_decimal_at t) put-decimal.Post
 put_decimal_put_decimal_requires t c κs =
-    let e : c.before.before.before.args.n ≡ t = c.before.before.before.requires.0 in
-    (omega arith, front _ _ (rw (← more_digits _ c.before.if-n-lt10.false c.before.before.before.ranges.n.fits) at c.before.before.before.requires.1))
+    let at_start = c.before.before.before in
+    let e : at_start.args.n ≡ t = at_start.requires.0 in
+    (omega arith, front _ _ (rw (← more_digits _ c.before.if-n-lt10.false at_start.ranges.n.fits) at at_start.requires.1))
 
 put_decimal_cast_put_byte_2 : (t : ℕ) → put-decimal-lts.Need-overflow_cast-n-2 (calls t) (put_decimal_at t) put-decimal.Post
 put_decimal_cast_put_byte_2 t c = search rules
@@ -57,14 +62,20 @@ put_decimal_add_put_byte_2 t c = search rules
 
 put_decimal_put_byte_requires_2 : (t : ℕ) → put-decimal-lts.Need-put_byte-requires-2 (calls t) (put_decimal_at t) put-decimal.Post
 put_decimal_put_byte_requires_2 t c κs =
-    room_left c.before.before.before.put_decimal-next.ensures (rw (← more_digits _ c.before.before.before.before.before.if-n-lt10.false c.before.before.before.before.before.before.before.ranges.n.fits) at c.before.before.before.before.before.before.before.requires.1)
+    let at_put_decimal_next = c.before.before.before in
+    let at_if_n_lt10 = at_put_decimal_next.before.before in
+    let at_start = at_if_n_lt10.before.before in
+    room_left at_put_decimal_next.put_decimal-next.ensures (rw (← more_digits _ at_if_n_lt10.if-n-lt10.false at_start.ranges.n.fits) at at_start.requires.1)
 
 put_decimal_same_length_2 : (t : ℕ) → put-decimal-lts.Need-shape_of-out (calls t) (put_decimal_at t) put-decimal.Post
 put_decimal_same_length_2 t c = search rules
 
 put_decimal_returns_2 : (t : ℕ) → put-decimal-lts.Need-returns (calls t) (put_decimal_at t) put-decimal.Post
 put_decimal_returns_2 t c =
-    in_words (andthen c.before.before.before.before.before.before.put_decimal-next.ensures c.before.before.put_byte-2.ensures) (more_digits _ c.before.before.before.before.before.before.before.before.if-n-lt10.false c.before.before.before.before.before.before.before.before.before.before.ranges.n.fits)
+    let at_put_decimal_next = c.before.before.before.before.before.before in
+    let at_if_n_lt10 = at_put_decimal_next.before.before in
+    let at_start = at_if_n_lt10.before.before in
+    in_words (andthen at_put_decimal_next.put_decimal-next.ensures c.before.before.put_byte-2.ensures) (more_digits _ at_if_n_lt10.if-n-lt10.false at_start.ranges.n.fits)
 
 pub +put_decimal_spec : {M : Type 1} → statement M
 +put_decimal_spec = close μ-put-decimal λ t. put-decimal-lts.spec (calls t)

@@ -19,25 +19,35 @@ line s =
 
 returns : tie.Need-returns-then-end-shown_bytes
 returns c =
-    let a = c.before.before.before.before.args in
+    let at_start = c.before.before.before.before in
+    let a = at_start.args in
     no_room _ _ _ (omega (arith, (frame_length a.number a.version a.id a.place a.body a.short a.fields a.user.now).0, c.before.shown_bytes.ensures, c.if-end-shown_bytes.true))
 
 put_frame_requires : tie.Need-put_frame-len-requires
 put_frame_requires c κs =
-    let a = c.before.before.before.before.before.args in
-    omega (arith, (frame_length a.number a.version a.id a.place a.body a.short a.fields a.user.now).1, c.before.before.shown_bytes.ensures, c.before.if-end-shown_bytes.false, c.before.before.before.before.before.well_formed.0.1)
+    let at_start = c.before.before.before.before.before in
+    let a = at_start.args in
+    omega (arith, (frame_length a.number a.version a.id a.place a.body a.short a.fields a.user.now).1, c.before.before.shown_bytes.ensures, c.before.if-end-shown_bytes.false, at_start.well_formed.0.1)
 
 put_frame_requires_2 : tie.Need-put_frame-requires
 put_frame_requires_2 c κs =
-    has (line c.before.before.before.before.before.before.before.before.before.before.before) c.before.before.before.before.before.before.before.before.before.before.before.args.at c.before.before.before.before.before.before.before.before.before.before.before.args.out.now c.before.before.before.before.before.put_frame-len.ensures c.before.before.fits.ensures c.before.if-fits.true c.before.before.before.before.before.before.before.before.before.before.before.well_formed.0.0
+    let at_put_frame_len = c.before.before.before.before.before in
+    let at_start = at_put_frame_len.before.before.before.before.before.before in
+    has (line at_start) at_start.args.at at_start.args.out.now at_put_frame_len.put_frame-len.ensures c.before.before.fits.ensures c.before.if-fits.true at_start.well_formed.0.0
 
 returns_2 : tie.Need-returns-then-fits
 returns_2 c =
-    whole (line c.before.before.before.before.before.before.before.before.before.before.before.before.before.before) c.before.before.before.before.before.before.before.before.before.before.before.before.before.before.args.at c.before.before.before.before.before.before.before.before.before.before.before.before.before.before.args.out.now c.before.before.before.before.before.before.before.before.put_frame-len.ensures c.before.before.before.before.before.fits.ensures c.before.before.before.before.if-fits.true c.before.before.put_frame.ensures
+    let at_if_fits = c.before.before.before.before in
+    let at_fits = at_if_fits.before in
+    let at_put_frame_len = at_fits.before.before.before in
+    let at_start = at_put_frame_len.before.before.before.before.before.before in
+    whole (line at_start) at_start.args.at at_start.args.out.now at_put_frame_len.put_frame-len.ensures at_fits.fits.ensures at_if_fits.if-fits.true c.before.before.put_frame.ensures
 
 returns_3 : tie.Need-returns-else-fits
 returns_3 c =
-    full (line c.before.before.before.before.before.before.before.before.before.before) c.before.before.before.before.before.before.before.before.before.before.args.at c.before.before.before.before.before.before.before.before.before.before.args.out.now c.before.before.before.before.put_frame-len.ensures c.before.fits.ensures c.if-fits.false
+    let at_put_frame_len = c.before.before.before.before in
+    let at_start = at_put_frame_len.before.before.before.before.before.before in
+    full (line at_start) at_start.args.at at_start.args.out.now at_put_frame_len.put_frame-len.ensures c.before.fits.ensures c.if-fits.false
 
 pub frame_line_spec : {M : Type 1} → statement M
 frame_line_spec =

@@ -19,19 +19,26 @@ loop_holds c = let a = c.before.before.args in (omega arith, begin (λ l. l) ref
 
 put_byte_requires : tie.Need-put_byte-next-requires invariant_loop decreases_loop
 put_byte_requires c κs =
-    room (λ l. l) refl (λ a b. refl) c.before.before.before.before.before.before.args.bytes.now c.before.before.before.loop-i.invariant.1 c.before.before.loop-i-test.true c.before.before.before.before.before.before.requires
+    let at_loop_i = c.before.before.before in
+    let at_start = at_loop_i.before.before.before in
+    room (λ l. l) refl (λ a b. refl) at_start.args.bytes.now at_loop_i.loop-i.invariant.1 c.before.before.loop-i-test.true at_start.requires
 
 loop_again : tie.Need-loop-i-preserved invariant_loop decreases_loop
-loop_again c = (
-  omega arith,
-  turn (λ l. l) refl (λ a b. refl) c.before.before.before.before.before.before.before.before.before.args.bytes.now c.before.before.before.before.before.before.loop-i.invariant.1 c.before.before.before.before.before.loop-i-test.true c.before.before.put_byte-next.ensures,
-)
+loop_again c =
+    let at_loop_i_test = c.before.before.before.before.before in
+    let at_loop_i = at_loop_i_test.before in
+    let at_start = at_loop_i.before.before.before in (
+      omega arith,
+      turn (λ l. l) refl (λ a b. refl) at_start.args.bytes.now at_loop_i.loop-i.invariant.1 at_loop_i_test.loop-i-test.true c.before.before.put_byte-next.ensures,
+    )
 
 same_length : tie.Need-shape_of-out invariant_loop decreases_loop
 same_length c = same c.before.loop-i.invariant.1
 
 returns : tie.Need-returns invariant_loop decreases_loop
-returns c = done (λ l. l) refl (λ a b. refl) c.before.before.before.before.args.bytes.now c.loop-i-test.false c.before.loop-i.invariant.1
+returns c =
+    let at_start = c.before.before.before.before in
+    done (λ l. l) refl (λ a b. refl) at_start.args.bytes.now c.loop-i-test.false c.before.loop-i.invariant.1
 
 pub put_spec : {M : Type 1} → statement M
 put_spec =

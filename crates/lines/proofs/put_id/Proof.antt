@@ -8,19 +8,25 @@ use Rattle.lines.proofs.put_id.Tie as tie
 
 put_requires : tie.Need-put-requires
 put_requires c κs =
-    rw (c.before.before.in-Id3v22.is, ← three_bytes c.before.before.before.before.args.id) at c.before.before.before.before.requires
+    let at_start = c.before.before.before.before in
+    rw (c.before.before.in-Id3v22.is, ← three_bytes at_start.args.id) at at_start.requires
 
 put_requires_2 : tie.Need-put-requires-in_default
 put_requires_2 c κs =
-    rw (← four_long c.before.before.before.before.args.version c.before.before.in_default.in_default-own.keys2, ← four_bytes c.before.before.before.before.args.id) at c.before.before.before.before.requires
+    let at_start = c.before.before.before.before in
+    rw (← four_long at_start.args.version c.before.before.in_default.in_default-own.keys2, ← four_bytes at_start.args.id) at at_start.requires
 
 returns : tie.Need-returns-in-Id3v22
 returns c =
-    rw c.before.before.before.before.before.in-Id3v22.is (in_words c.before.before.put.ensures (three_bytes c.before.before.before.before.before.before.before.args.id))
+    let at_in_Id3v22 = c.before.before.before.before.before in
+    let at_start = at_in_Id3v22.before.before in
+    rw at_in_Id3v22.in-Id3v22.is (in_words c.before.before.put.ensures (three_bytes at_start.args.id))
 
 returns_2 : tie.Need-returns-in_default
 returns_2 c =
-    rw (← four_long c.before.before.before.before.before.before.before.args.version c.before.before.before.before.before.in_default.in_default-own.keys2) (in_words c.before.before.put-in_default.ensures (four_bytes c.before.before.before.before.before.before.before.args.id))
+    let at_in_default = c.before.before.before.before.before in
+    let at_start = at_in_default.before.before in
+    rw (← four_long at_start.args.version at_in_default.in_default.in_default-own.keys2) (in_words c.before.before.put-in_default.ensures (four_bytes at_start.args.id))
 
 pub put_id_spec : {M : Type 1} → statement M
 put_id_spec =

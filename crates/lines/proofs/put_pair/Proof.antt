@@ -8,17 +8,24 @@ use Rattle.lines.proofs.put_pair.Tie as tie
 
 put_byte_requires : tie.Need-put_byte-next-requires
 unfolding hex_in
-put_byte_requires c κs = omega (arith, c.before.before.before.requires.below)
+put_byte_requires c κs =
+    let at_start = c.before.before.before in
+    omega (arith, at_start.requires.below)
 
 put_byte_requires_2 : tie.Need-put_byte-requires
 unfolding hex_in
 put_byte_requires_2 c κs =
-    omega (arith, c.before.before.before.before.put_byte-next.ensures.next, c.before.before.before.before.before.before.before.before.requires.below)
+    let at_put_byte_next = c.before.before.before.before in
+    let at_start = at_put_byte_next.before.before.before.before in
+    omega (arith, at_put_byte_next.put_byte-next.ensures.next, at_start.requires.below)
 
 returns : tie.Need-returns
 unfolding hex_in
 returns c =
-    rw (← c.before.before.before.before.before.before.before.before.hex_digit.ensures, ← c.before.before.before.hex_digit-2.ensures) (andthen c.before.before.before.before.before.before.before.put_byte-next.ensures c.before.before.put_byte.ensures)
+    let at_hex_digit_2 = c.before.before.before in
+    let at_put_byte_next = at_hex_digit_2.before.before.before.before in
+    let at_hex_digit = at_put_byte_next.before in
+    rw (← at_hex_digit.hex_digit.ensures, ← at_hex_digit_2.hex_digit-2.ensures) (andthen at_put_byte_next.put_byte-next.ensures c.before.before.put_byte.ensures)
 
 pub put_pair_spec : {M : Type 1} → statement M
 put_pair_spec =

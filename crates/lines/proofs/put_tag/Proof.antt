@@ -7,32 +7,51 @@ use Rattle.lines.proofs.put_tag.Tie as tie
 put_numbered_requires : tie.Need-put_numbered-behind_edition-requires
 unfolding tag_line
 put_numbered_requires c κs =
-    front _ _ c.before.before.before.before.requires
+    let at_start = c.before.before.before.before in
+    front _ _ at_start.requires
 
 put_numbered_requires_2 : tie.Need-put_numbered-behind_size-requires
 unfolding tag_line
 put_numbered_requires_2 c κs =
-    front _ _ (room_left c.before.before.before.before.before.put_numbered-behind_edition.ensures c.before.before.before.before.before.before.before.before.before.before.requires)
+    let at_put_numbered_behind_edition = c.before.before.before.before.before in
+    let at_start = at_put_numbered_behind_edition.before.before.before.before.before in
+    front _ _ (room_left at_put_numbered_behind_edition.put_numbered-behind_edition.ensures at_start.requires)
 
 put_numbered_requires_3 : tie.Need-put_numbered-behind_flags-requires
 unfolding tag_line
 put_numbered_requires_3 c κs =
-    front _ _ (room_left c.before.before.before.before.before.put_numbered-behind_size.ensures (room_left c.before.before.before.before.before.before.before.before.before.before.before.put_numbered-behind_edition.ensures c.before.before.before.before.before.before.before.before.before.before.before.before.before.before.before.before.requires))
+    let at_put_numbered_behind_size = c.before.before.before.before.before in
+    let at_put_numbered_behind_edition = at_put_numbered_behind_size.before.before.before.before.before.before in
+    let at_start = at_put_numbered_behind_edition.before.before.before.before.before in
+    front _ _ (room_left at_put_numbered_behind_size.put_numbered-behind_size.ensures (room_left at_put_numbered_behind_edition.put_numbered-behind_edition.ensures at_start.requires))
 
 put_numbered_requires_4 : tie.Need-put_numbered-behind_ext-requires
 unfolding tag_line
 put_numbered_requires_4 c κs =
-    front _ _ (room_left c.before.before.before.before.before.put_numbered-behind_flags.ensures (room_left c.before.before.before.before.before.before.before.before.before.before.before.put_numbered-behind_size.ensures (room_left c.before.before.before.before.before.before.before.before.before.before.before.before.before.before.before.before.before.put_numbered-behind_edition.ensures c.before.before.before.before.before.before.before.before.before.before.before.before.before.before.before.before.before.before.before.before.before.before.requires)))
+    let at_put_numbered_behind_flags = c.before.before.before.before.before in
+    let at_put_numbered_behind_size = at_put_numbered_behind_flags.before.before.before.before.before.before in
+    let at_put_numbered_behind_edition = at_put_numbered_behind_size.before.before.before.before.before.before in
+    let at_start = at_put_numbered_behind_edition.before.before.before.before.before in
+    front _ _ (room_left at_put_numbered_behind_flags.put_numbered-behind_flags.ensures (room_left at_put_numbered_behind_size.put_numbered-behind_size.ensures (room_left at_put_numbered_behind_edition.put_numbered-behind_edition.ensures at_start.requires)))
 
 put_requires : tie.Need-put-requires
 unfolding tag_line
 put_requires c κs =
-    room_left c.before.before.before.before.before.put_numbered-behind_ext.ensures (room_left c.before.before.before.before.before.before.before.before.before.before.before.put_numbered-behind_flags.ensures (room_left c.before.before.before.before.before.before.before.before.before.before.before.before.before.before.before.before.before.put_numbered-behind_size.ensures (room_left c.before.before.before.before.before.before.before.before.before.before.before.before.before.before.before.before.before.before.before.before.before.before.before.put_numbered-behind_edition.ensures c.before.before.before.before.before.before.before.before.before.before.before.before.before.before.before.before.before.before.before.before.before.before.before.before.before.before.before.before.requires)))
+    let at_put_numbered_behind_ext = c.before.before.before.before.before in
+    let at_put_numbered_behind_flags = at_put_numbered_behind_ext.before.before.before.before.before.before in
+    let at_put_numbered_behind_size = at_put_numbered_behind_flags.before.before.before.before.before.before in
+    let at_put_numbered_behind_edition = at_put_numbered_behind_size.before.before.before.before.before.before in
+    let at_start = at_put_numbered_behind_edition.before.before.before.before.before in
+    room_left at_put_numbered_behind_ext.put_numbered-behind_ext.ensures (room_left at_put_numbered_behind_flags.put_numbered-behind_flags.ensures (room_left at_put_numbered_behind_size.put_numbered-behind_size.ensures (room_left at_put_numbered_behind_edition.put_numbered-behind_edition.ensures at_start.requires)))
 
 returns : tie.Need-returns
 unfolding tag_line
 returns c =
-    andthen c.before.before.before.before.before.before.before.before.before.before.before.before.before.before.before.before.before.before.before.before.before.before.before.before.before.before.put_numbered-behind_edition.ensures (andthen c.before.before.before.before.before.before.before.before.before.before.before.before.before.before.before.before.before.before.before.before.put_numbered-behind_size.ensures (andthen c.before.before.before.before.before.before.before.before.before.before.before.before.before.before.put_numbered-behind_flags.ensures (andthen c.before.before.before.before.before.before.before.before.put_numbered-behind_ext.ensures c.before.before.put.ensures)))
+    let at_put_numbered_behind_ext = c.before.before.before.before.before.before.before.before in
+    let at_put_numbered_behind_flags = at_put_numbered_behind_ext.before.before.before.before.before.before in
+    let at_put_numbered_behind_size = at_put_numbered_behind_flags.before.before.before.before.before.before in
+    let at_put_numbered_behind_edition = at_put_numbered_behind_size.before.before.before.before.before.before in
+    andthen at_put_numbered_behind_edition.put_numbered-behind_edition.ensures (andthen at_put_numbered_behind_size.put_numbered-behind_size.ensures (andthen at_put_numbered_behind_flags.put_numbered-behind_flags.ensures (andthen at_put_numbered_behind_ext.put_numbered-behind_ext.ensures c.before.before.put.ensures)))
 
 same_length : tie.Need-shape_of-out
 same_length c = same (returns c)

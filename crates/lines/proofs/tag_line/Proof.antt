@@ -20,15 +20,23 @@ put_tag_requires c κs =
 
 put_tag_requires_2 : tie.Need-put_tag-requires
 put_tag_requires_2 c κs =
-    has (line c.before.before.before.before.before.before.before.before) c.before.before.before.before.before.before.before.before.args.at c.before.before.before.before.before.before.before.before.args.out.now c.before.before.before.before.before.put_tag-len.ensures c.before.before.fits.ensures c.before.if-fits.true c.before.before.before.before.before.before.before.before.well_formed.0.0
+    let at_put_tag_len = c.before.before.before.before.before in
+    let at_start = at_put_tag_len.before.before.before in
+    has (line at_start) at_start.args.at at_start.args.out.now at_put_tag_len.put_tag-len.ensures c.before.before.fits.ensures c.before.if-fits.true at_start.well_formed.0.0
 
 returns : tie.Need-returns-then-fits
 returns c =
-    whole (line c.before.before.before.before.before.before.before.before.before.before.before) c.before.before.before.before.before.before.before.before.before.before.before.args.at c.before.before.before.before.before.before.before.before.before.before.before.args.out.now c.before.before.before.before.before.before.before.before.put_tag-len.ensures c.before.before.before.before.before.fits.ensures c.before.before.before.before.if-fits.true c.before.before.put_tag.ensures
+    let at_if_fits = c.before.before.before.before in
+    let at_fits = at_if_fits.before in
+    let at_put_tag_len = at_fits.before.before.before in
+    let at_start = at_put_tag_len.before.before.before in
+    whole (line at_start) at_start.args.at at_start.args.out.now at_put_tag_len.put_tag-len.ensures at_fits.fits.ensures at_if_fits.if-fits.true c.before.before.put_tag.ensures
 
 returns_2 : tie.Need-returns-else-fits
 returns_2 c =
-    full (line c.before.before.before.before.before.before.before) c.before.before.before.before.before.before.before.args.at c.before.before.before.before.before.before.before.args.out.now c.before.before.before.before.put_tag-len.ensures c.before.fits.ensures c.if-fits.false
+    let at_put_tag_len = c.before.before.before.before in
+    let at_start = at_put_tag_len.before.before.before in
+    full (line at_start) at_start.args.at at_start.args.out.now at_put_tag_len.put_tag-len.ensures c.before.fits.ensures c.if-fits.false
 
 pub tag_line_spec : {M : Type 1} → statement M
 tag_line_spec =

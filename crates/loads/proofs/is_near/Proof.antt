@@ -9,7 +9,8 @@ use Rattle.loads.proofs.is_near.Tie as tie
 
 returns : tie.Need-returns-then-from-to
 returns c e =
-    let a = c.before.before.before.args in
+    let at_start = c.before.before.before in
+    let a = at_start.args in
     let few = leb-true (a.to - a.from) 8 e in
     record { within = omega arith; eight = omega arith; some = omega arith; few = omega arith }
 

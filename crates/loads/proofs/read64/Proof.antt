@@ -16,7 +16,8 @@ read_last_requires c κs =
 
 returns : tie.Need-returns-then-is_near
 returns c =
-    let a = c.before.before.before.before.args in
+    let at_start = c.before.before.before.before in
+    let a = at_start.args in
     let near = c.before.before.is_near.ensures c.before.if-is_near.true in
     c.read_last.ensures ∙ all_read 8 a.from a.to a.s.now (omega arith) near.within near.few
 

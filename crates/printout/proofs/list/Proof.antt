@@ -7,12 +7,16 @@ use Rattle.printout.proofs.list.Tie as tie
 
 put_tag_requires : tie.Need-put_tag-requires
 put_tag_requires c κs =
-    sym c.before.before.before.header.ensures ∙ c.before.before.in-Found.is
+    let at_header = c.before.before.before in
+    sym at_header.header.ensures ∙ c.before.before.in-Found.is
 
 returns_2 : tie.Need-returns-in-Refused
 returns_2 c =
-    let a = c.before.before.before.before.before.before.before.before.before.args in
-    not_headed a.tag.now a.work.now a.out.now c.before.before.before.before.before.header.ensures c.before.before.before.before.in-Refused.is c.before.before.refused_line.ensures
+    let at_in_Refused = c.before.before.before.before in
+    let at_header = at_in_Refused.before in
+    let at_start = at_header.before.before.before.before in
+    let a = at_start.args in
+    not_headed a.tag.now a.work.now a.out.now at_header.header.ensures at_in_Refused.in-Refused.is c.before.before.refused_line.ensures
 
 pub list_spec : {M : Type 1} → statement M
 list_spec =

@@ -16,25 +16,36 @@ decreases_loop work₀ out₀ tag at behind₀ moved₀ number₀ work out behin
 
 loop_holds : tie.Need-loop-number-init invariant_loop decreases_loop
 loop_holds c =
-    let a = c.before.before.before.args in
+    let at_start = c.before.before.before in
+    let a = at_start.args in
     begins a.tag.now a.work.now a.out.now a.at a.reader
 
 same_length : tie.Need-shape_of-work-in-Done invariant_loop decreases_loop
 same_length c =
-    c.before.before.before.before.before.put_step.auto.work ∙ c.before.before.before.before.before.before.before.before.before.loop-number.invariant.works
+    let at_put_step = c.before.before.before.before.before in
+    let at_loop_number = at_put_step.before.before.before.before in
+    at_put_step.put_step.auto.work ∙ at_loop_number.loop-number.invariant.works
 
 same_length_2 : tie.Need-shape_of-out-in-Done invariant_loop decreases_loop
 same_length_2 c =
-    c.before.before.before.before.before.put_step.auto.out ∙ c.before.before.before.before.before.before.before.before.before.loop-number.invariant.outs
+    let at_put_step = c.before.before.before.before.before in
+    let at_loop_number = at_put_step.before.before.before.before in
+    at_put_step.put_step.auto.out ∙ at_loop_number.loop-number.invariant.outs
 
 returns : tie.Need-returns-in-Done invariant_loop decreases_loop
 returns c =
-    last c.before.before.before.before.before.before.before.before.before.loop-number.invariant c.before.before.before.before.before.before.before.before.loop-number-test.true c.before.before.before.before.before.put_step.ensures c.in-Done.is
+    let at_put_step = c.before.before.before.before.before in
+    let at_loop_number_test = at_put_step.before.before.before in
+    let at_loop_number = at_loop_number_test.before in
+    last at_loop_number.loop-number.invariant at_loop_number_test.loop-number-test.true at_put_step.put_step.ensures c.in-Done.is
 
 loop_again : tie.Need-loop-number-preserved invariant_loop decreases_loop
 loop_again c =
-    let p = c.before.before.before.before.before.put_step in
-    again c.before.before.before.before.before.before.before.before.before.loop-number.invariant c.before.before.before.before.before.before.before.before.loop-number-test.true p.ensures p.auto.work p.auto.out c.in-On.is
+    let at_put_step = c.before.before.before.before.before in
+    let at_loop_number_test = at_put_step.before.before.before in
+    let at_loop_number = at_loop_number_test.before in
+    let p = at_put_step.put_step in
+    again at_loop_number.loop-number.invariant at_loop_number_test.loop-number-test.true p.ensures p.auto.work p.auto.out c.in-On.is
 
 same_length_3 : tie.Need-shape_of-work invariant_loop decreases_loop
 same_length_3 c = c.before.loop-number.invariant.works

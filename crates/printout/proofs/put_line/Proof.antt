@@ -6,8 +6,11 @@ use Rattle.printout.proofs.put_line.Tie as tie
 
 returns : tie.Need-returns
 returns c =
-    let a = c.before.before.before.before.before.before.before.before.before.before.before.before.args in
-    user_within a.version a.number a.r a.at a.out.now {o = c.before.before.frame_line.new.out} a.s.now c.before.before.before.before.before.before.least-from.ensures c.before.before.before.before.before.least.ensures c.before.before.frame_line.ensures
+    let at_least = c.before.before.before.before.before in
+    let at_least_from = at_least.before in
+    let at_start = at_least_from.before.before.before.before.before.before in
+    let a = at_start.args in
+    user_within a.version a.number a.r a.at a.out.now {o = c.before.before.frame_line.new.out} a.s.now at_least_from.least-from.ensures at_least.least.ensures c.before.before.frame_line.ensures
 
 pub put_line_spec : {M : Type 1} → statement M
 put_line_spec =

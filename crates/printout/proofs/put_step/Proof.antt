@@ -6,23 +6,37 @@ use Rattle.printout.proofs.put_step.Tie as tie
 
 returns : tie.Need-returns-in-Upto
 returns c =
-    let a = c.before.before.before.before.before.before.before.before.before.before.before.before.before.args in
-    turn_on a.reader a.number a.at a.tag.now a.work.now a.out.now c.before.before.before.before.before.before.before.before.step.ensures c.before.before.before.before.before.in-Frame.is c.before.before.before.put_record.ensures c.in-Upto.is
+    let at_put_record = c.before.before.before in
+    let at_in_Frame = at_put_record.before.before in
+    let at_step = at_in_Frame.before.before.before in
+    let at_start = at_step.before.before.before.before.before in
+    let a = at_start.args in
+    turn_on a.reader a.number a.at a.tag.now a.work.now a.out.now at_step.step.ensures at_in_Frame.in-Frame.is at_put_record.put_record.ensures c.in-Upto.is
 
 returns_2 : tie.Need-returns-in-Full
 returns_2 c =
-    let a = c.before.before.before.before.before.before.before.before.before.before.before.before.before.args in
-    full a.reader a.number a.at a.tag.now a.work.now a.out.now c.before.before.before.before.before.before.before.before.step.ensures c.before.before.before.before.before.in-Frame.is c.before.before.before.put_record.ensures c.in-Full.is
+    let at_put_record = c.before.before.before in
+    let at_in_Frame = at_put_record.before.before in
+    let at_step = at_in_Frame.before.before.before in
+    let at_start = at_step.before.before.before.before.before in
+    let a = at_start.args in
+    full a.reader a.number a.at a.tag.now a.work.now a.out.now at_step.step.ensures at_in_Frame.in-Frame.is at_put_record.put_record.ensures c.in-Full.is
 
 returns_3 : tie.Need-returns-in-End
 returns_3 c =
-    let a = c.before.before.before.before.before.before.before.before.before.before.before.before.args in
-    at_end a.reader a.number a.at a.tag.now a.work.now a.out.now c.before.before.before.before.before.before.before.step.ensures c.before.before.before.before.in-End.is c.before.before.end_line.ensures
+    let at_in_End = c.before.before.before.before in
+    let at_step = at_in_End.before.before.before in
+    let at_start = at_step.before.before.before.before.before in
+    let a = at_start.args in
+    at_end a.reader a.number a.at a.tag.now a.work.now a.out.now at_step.step.ensures at_in_End.in-End.is c.before.before.end_line.ensures
 
 returns_4 : tie.Need-returns-in-Refused
 returns_4 c =
-    let a = c.before.before.before.before.before.before.before.before.before.before.before.before.args in
-    at_refusal a.reader a.number a.at a.tag.now a.work.now a.out.now c.before.before.before.before.before.before.before.step.ensures c.before.before.before.before.in-Refused.is c.before.before.refused_line.ensures
+    let at_in_Refused = c.before.before.before.before in
+    let at_step = at_in_Refused.before.before.before in
+    let at_start = at_step.before.before.before.before.before in
+    let a = at_start.args in
+    at_refusal a.reader a.number a.at a.tag.now a.work.now a.out.now at_step.step.ensures at_in_Refused.in-Refused.is c.before.before.refused_line.ensures
 
 pub put_step_spec : {M : Type 1} → statement M
 put_step_spec =

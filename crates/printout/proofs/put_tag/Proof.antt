@@ -7,18 +7,27 @@ use Rattle.printout.proofs.put_tag.Tie as tie
 
 put_opened_requires : tie.Need-put_opened-requires
 put_opened_requires c κs =
-    let a = c.before.before.before.before.before.before.before.before.before.before.before.args in
-    there a.tag.now a.h c.before.before.before.before.before.before.before.before.before.before.before.requires
+    let at_start = c.before.before.before.before.before.before.before.before.before.before.before in
+    let a = at_start.args in
+    there a.tag.now a.h at_start.requires
 
 returns : tie.Need-returns-in-Upto
 returns c =
-    let a = c.before.before.before.before.before.before.before.before.before.before.before.before.before.before.before.before.args in
-    tag_put a.tag.now a.work.now a.out.now (sym c.before.before.before.before.before.before.before.before.before.before.before.before.before.before.before.before.requires) refl c.before.before.before.before.before.before.before.before.before.before.before.version_number.ensures c.before.before.before.before.before.before.before.before.before.before.tag_line.ensures c.before.before.before.before.before.before.before.in-Upto.is c.before.before.before.before.put_opened.ensures
+    let at_put_opened = c.before.before.before.before in
+    let at_in_Upto = at_put_opened.before.before.before in
+    let at_tag_line = at_in_Upto.before.before.before in
+    let at_version_number = at_tag_line.before in
+    let at_start = at_version_number.before.before.before.before.before in
+    let a = at_start.args in
+    tag_put a.tag.now a.work.now a.out.now (sym at_start.requires) refl at_version_number.version_number.ensures at_tag_line.tag_line.ensures at_in_Upto.in-Upto.is at_put_opened.put_opened.ensures
 
 returns_2 : tie.Need-returns-in-Full
 returns_2 c =
-    let a = c.before.before.before.before.before.before.before.before.before.args in
-    tag_full a.tag.now a.work.now a.out.now (sym c.before.before.before.before.before.before.before.before.before.requires) refl c.before.before.before.before.version_number.ensures c.before.before.before.tag_line.ensures c.in-Full.is
+    let at_tag_line = c.before.before.before in
+    let at_version_number = at_tag_line.before in
+    let at_start = at_version_number.before.before.before.before.before in
+    let a = at_start.args in
+    tag_full a.tag.now a.work.now a.out.now (sym at_start.requires) refl at_version_number.version_number.ensures at_tag_line.tag_line.ensures c.in-Full.is
 
 pub put_tag_spec : {M : Type 1} → statement M
 put_tag_spec =

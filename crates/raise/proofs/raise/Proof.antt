@@ -14,16 +14,19 @@ sought c e = sym e ∙ c.seek-sought.ensures
 
 returns : tie.Need-returns-in-Refused
 returns c =
-    let a = c.before.before.before.before.args in
+    let at_start = c.before.before.before.before in
+    let a = at_start.args in
     sym (raised_sought a.tag.now a.user.now a.amount
     ∙ ap (λ (x : Sought). raised_by x a.amount a.tag.now) (sym (sought c.before c.in-Refused.is)))
 
 returns_2 : tie.Need-returns-in-Counter
 returns_2 c =
-    let a = c.before.before.before.before.before.before.before.before.args in
+    let at_in_Counter = c.before.before.before.before in
+    let at_start = at_in_Counter.before.before.before.before in
+    let a = at_start.args in
     c.before.before.raise_at.ensures
     ∙ sym (raised_sought a.tag.now a.user.now a.amount
-    ∙ ap (λ (x : Sought). raised_by x a.amount a.tag.now) (sym (sought c.before.before.before.before.before c.before.before.before.before.in-Counter.is)))
+    ∙ ap (λ (x : Sought). raised_by x a.amount a.tag.now) (sym (sought c.before.before.before.before.before at_in_Counter.in-Counter.is)))
 
 pub raise_spec : {M : Type 1} → statement M
 raise_spec =

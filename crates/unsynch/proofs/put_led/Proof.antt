@@ -16,8 +16,9 @@ whole s = let a = s.args in edited a.how false (slice a.from a.to a.s.now)
 
 returns : tie.Need-returns-then-out-at
 returns c =
-    let a = c.before.before.before.args in
-    led_place 20 (whole c.before.before.before) a.at a.out.now c.if-out-at.true
+    let at_start = c.before.before.before in
+    let a = at_start.args in
+    led_place 20 (whole at_start) a.at a.out.now c.if-out-at.true
 
 -- it was put after the 00's place
 abbrev start : tie.After-put_part → tie.Start
@@ -25,19 +26,22 @@ start c = let at_if = c.before.before in at_if.before.before.before
 
 returns_2 : tie.Need-returns-in-Refused
 returns_2 c =
-    let a = (start c.before.before.before).args in
-    led_refused 20 (whole (start c.before.before.before)) a.at a.out.now _ c.before.before.before.put_part.new.buf (rw c.in-Refused.is at c.before.before.before.put_part.ensures)
+    let at_put_part = c.before.before.before in
+    let a = (start at_put_part).args in
+    led_refused 20 (whole (start at_put_part)) a.at a.out.now _ at_put_part.put_part.new.buf (rw c.in-Refused.is at at_put_part.put_part.ensures)
 
 add_t16 : tie.Need-overflow_add-result
 add_t16 c =
-    let a = (start c.before.before.before).args in
-    let led = led_put 20 (whole (start c.before.before.before)) a.at a.out.now _ c.before.before.before.put_part.new.buf (rw c.in-Bytes.is at c.before.before.before.put_part.ensures) in
+    let at_put_part = c.before.before.before in
+    let a = (start at_put_part).args in
+    let led = led_put 20 (whole (start at_put_part)) a.at a.out.now _ at_put_part.put_part.new.buf (rw c.in-Bytes.is at at_put_part.put_part.ensures) in
     omega (arith, led.0, led.1)
 
 returns_3 : tie.Need-returns-in-Bytes
 returns_3 c =
-    let a = (start c.before.before.before).args in
-    (led_put 20 (whole (start c.before.before.before)) a.at a.out.now _ c.before.before.before.put_part.new.buf (rw c.in-Bytes.is at c.before.before.before.put_part.ensures)).2
+    let at_put_part = c.before.before.before in
+    let a = (start at_put_part).args in
+    (led_put 20 (whole (start at_put_part)) a.at a.out.now _ at_put_part.put_part.new.buf (rw c.in-Bytes.is at at_put_part.put_part.ensures)).2
 
 pub put_led_spec : {M : Type 1} → statement M
 put_led_spec =

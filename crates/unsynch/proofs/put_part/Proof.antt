@@ -20,8 +20,9 @@ whole s = let a = s.args in edited a.how false (slice a.from a.to a.s.now)
 
 returns : tie.Need-returns-then-buf-at
 returns c =
-    let a = c.before.before.before.args in
-    refused_place a.k (whole c.before.before.before) a.at a.buf.now c.if-buf-at.true
+    let at_start = c.before.before.before in
+    let a = at_start.args in
+    refused_place a.k (whole at_start) a.at a.buf.now c.if-buf-at.true
 
 -- where there are bytes: the arguments, and that what is there of them makes the whole
 abbrev start : tie.After-least-end → tie.Start
@@ -50,9 +51,11 @@ stored_all : (c : tie.After-slice_known-then-fits-1) →
     (a.at ≤ c.before.before.edit.result)
     × ◌≡◌ {A = Out} (Put.Bytes (c.before.before.edit.result - a.at), c.before.before.edit.new.buf) (put_of a.k (whole (start c.before.before.before.before.before.before.before)) a.at a.buf.now)
 stored_all c =
+    let at_if_fits = c.before.before.before.before in
+    let at_fits = at_if_fits.before in
     let a = (start c.before.before.before.before.before.before.before).args in
-    put_all a.k (whole (start c.before.before.before.before.before.before.before)) a.at a.buf.now (omega arith) _ (cut c.before.before.before.before.before.before.before) c.before.before.before.before.before.fits.result c.before.before.before.before.before.fits.ensures
-    c.before.before.before.before.if-fits.true c.before.before.edit.result c.before.before.edit.new.buf c.before.before.edit.ensures
+    put_all a.k (whole (start c.before.before.before.before.before.before.before)) a.at a.buf.now (omega arith) _ (cut c.before.before.before.before.before.before.before) at_fits.fits.result at_fits.fits.ensures
+    at_if_fits.if-fits.true c.before.before.edit.result c.before.before.edit.new.buf c.before.before.edit.ensures
 
 sub_t16 : tie.Need-overflow_sub-result
 sub_t16 c = (stored_all c).0

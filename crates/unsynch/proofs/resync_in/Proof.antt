@@ -25,11 +25,12 @@ whole s = let a = s.args in resynchronised (slice a.from a.to (take a.split a.ar
 returns : tie.Need-returns-then-end-from
 unfolding resync
 returns c =
+    let at_start = c.before.before.before.before in
     let mid = c.before.before.least-mid in
-    let a = c.before.before.before.before.args in
+    let a = at_start.args in
     let none = slice_before_none a.from a.to a.split c.before.least-end.result a.area.now (c.before.least-end.ensures ∙ ap (min a.to) mid.ensures) c.if-end-from.true in
-    put_none 14 (whole c.before.before.before.before) mid.result a.area.now (omega arith) (ap resynchronised none)
-    ∙ in_room (whole c.before.before.before.before) a.split mid.result a.area.now mid.ensures
+    put_none 14 (whole at_start) mid.result a.area.now (omega arith) (ap resynchronised none)
+    ∙ in_room (whole at_start) a.split mid.result a.area.now mid.ensures
 
 -- where there are bytes: the arguments, and the room that begins at split
 abbrev start : tie.Else-end-from → tie.Start
@@ -44,21 +45,24 @@ cut : (c : tie.After-resync_by-how) →
     let a = (start c.before).args in
     edited c.resync_by-how.result false (slice a.from c.before.before.least-end.result a.area.now) ≡ whole (start c.before)
 cut c =
+    let at_least_mid = c.before.before.before in
     let a = (start c.before).args in
     let part = slice a.from c.before.before.least-end.result a.area.now in
     ap (λ (how : How). edited how false part) c.resync_by-how.ensures
     ∙ resyncs false part
-    ∙ ap resynchronised (slice_before a.from a.to a.split c.before.before.least-end.result a.area.now (c.before.before.least-end.ensures ∙ ap (min a.to) c.before.before.before.least-mid.ensures))
+    ∙ ap resynchronised (slice_before a.from a.to a.split c.before.before.least-end.result a.area.now (c.before.before.least-end.ensures ∙ ap (min a.to) at_least_mid.least-mid.ensures))
 
 fits_requires : tie.Need-fits-requires
 fits_requires c κs = (omega arith, known_resync _ c.resync_by-how.ensures)
 
 edit_in_requires : tie.Need-edit_in-requires
 edit_in_requires c κs =
+    let at_resync_by_how = c.before.before.before in
+    let at_least_mid = at_resync_by_how.before.before.before in
     let at_start = start c.before.before.before.before in
-    let mid = c.before.before.before.before.before.before.least-mid in
-    let room = put_fits 14 (whole at_start) mid.result at_start.args.area.now (omega arith) _ (cut c.before.before.before) c.before.before.fits.result c.before.before.fits.ensures c.before.if-fits.true in
-    (omega arith, (room, known_resync _ c.before.before.before.resync_by-how.ensures))
+    let mid = at_least_mid.least-mid in
+    let room = put_fits 14 (whole at_start) mid.result at_start.args.area.now (omega arith) _ (cut at_resync_by_how) c.before.before.fits.result c.before.before.fits.ensures c.before.if-fits.true in
+    (omega arith, (room, known_resync _ at_resync_by_how.resync_by-how.ensures))
 
 -- all is stored
 stored_all : (c : tie.After-slice_known-then-fits-1) →
@@ -69,10 +73,13 @@ stored_all : (c : tie.After-slice_known-then-fits-1) →
     (mid ≤ c.before.before.edit_in.result)
     × ◌≡◌ {A = Out} (Put.Bytes (c.before.before.edit_in.result - mid), c.before.before.edit_in.new.area) (put_of 14 (whole at_start) mid at_start.args.area.now)
 stored_all c =
+    let at_if_fits = c.before.before.before.before in
+    let at_fits = at_if_fits.before in
+    let at_least_mid = at_fits.before.before.before.before in
     let at_start = start c.before.before.before.before.before.before.before in
-    let mid = c.before.before.before.before.before.before.before.before.before.least-mid in
-    put_all 14 (whole at_start) mid.result at_start.args.area.now (omega arith) _ (cut c.before.before.before.before.before.before) c.before.before.before.before.before.fits.result c.before.before.before.before.before.fits.ensures
-    c.before.before.before.before.if-fits.true c.before.before.edit_in.result c.before.before.edit_in.new.area c.before.before.edit_in.ensures
+    let mid = at_least_mid.least-mid in
+    put_all 14 (whole at_start) mid.result at_start.args.area.now (omega arith) _ (cut c.before.before.before.before.before.before) at_fits.fits.result at_fits.fits.ensures
+    at_if_fits.if-fits.true c.before.before.edit_in.result c.before.before.edit_in.new.area c.before.before.edit_in.ensures
 
 sub_t17 : tie.Need-overflow_sub-result
 sub_t17 c = (stored_all c).0
@@ -83,8 +90,9 @@ returns_2 c =
 
 returns_3 : tie.Need-returns
 returns_3 c =
+    let at_least_mid = c.before.before.before.before.before in
     let at_start = start c.before.before.before in
-    let mid = c.before.before.before.before.before.least-mid in
+    let mid = at_least_mid.least-mid in
     put_refused 14 (whole at_start) mid.result at_start.args.area.now (omega arith) _ (cut c.before.before) c.before.fits.result c.before.fits.ensures c.if-fits.false
     ∙ in_split c.before.before.before
 

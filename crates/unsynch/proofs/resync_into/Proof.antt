@@ -21,11 +21,13 @@ put_part_requires c κs = known_resync _ c.resync_by.ensures
 
 returns : tie.Need-returns
 returns c =
-    let a = c.before.before.before.before.before.before.before.args in
+    let at_resync_by = c.before.before.before in
+    let at_start = at_resync_by.before.before.before.before in
+    let a = at_start.args in
     let part = slice a.from a.to a.s.now in
     let e : 0 ≡ min 0 (length a.room.now) = omega arith in
     c.before.before.put_part.ensures
-    ∙ ap (λ (how : How). put_of 14 (edited how false part) 0 a.room.now) c.before.before.before.resync_by.ensures
+    ∙ ap (λ (how : How). put_of 14 (edited how false part) 0 a.room.now) at_resync_by.resync_by.ensures
     ∙ ap (λ (u : List ℕ). put_of 14 u 0 a.room.now) (resyncs false part)
     ∙ in_room (resynchronised part) 0 0 a.room.now e
 

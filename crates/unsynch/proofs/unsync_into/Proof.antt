@@ -19,7 +19,9 @@ is_led_requires c κs = ap (λ (how : How). how.insert) c.unsync_by-how.ensures
 
 put_led_requires : tie.Need-put_led-requires
 put_led_requires c κs =
-    known_unsync _ c.before.before.before.before.before.before.args.mode c.before.before.before.unsync_by-how.ensures
+    let at_unsync_by_how = c.before.before.before in
+    let at_start = at_unsync_by_how.before.before.before in
+    known_unsync _ at_start.args.mode at_unsync_by_how.unsync_by-how.ensures
 
 -- it was asked whether a 00 leads: the arguments, and what is put without it
 abbrev start : tie.After-is_led → tie.Start
@@ -40,17 +42,21 @@ made c t led =
 
 returns : tie.Need-returns-then-is_led
 returns c =
+    let at_if_is_led = c.before.before.before.before in
     let a = (start c.before.before.before.before.before).args in
-    c.before.before.put_led.ensures ∙ ap (λ (w : List ℕ). placed_of w a.at a.out.now) (made c.before.before.before.before.before _ c.before.before.before.before.if-is_led.true)
+    c.before.before.put_led.ensures ∙ ap (λ (w : List ℕ). placed_of w a.at a.out.now) (made c.before.before.before.before.before _ at_if_is_led.if-is_led.true)
 
 put_part_requires : tie.Need-put_part-requires
 put_part_requires c κs =
-    known_unsync _ c.before.before.before.before.before.before.args.mode c.before.before.before.unsync_by-how.ensures
+    let at_unsync_by_how = c.before.before.before in
+    let at_start = at_unsync_by_how.before.before.before in
+    known_unsync _ at_start.args.mode at_unsync_by_how.unsync_by-how.ensures
 
 returns_2 : tie.Need-returns
 returns_2 c =
+    let at_if_is_led = c.before.before.before.before in
     let a = (start c.before.before.before.before.before).args in
-    c.before.before.put_part.ensures ∙ ap (λ (w : List ℕ). placed_of w a.at a.out.now) (made c.before.before.before.before.before _ c.before.before.before.before.if-is_led.false)
+    c.before.before.put_part.ensures ∙ ap (λ (w : List ℕ). placed_of w a.at a.out.now) (made c.before.before.before.before.before _ at_if_is_led.if-is_led.false)
 
 pub unsync_into_spec : {M : Type 1} → statement M
 unsync_into_spec =

@@ -19,7 +19,8 @@ use Rattle.unsynch.proofs.unsync_len.Tie as tie
 returns : tie.Need-returns-then-end-from
 unfolding unsync
 returns c =
-    let a = c.before.before.before.before.args in
+    let at_start = c.before.before.before.before in
+    let a = at_start.args in
     let none = slice_cut_none a.from a.to _ a.s.now c.before.least-end.ensures c.if-end-from.true in
     sym (ap (λ (l : List ℕ). length (unsync (guards a.mode) a.prev l)) none)
 
@@ -31,30 +32,40 @@ same_length : (c : tie.Else-end-from) →
     let a = c.before.before.before.before.args in
     length (edited c.before.before.unsync_by-how.result a.prev (part c)) ≡ length (unsync (guards a.mode) a.prev (slice a.from a.to a.s.now))
 same_length c =
-    let a = c.before.before.before.before.args in
+    let at_start = c.before.before.before.before in
+    let a = at_start.args in
     ap (λ (how : How). length (edited how a.prev (part c))) c.before.before.unsync_by-how.ensures
     ∙ ap length (unsyncs a.mode a.prev (part c))
     ∙ ap (λ (l : List ℕ). length (unsync (guards a.mode) a.prev l)) (slice_cut a.from a.to _ a.s.now c.before.least-end.ensures)
 
 returns_2 : tie.Need-returns-then-not-how
 returns_2 c =
-    let a = c.before.before.before.before.before.before.args in
+    let at_least_end = c.before.before.before in
+    let at_unsync_by_how = at_least_end.before in
+    let at_start = at_unsync_by_how.before.before in
+    let a = at_start.args in
     let off = not-true _ c.if-not-how.true in
-    let how = c.before.before.before.before.unsync_by-how in
+    let how = at_unsync_by_how.unsync_by-how in
     let alone = untouched how.result off ((known_unsync how.result a.mode how.ensures).inserts off) a.prev (part c.before.before) in
-    omega (arith, ap length alone, same_length c.before.before, length-slice a.from c.before.before.before.least-end.result a.s.now (omega arith))
+    omega (arith, ap length alone, same_length c.before.before, length-slice a.from at_least_end.least-end.result a.s.now (omega arith))
 
 add_result : tie.Need-overflow_add-result
 add_result c =
-    let a = c.before.before.before.before.before.before.before.before.before.before.args in
-    let inserts = ap (λ (how : How). how.insert) c.before.before.before.before.before.before.before.before.unsync_by-how.ensures in
-    omega (arith, longer c.before.before.before.before.before.before.before.before.unsync_by-how.result inserts false (part c.before.before.before.before.before.before), hits_at_most c.before.before.before.before.before.before.before.before.unsync_by-how.result false (part c.before.before.before.before.before.before), length-slice a.from c.before.before.before.before.before.before.before.least-end.result a.s.now (omega arith), c.before.before.before.before.before.before.before.before.before.before.well_formed)
+    let at_least_end = c.before.before.before.before.before.before.before in
+    let at_unsync_by_how = at_least_end.before in
+    let at_start = at_unsync_by_how.before.before in
+    let a = at_start.args in
+    let inserts = ap (λ (how : How). how.insert) at_unsync_by_how.unsync_by-how.ensures in
+    omega (arith, longer at_unsync_by_how.unsync_by-how.result inserts false (part c.before.before.before.before.before.before), hits_at_most at_unsync_by_how.unsync_by-how.result false (part c.before.before.before.before.before.before), length-slice a.from at_least_end.least-end.result a.s.now (omega arith), at_start.well_formed)
 
 returns_3 : tie.Need-returns
 returns_3 c =
-    let a = c.before.before.before.before.before.before.before.before.before.before.args in
-    let inserts = ap (λ (how : How). how.insert) c.before.before.before.before.before.before.before.before.unsync_by-how.ensures in
-    omega (arith, same_length c.before.before.before.before.before.before, first_length c.before.before.before.before.before.before.before.before.unsync_by-how.result a.s.now a.from c.before.before.before.before.before.before.before.least-end.result (omega arith) (omega arith) a.prev c.before.before.hit.result c.before.before.hit.ensures (λ _. inserts))
+    let at_least_end = c.before.before.before.before.before.before.before in
+    let at_unsync_by_how = at_least_end.before in
+    let at_start = at_unsync_by_how.before.before in
+    let a = at_start.args in
+    let inserts = ap (λ (how : How). how.insert) at_unsync_by_how.unsync_by-how.ensures in
+    omega (arith, same_length c.before.before.before.before.before.before, first_length at_unsync_by_how.unsync_by-how.result a.s.now a.from at_least_end.least-end.result (omega arith) (omega arith) a.prev c.before.before.hit.result c.before.before.hit.ensures (λ _. inserts))
 
 pub unsync_len_spec : {M : Type 1} → statement M
 unsync_len_spec =

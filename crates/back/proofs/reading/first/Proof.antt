@@ -8,15 +8,22 @@ use Rattle.back.proofs.reading.first.Tie as tie
 
 returns : tie.Need-returns-in-Frame
 returns c =
-    c.before.before.second.ensures ∙ answered (on_first c.before.before.before.before.before.before.before.before.before.before.before.args.tag.now) c.before.before.before.before.in-Frame.is c.before.before.before.before.before.before.before.step-step.ensures
+    let at_in_Frame = c.before.before.before.before in
+    let at_step_step = at_in_Frame.before.before.before in
+    let at_start = at_step_step.before.before.before.before in
+    c.before.before.second.ensures ∙ answered (on_first at_start.args.tag.now) at_in_Frame.in-Frame.is at_step_step.step-step.ensures
 
 returns_2 : tie.Need-returns-in-End
 returns_2 c =
-    answered (on_first c.before.before.before.before.before.before.before.args.tag.now) c.in-End.is c.before.before.before.step-step.ensures
+    let at_step_step = c.before.before.before in
+    let at_start = at_step_step.before.before.before.before in
+    answered (on_first at_start.args.tag.now) c.in-End.is at_step_step.step-step.ensures
 
 returns_3 : tie.Need-returns-in-Refused
 returns_3 c =
-    answered (on_first c.before.before.before.before.before.before.before.args.tag.now) c.in-Refused.is c.before.before.before.step-step.ensures
+    let at_step_step = c.before.before.before in
+    let at_start = at_step_step.before.before.before.before in
+    answered (on_first at_start.args.tag.now) c.in-Refused.is at_step_step.step-step.ensures
 
 pub first_spec : {M : Type 1} → statement M
 first_spec =

@@ -7,15 +7,21 @@ use Rattle.back.proofs.reading.second.Tie as tie
 
 returns : tie.Need-returns-in-Frame
 returns c =
-    answered (on_second c.before.before.before.before.before.before.before.args.«record») c.in-Frame.is c.before.before.before.step-step.ensures
+    let at_step_step = c.before.before.before in
+    let at_start = at_step_step.before.before.before.before in
+    answered (on_second at_start.args.«record») c.in-Frame.is at_step_step.step-step.ensures
 
 returns_2 : tie.Need-returns-in-End
 returns_2 c =
-    answered (on_second c.before.before.before.before.before.before.before.args.«record») c.in-End.is c.before.before.before.step-step.ensures
+    let at_step_step = c.before.before.before in
+    let at_start = at_step_step.before.before.before.before in
+    answered (on_second at_start.args.«record») c.in-End.is at_step_step.step-step.ensures
 
 returns_3 : tie.Need-returns-in-Refused
 returns_3 c =
-    answered (on_second c.before.before.before.before.before.before.before.args.«record») c.in-Refused.is c.before.before.before.step-step.ensures
+    let at_step_step = c.before.before.before in
+    let at_start = at_step_step.before.before.before.before in
+    answered (on_second at_start.args.«record») c.in-Refused.is at_step_step.step-step.ensures
 
 pub second_spec : {M : Type 1} → statement M
 second_spec =

@@ -29,15 +29,21 @@ adds c known =
 
 returns : tie.Need-returns-in-Done
 returns c =
-    let b = c.before.before.before.before.before.before.before.before.add-added.new.buffer in
-    let finishes = answered {C = Writing} (λ (f : Finished) (o : List ℕ). (wrote_as f, (b, o))) c.in-Done.is c.before.before.before.finish-finished.ensures in
-    (finishes ∙ adds c.before.before.before.before.before.before.before.before c.before.before.before.before.before.in-Accepted.is, c.before.before.before.before.before.before.before.before.add-added.ensures.1)
+    let at_finish_finished = c.before.before.before in
+    let at_in_Accepted = at_finish_finished.before.before in
+    let at_add_added = at_in_Accepted.before.before.before in
+    let b = at_add_added.add-added.new.buffer in
+    let finishes = answered {C = Writing} (λ (f : Finished) (o : List ℕ). (wrote_as f, (b, o))) c.in-Done.is at_finish_finished.finish-finished.ensures in
+    (finishes ∙ adds at_add_added at_in_Accepted.in-Accepted.is, at_add_added.add-added.ensures.1)
 
 returns_2 : tie.Need-returns-in-Refused-finished
 returns_2 c =
-    let b = c.before.before.before.before.before.before.before.before.add-added.new.buffer in
-    let finishes = answered {C = Writing} (λ (f : Finished) (o : List ℕ). (wrote_as f, (b, o))) c.in-Refused-finished.is c.before.before.before.finish-finished.ensures in
-    (finishes ∙ adds c.before.before.before.before.before.before.before.before c.before.before.before.before.before.in-Accepted.is, tt)
+    let at_finish_finished = c.before.before.before in
+    let at_in_Accepted = at_finish_finished.before.before in
+    let at_add_added = at_in_Accepted.before.before.before in
+    let b = at_add_added.add-added.new.buffer in
+    let finishes = answered {C = Writing} (λ (f : Finished) (o : List ℕ). (wrote_as f, (b, o))) c.in-Refused-finished.is at_finish_finished.finish-finished.ensures in
+    (finishes ∙ adds at_add_added at_in_Accepted.in-Accepted.is, tt)
 
 returns_3 : tie.Need-returns-in-Refused
 returns_3 c =

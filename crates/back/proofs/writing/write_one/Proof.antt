@@ -10,16 +10,21 @@ use Rattle.back.proofs.writing.write_one.Tie as tie
 returns : tie.Need-returns-in-Ready
 unfolding write_of
 returns c =
-    let a = c.before.before.before.before.before.before.before.before.before.before.before.before.before.before.before.args in
+    let at_add_one = c.before.before.before.before in
+    let at_in_Ready = at_add_one.before.before.before in
+    let at_begin_begun = at_in_Ready.before in
+    let at_start = at_begin_begun.before.before.before.before.before.before.before in
+    let a = at_start.args in
     let r = rec_of a.heading a.name.now a.names.now a.rest.now a.deviations.now in
-    let adds = c.before.before.before.before.add_one.ensures in
+    let adds = at_add_one.add_one.ensures in
     let whole : Begun → Writing = on_begun a.padding r a.buffer.now a.output.now in
-    (◌∙◌ {b = whole (Begun.Ready c.before.before.before.before.before.before.before.in-Ready.writer)} adds.0 (ap whole (sym c.before.before.before.before.before.before.before.in-Ready.is ∙ c.before.before.before.before.before.before.before.before.begin-begun.ensures)), adds.1)
+    (◌∙◌ {b = whole (Begun.Ready at_in_Ready.in-Ready.writer)} adds.0 (ap whole (sym at_in_Ready.in-Ready.is ∙ at_begin_begun.begin-begun.ensures)), adds.1)
 
 returns_2 : tie.Need-returns-in-Refused
 unfolding write_of
 returns_2 c =
-    let a = c.before.before.before.before.before.before.before.before.args in
+    let at_start = c.before.before.before.before.before.before.before.before in
+    let a = at_start.args in
     let r = rec_of a.heading a.name.now a.names.now a.rest.now a.deviations.now in
     (ap (on_begun a.padding r a.buffer.now a.output.now) (sym c.in-Refused.is ∙ c.before.begin-begun.ensures), tt)
 

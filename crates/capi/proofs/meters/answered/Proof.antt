@@ -7,15 +7,19 @@ use Rattle.capi.proofs.meters.answered.Tie as tie
 
 returns : tie.Need-returns-in-Found
 returns c =
-    rw (c.before.before.before.before.before.before.before.before.in-Found.is, c.before.before.before.before.before.before.store_moved.ensures, c.before.before.store_metered.ensures)
+    let at_store_moved = c.before.before.before.before.before.before in
+    let at_in_Found = at_store_moved.before.before in
+    rw (at_in_Found.in-Found.is, at_store_moved.store_moved.ensures, c.before.before.store_metered.ensures)
 
 returns_2 : tie.Need-returns-in-End
 returns_2 c =
-    rw (c.before.before.before.before.in-End.is, c.before.before.store_moved-in-End.ensures)
+    let at_in_End = c.before.before.before.before in
+    rw (at_in_End.in-End.is, c.before.before.store_moved-in-End.ensures)
 
 returns_3 : tie.Need-returns-in-Refused
 returns_3 c =
-    rw (c.before.before.before.before.in-Refused.is, c.before.before.store_moved-in-Refused.ensures)
+    let at_in_Refused = c.before.before.before.before in
+    rw (at_in_Refused.in-Refused.is, c.before.before.store_moved-in-Refused.ensures)
 
 pub answered_spec : {M : Type 1} → statement M
 answered_spec =

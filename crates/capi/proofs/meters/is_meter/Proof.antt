@@ -5,7 +5,8 @@ use Rattle.capi.proofs.meters.is_meter.Tie as tie
 
 returns : tie.Need-returns
 returns c =
-    rw c.before.before.before.is_reader.ensures
+    let at_is_reader = c.before.before.before in
+    rw at_is_reader.is_reader.ensures
 
 pub is_meter_spec : {M : Type 1} → statement M
 is_meter_spec =

@@ -12,18 +12,24 @@ returns c = rw (sym c.before.is_meter.ensures ∙ not-true _ c.if-not-is_meter.t
 
 returns_2 : tie.Need-returns-then-words-eq-STOP_ENDED
 returns_2 c =
-    rw (sym c.before.before.before.is_meter.ensures ∙ not-false _ c.before.before.if-not-is_meter.false-raw, eq-eqb _ _ c.if-words-eq-STOP_ENDED.true)
+    let at_is_meter = c.before.before.before in
+    rw (sym at_is_meter.is_meter.ensures ∙ not-false _ c.before.before.if-not-is_meter.false-raw, eq-eqb _ _ c.if-words-eq-STOP_ENDED.true)
 
 cast_result : tie.Need-overflow_cast-result
 cast_result c =
-    let w = c.before.before.before.before.before.before.args.words.now in
-    let e = sym c.before.before.before.before.is_meter.ensures ∙ not-false _ c.before.before.before.if-not-is_meter.false-raw in
+    let at_if_not_is_meter = c.before.before.before in
+    let at_is_meter = at_if_not_is_meter.before in
+    let at_start = at_is_meter.before.before in
+    let w = at_start.args.words.now in
+    let e = sym at_is_meter.is_meter.ensures ∙ not-false _ at_if_not_is_meter.if-not-is_meter.false-raw in
     let h = number_fits w e in
     omega arith
 
 returns_3 : tie.Need-returns
 returns_3 c =
-    rw (sym c.before.before.before.before.is_meter.ensures ∙ not-false _ c.before.before.before.if-not-is_meter.false-raw, ne_eqb _ _ c.before.if-words-eq-STOP_ENDED.false)
+    let at_if_not_is_meter = c.before.before.before in
+    let at_is_meter = at_if_not_is_meter.before in
+    rw (sym at_is_meter.is_meter.ensures ∙ not-false _ at_if_not_is_meter.if-not-is_meter.false-raw, ne_eqb _ _ c.before.if-words-eq-STOP_ENDED.false)
 
 pub stopped_spec : {M : Type 1} → statement M
 stopped_spec =

@@ -15,11 +15,13 @@ returns_3 c = rw (lt-ltb _ _ c.before.before.if-start_time-ge-LIMIT_32.false, lt
 
 returns_4 : tie.Need-returns-then-end_offset-ge-LIMIT_32
 returns_4 c =
-    rw (lt-ltb _ _ c.before.before.before.if-start_time-ge-LIMIT_32.false, lt-ltb _ _ c.before.before.if-end_time-ge-LIMIT_32.false, lt-ltb _ _ c.before.if-start_offset-ge-LIMIT_32.false, le-ltb _ _ c.if-end_offset-ge-LIMIT_32.true)
+    let at_if_start_time_ge_LIMIT_32 = c.before.before.before in
+    rw (lt-ltb _ _ at_if_start_time_ge_LIMIT_32.if-start_time-ge-LIMIT_32.false, lt-ltb _ _ c.before.before.if-end_time-ge-LIMIT_32.false, lt-ltb _ _ c.before.if-start_offset-ge-LIMIT_32.false, le-ltb _ _ c.if-end_offset-ge-LIMIT_32.true)
 
 returns_5 : tie.Need-returns
 returns_5 c =
-    rw (lt-ltb _ _ c.before.before.before.if-start_time-ge-LIMIT_32.false, lt-ltb _ _ c.before.before.if-end_time-ge-LIMIT_32.false, lt-ltb _ _ c.before.if-start_offset-ge-LIMIT_32.false, lt-ltb _ _ c.if-end_offset-ge-LIMIT_32.false)
+    let at_if_start_time_ge_LIMIT_32 = c.before.before.before in
+    rw (lt-ltb _ _ at_if_start_time_ge_LIMIT_32.if-start_time-ge-LIMIT_32.false, lt-ltb _ _ c.before.before.if-end_time-ge-LIMIT_32.false, lt-ltb _ _ c.before.if-start_offset-ge-LIMIT_32.false, lt-ltb _ _ c.if-end_offset-ge-LIMIT_32.false)
 
 pub chapter_fields_spec : {M : Type 1} → statement M
 chapter_fields_spec =

@@ -13,22 +13,26 @@ returns c = rw c.before.before.in-0.is c.text_fields.ensures
 returns_2 : tie.Need-returns-in-1
 unfolding fields_of
 returns_2 c =
-    rw c.before.before.before.in-1.is c.popularimeter_fields.ensures
+    let at_in_1 = c.before.before.before in
+    rw at_in_1.in-1.is c.popularimeter_fields.ensures
 
 returns_3 : tie.Need-returns-in-2
 unfolding fields_of
 returns_3 c =
-    rw c.before.before.before.before.before.before.in-2.is c.table_fields.ensures
+    let at_in_2 = c.before.before.before.before.before.before in
+    rw at_in_2.in-2.is c.table_fields.ensures
 
 returns_4 : tie.Need-returns-in-3
 unfolding fields_of
 returns_4 c =
-    rw c.before.before.before.before.before.in-3.is c.chapter_fields.ensures
+    let at_in_3 = c.before.before.before.before.before in
+    rw at_in_3.in-3.is c.chapter_fields.ensures
 
 returns_5 : tie.Need-returns-in-4
 unfolding fields_of
 returns_5 c =
-    rw c.before.before.before.in-4.is c.contents_fields.ensures
+    let at_in_4 = c.before.before.before in
+    rw at_in_4.in-4.is c.contents_fields.ensures
 
 returns_6 : tie.Need-returns-in-5
 unfolding fields_of

@@ -7,7 +7,8 @@ use Rattle.capi.proofs.records.store_heading.Tie as tie
 
 returns : tie.Need-returns
 returns c =
-    rw (c.before.before.before.numbers_of-n.ensures, c.before.flag.ensures, c.flag-2.ensures)
+    let at_numbers_of_n = c.before.before.before in
+    rw (at_numbers_of_n.numbers_of-n.ensures, c.before.flag.ensures, c.flag-2.ensures)
 
 pub store_heading_spec : {M : Type 1} → statement M
 store_heading_spec =

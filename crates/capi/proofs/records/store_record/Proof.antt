@@ -7,7 +7,8 @@ use Rattle.capi.proofs.records.store_record.Tie as tie
 returns : tie.Need-returns
 unfolding record_words
 returns c =
-    rw (c.before.before.store_places.ensures, c.before.before.before.before.before.before.store_heading.ensures)
+    let at_store_heading = c.before.before.before.before.before.before in
+    rw (c.before.before.store_places.ensures, at_store_heading.store_heading.ensures)
 
 pub store_record_spec : {M : Type 1} → statement M
 store_record_spec =

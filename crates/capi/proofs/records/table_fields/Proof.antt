@@ -9,7 +9,8 @@ returns c = rw (le-ltb _ _ c.if-frames-ge-LIMIT_16.true)
 
 returns_2 : tie.Need-returns
 returns_2 c =
-    rw (lt-ltb _ _ c.before.before.before.before.if-frames-ge-LIMIT_16.false) (cc)
+    let at_if_frames_ge_LIMIT_16 = c.before.before.before.before in
+    rw (lt-ltb _ _ at_if_frames_ge_LIMIT_16.if-frames-ge-LIMIT_16.false) (cc)
 
 pub table_fields_spec : {M : Type 1} → statement M
 table_fields_spec =

@@ -13,13 +13,19 @@ returns c = rw (sym c.before.is_reader.ensures ∙ not-true _ c.if-not-is_reader
 
 stop_of_requires : tie.Need-stop_of-requires
 stop_of_requires c κs =
-    let w = c.before.before.before.before.before.before.before.before.before.before.before.before.before.before.before.args.words.now in
-    number_small (word 0 w) (word 1 w) (word 5 w) (word 6 w) (sym c.before.before.before.before.before.before.before.before.before.is_reader.ensures ∙ not-false _ c.before.before.before.before.before.before.before.before.if-not-is_reader.false-raw)
+    let at_if_not_is_reader = c.before.before.before.before.before.before.before.before in
+    let at_is_reader = at_if_not_is_reader.before in
+    let at_start = at_is_reader.before.before.before.before.before.before in
+    let w = at_start.args.words.now in
+    number_small (word 0 w) (word 1 w) (word 5 w) (word 6 w) (sym at_is_reader.is_reader.ensures ∙ not-false _ at_if_not_is_reader.if-not-is_reader.false-raw)
 
 returns_2 : tie.Need-returns
 unfolding reader_of
 returns_2 c =
-    rw (sym c.before.before.before.before.before.before.before.before.before.before.is_reader.ensures ∙ not-false _ c.before.before.before.before.before.before.before.before.before.if-not-is_reader.false-raw, c.before.before.before.before.before.before.before.version_of.ensures, c.stop_of.ensures)
+    let at_version_of = c.before.before.before.before.before.before.before in
+    let at_if_not_is_reader = at_version_of.before.before in
+    let at_is_reader = at_if_not_is_reader.before in
+    rw (sym at_is_reader.is_reader.ensures ∙ not-false _ at_if_not_is_reader.if-not-is_reader.false-raw, at_version_of.version_of.ensures, c.stop_of.ensures)
 
 pub load_reader_spec : {M : Type 1} → statement M
 load_reader_spec =

@@ -13,7 +13,10 @@ returns c = rw (sym c.before.is_writer.ensures ∙ not-true _ c.if-not-is_writer
 returns_2 : tie.Need-returns
 unfolding writer_of
 returns_2 c =
-    rw (sym c.before.before.before.before.before.before.before.is_writer.ensures ∙ not-false _ c.before.before.before.before.before.before.if-not-is_writer.false-raw, c.before.before.before.before.version_of.ensures, c.before.before.mode_of.ensures)
+    let at_version_of = c.before.before.before.before in
+    let at_if_not_is_writer = at_version_of.before.before in
+    let at_is_writer = at_if_not_is_writer.before in
+    rw (sym at_is_writer.is_writer.ensures ∙ not-false _ at_if_not_is_writer.if-not-is_writer.false-raw, at_version_of.version_of.ensures, c.before.before.mode_of.ensures)
 
 pub load_writer_spec : {M : Type 1} → statement M
 load_writer_spec =

@@ -9,7 +9,8 @@ use Rattle.capi.proofs.words.store_header.Tie as tie
 returns : tie.Need-returns
 unfolding header_words
 returns c =
-    rw c.before.before.before.version_number.ensures
+    let at_version_number = c.before.before.before in
+    rw at_version_number.version_number.ensures
 
 pub store_header_spec : {M : Type 1} → statement M
 store_header_spec =

@@ -9,7 +9,8 @@ use Rattle.capi.proofs.words.store_reader.Tie as tie
 returns : tie.Need-returns
 unfolding reader_words
 returns c =
-    rw (c.before.before.before.version_number.ensures, c.before.before.flag.ensures, c.before.stop_number.ensures, c.failure_number.ensures)
+    let at_version_number = c.before.before.before in
+    rw (at_version_number.version_number.ensures, c.before.before.flag.ensures, c.before.stop_number.ensures, c.failure_number.ensures)
 
 pub store_reader_spec : {M : Type 1} → statement M
 store_reader_spec =

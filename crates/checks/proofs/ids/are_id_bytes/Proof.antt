@@ -13,13 +13,16 @@ returns c =
 
 returns_2 : tie.Need-returns-then-not-is_id_byte-2
 returns_2 c =
-    let high = sym c.before.before.before.is_id_byte.ensures ∙ not-false _ c.before.before.if-not-is_id_byte.false-raw in
+    let at_is_id_byte = c.before.before.before in
+    let high = sym at_is_id_byte.is_id_byte.ensures ∙ not-false _ c.before.before.if-not-is_id_byte.false-raw in
     let middle = sym c.before.is_id_byte-2.ensures ∙ not-true _ c.if-not-is_id_byte-2.true-raw in
     rw (three_bytes, high, middle)
 
 returns_3 : tie.Need-returns
 returns_3 c =
-    let high = sym c.before.before.before.before.is_id_byte.ensures ∙ not-false _ c.before.before.before.if-not-is_id_byte.false-raw in
+    let at_if_not_is_id_byte = c.before.before.before in
+    let at_is_id_byte = at_if_not_is_id_byte.before in
+    let high = sym at_is_id_byte.is_id_byte.ensures ∙ not-false _ at_if_not_is_id_byte.if-not-is_id_byte.false-raw in
     let middle = sym c.before.before.is_id_byte-2.ensures ∙ not-false _ c.before.if-not-is_id_byte-2.false-raw in
     rw (three_bytes, high, middle) c.is_id_byte-3.ensures
 

@@ -19,9 +19,13 @@ kinds : (c : tie.After-kinds_refusal-k) (name names rest deviations : List ℕ) 
     let r = rec_of a.heading name names rest deviations in
     first (id_check a.version r ∷ raw_check a.version r ∷ []) ≡ first (c.kinds_refusal-k.result ∷ pick a.heading.short 25 0 ∷ pick a.heading.compressed 25 0 ∷ [])
 kinds c name names rest deviations =
-    let a = c.before.before.before.before.before.before.args in
-    let is = sym c.before.before.before.before.before.is_id.ensures ∙ not-false _ c.before.before.before.before.if-not-is_id.false-raw in
-    let own = c.before.before.before.fields_number.ensures name names rest deviations in
+    let at_fields_number = c.before.before.before in
+    let at_if_not_is_id = at_fields_number.before in
+    let at_is_id = at_if_not_is_id.before in
+    let at_start = at_is_id.before in
+    let a = at_start.args in
+    let is = sym at_is_id.is_id.ensures ∙ not-false _ at_if_not_is_id.if-not-is_id.false-raw in
+    let own = at_fields_number.fields_number.ensures name names rest deviations in
     let said = c.before.kind_number.ensures ∙ ap kind_number c.before.before.kind_of.ensures in
     from_kinds a.version a.heading name names rest deviations is _ _ c.kinds_refusal-k.result own said c.kinds_refusal-k.ensures
 
@@ -35,7 +39,8 @@ returns_2 c name names rest deviations = sym (kinds c.before name names rest dev
 
 returns_3 : tie.Need-returns-then-heading
 returns_3 c name names rest deviations =
-    let a = c.before.before.before.before.before.before.before.before.args in
+    let at_start = c.before.before.before.before.before.before.before.before in
+    let a = at_start.args in
     let marked = kinds c.before.before name names rest deviations ∙ passed _ _ c.before.if-k-ne0.false in
     sym (marked ∙ marks {compressed = a.heading.compressed} c.if-heading.true refl)
 

@@ -20,14 +20,18 @@ loop_holds c = (omega arith, refl)
 
 returns : tie.Need-returns-then-ids-i invariant_loop decreases_loop
 returns c =
-    let a = c.before.before.before.before.args in
-    let L = c.before.before.before.loop-i in
+    let at_loop_i = c.before.before.before in
+    let at_start = at_loop_i.before in
+    let a = at_start.args in
+    let L = at_loop_i.loop-i in
     sym (among_here a.id a.ids.now L.i c.before.before.loop-i-test.true c.if-ids-i.true) ∙ L.invariant.1
 
 loop_again : tie.Need-loop-i-preserved invariant_loop decreases_loop
 loop_again c =
-    let a = c.before.before.before.before.args in
-    let L = c.before.before.before.loop-i in
+    let at_loop_i = c.before.before.before in
+    let at_start = at_loop_i.before in
+    let a = at_start.args in
+    let L = at_loop_i.loop-i in
     (omega arith, sym (among_next a.id a.ids.now L.i c.before.before.loop-i-test.true c.if-ids-i.false) ∙ L.invariant.1)
 
 returns_2 : tie.Need-returns invariant_loop decreases_loop

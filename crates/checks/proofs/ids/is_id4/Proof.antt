@@ -14,7 +14,8 @@ use Rattle.checks.proofs.ids.is_id4.Tie as tie
 returns : tie.Need-returns-then-is_id_byte
 unfolding digits all_id_bytes
 returns c =
-    let fits : ltb c.before.before.before.args.id (256 ^ 4) ≡ true = lt-ltb c.before.before.before.args.id (256 ^ 4) (omega arith) in
+    let at_start = c.before.before.before in
+    let fits : ltb at_start.args.id (256 ^ 4) ≡ true = lt-ltb at_start.args.id (256 ^ 4) (omega arith) in
     rw (fits, ← c.before.before.is_id_byte.ensures, c.before.if-is_id_byte.true) c.are_id_bytes.ensures
 
 returns_2 : tie.Need-returns-else-is_id_byte

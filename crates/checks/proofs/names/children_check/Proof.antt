@@ -8,7 +8,8 @@ use Rattle.checks.proofs.names.children_check.Tie as tie
 
 returns : tie.Need-returns-then-last_byte-gt0
 returns c =
-    sym (not_closed c.before.before.before.args.children.now (omega arith))
+    let at_start = c.before.before.before in
+    sym (not_closed at_start.args.children.now (omega arith))
 
 -- the two last answers stand in the list, so that no name in them hangs on the number in the test
 pub children_check_spec : {M : Type 1} → statement M

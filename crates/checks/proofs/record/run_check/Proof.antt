@@ -15,7 +15,8 @@ walks : (c : tie.After-walk-k) →
     let a = c.before.before.before.args in
     (walked true a.version 2 a.run.now []).0 ≡ c.walk-k.result
 walks c =
-    let a = c.before.before.before.args in
+    let at_start = c.before.before.before in
+    let a = at_start.args in
     ap (λ (s : List ℕ). (walked true a.version 2 s []).0) (sym (take-length a.run.now)) ∙ sym (ap (λ (o : ℕ × List ℕ). o.0) c.walk-k.ensures)
 
 returns : tie.Need-returns-then-k-eq0

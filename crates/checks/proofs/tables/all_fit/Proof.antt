@@ -21,19 +21,26 @@ loop_holds c = (omega arith, refl)
 
 returns : tie.Need-returns-then-not-fits invariant_loop decreases_loop
 returns c =
-    let ds = c.before.before.before.before.before.before.args.deviations.now in
-    let L = c.before.before.before.before.loop-i in
-    sym (one_over ds L.i L.a L.b c.before.before.before.loop-i-test.true (sym c.before.fits.ensures ∙ not-true _ c.if-not-fits.true-raw)) ∙ L.invariant.1
+    let at_loop_i_test = c.before.before.before in
+    let at_loop_i = at_loop_i_test.before in
+    let at_start = at_loop_i.before.before in
+    let ds = at_start.args.deviations.now in
+    let L = at_loop_i.loop-i in
+    sym (one_over ds L.i L.a L.b at_loop_i_test.loop-i-test.true (sym c.before.fits.ensures ∙ not-true _ c.if-not-fits.true-raw)) ∙ L.invariant.1
 
 loop_again : tie.Need-loop-i-preserved invariant_loop decreases_loop
 loop_again c =
-    let ds = c.before.before.before.before.before.before.args.deviations.now in
-    let L = c.before.before.before.before.loop-i in
-    (omega arith, sym (one_fits ds L.i L.a L.b c.before.before.before.loop-i-test.true (sym c.before.fits.ensures ∙ not-false _ c.if-not-fits.false-raw)) ∙ L.invariant.1)
+    let at_loop_i_test = c.before.before.before in
+    let at_loop_i = at_loop_i_test.before in
+    let at_start = at_loop_i.before.before in
+    let ds = at_start.args.deviations.now in
+    let L = at_loop_i.loop-i in
+    (omega arith, sym (one_fits ds L.i L.a L.b at_loop_i_test.loop-i-test.true (sym c.before.fits.ensures ∙ not-false _ c.if-not-fits.false-raw)) ∙ L.invariant.1)
 
 returns_2 : tie.Need-returns invariant_loop decreases_loop
 returns_2 c =
-    let ds = c.before.before.before.args.deviations.now in
+    let at_start = c.before.before.before in
+    let ds = at_start.args.deviations.now in
     let L = c.before.loop-i in
     sym (none_left L.a L.b (drop L.i ds) (omega (arith, length-drop L.i ds))) ∙ L.invariant.1
 

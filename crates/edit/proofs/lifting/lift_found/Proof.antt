@@ -16,8 +16,9 @@ raised c = c.before.before.before.before
 
 returns : tie.Need-returns-then-k-ne-COUNTER_TOO_SHORT
 returns c =
-    let a = (start c.before.before.before.before).args in
-    lift_refused a.begin a.start a.stop a.counter a.last a.user.now a.amount a.tag.now c.before.before.before.before.raise_at-raised.ensures c.before.in-Refused.is c.if-k-ne-COUNTER_TOO_SHORT.true
+    let at_raise_at_raised = c.before.before.before.before in
+    let a = (start at_raise_at_raised).args in
+    lift_refused a.begin a.start a.stop a.counter a.last a.user.now a.amount a.tag.now at_raise_at_raised.raise_at-raised.ensures c.before.in-Refused.is c.if-k-ne-COUNTER_TOO_SHORT.true
 
 short : (c : tie.Else-k-ne-COUNTER_TOO_SHORT) → (raised c).raise_at-raised.result ≡ Raised.Refused 44
 short c = c.before.in-Refused.is ∙ ap Raised.Refused c.if-k-ne-COUNTER_TOO_SHORT.false
@@ -31,8 +32,9 @@ add_outgrow c =
 
 returns_2 : tie.Need-returns-in-Counts
 returns_2 c =
-    let a = (start c.before.before.before).args in
-    lift_counts a.begin a.start a.stop a.counter a.last a.user.now a.amount a.tag.now c.before.before.before.raise_at-raised.ensures c.in-Counts.is
+    let at_raise_at_raised = c.before.before.before in
+    let a = (start at_raise_at_raised).args in
+    lift_counts a.begin a.start a.stop a.counter a.last a.user.now a.amount a.tag.now at_raise_at_raised.raise_at-raised.ensures c.in-Counts.is
 
 returns_3 : tie.Need-returns-else-k-ne-COUNTER_TOO_SHORT
 returns_3 c =

@@ -7,14 +7,19 @@ use Rattle.edit.proofs.lifting.outgrow.Tie as tie
 
 returns : tie.Need-returns-in-Refused
 returns c =
-    let a = c.before.before.before.before.args in
+    let at_start = c.before.before.before.before in
+    let a = at_start.args in
     grow_refused a.begin a.start a.stop a.last a.user.now a.counter a.tag.now c.before.frames-framed.ensures c.in-Refused.is
 
 returns_2 : tie.Need-returns-in-Frames
 returns_2 c =
-    let a = c.before.before.before.before.before.before.before.before.before.args in
+    let at_byte_before_rating = c.before.before.before.before in
+    let at_in_Frames = at_byte_before_rating.before in
+    let at_frames_framed = at_in_Frames.before in
+    let at_start = at_frames_framed.before.before.before in
+    let a = at_start.args in
     c.before.before.recount.ensures
-    ∙ grow_put a.begin a.start a.stop a.last a.user.now a.counter a.tag.now c.before.before.before.before.before.before.frames-framed.ensures c.before.before.before.before.before.in-Frames.is c.before.before.before.before.byte_before-rating.ensures
+    ∙ grow_put a.begin a.start a.stop a.last a.user.now a.counter a.tag.now at_frames_framed.frames-framed.ensures at_in_Frames.in-Frames.is at_byte_before_rating.byte_before-rating.ensures
 
 pub outgrow_spec : {M : Type 1} → statement M
 outgrow_spec =

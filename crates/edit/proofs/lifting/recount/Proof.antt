@@ -18,9 +18,10 @@ placed : (c : tie.After-put_between-edited) → let a = (start c).args in
     ◌≡◌ {A = Edit} (c.put_between-edited.result, c.put_between-edited.new.buffer)
     (placed_of a.version a.gap (counted (meter_id a.version) a.user.now a.rating a.counter) a.tag.now)
 placed c =
+    let at_meter_id = c.before.before.before.before.before.before in
     let a = (start c).args in
     c.put_between-edited.ensures
-    ∙ ap {B = Edit} (λ (id : ℕ). placed_of a.version a.gap (counted id a.user.now a.rating a.counter) a.tag.now) c.before.before.before.before.before.before.meter_id.ensures
+    ∙ ap {B = Edit} (λ (id : ℕ). placed_of a.version a.gap (counted id a.user.now a.rating a.counter) a.tag.now) at_meter_id.meter_id.ensures
 
 returns : tie.Need-returns-in-Done
 returns c =

@@ -9,7 +9,9 @@ use Rattle.edit.proofs.locating.locate.Tie as tie
 
 -- what the scan found
 told : (c : tie.After-scan-scanned) {x : Scanned} → c.scan-scanned.result ≡ x → let a = c.before.before.before.before.args in located_in x ≡ located_of a.tag.now a.number
-told c e = let a = c.before.before.before.before.args in located_scanned a.tag.now _ a.number (sym e ∙ c.scan-scanned.ensures)
+told c e =
+    let at_start = c.before.before.before.before in
+    let a = at_start.args in located_scanned a.tag.now _ a.number (sym e ∙ c.scan-scanned.ensures)
 
 returns : tie.Need-returns-in-Refused
 returns c = told c.before c.in-Refused.is

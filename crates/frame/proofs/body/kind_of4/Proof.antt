@@ -23,7 +23,8 @@ returns_5 c = rw c.in-1129598787.is
 
 returns_6 : tie.Need-returns-in_default
 returns_6 c =
-    let id = c.before.before.before.args.id in
+    let at_start = c.before.before.before in
+    let id = at_start.args.id in
     let no = c.in_default.in_default-own.rest in
     rw (
       sym c.before.before.is_text.ensures ∙ c.before.if-is_text.false,

@@ -7,7 +7,8 @@ use Rattle.frame.proofs.body.parse_raw.Tie as tie
 
 returns : tie.Need-returns
 returns c v =
-    let a = c.before.before.before.args in
+    let at_start = c.before.before.before in
+    let a = at_start.args in
     let b = c.before.part-b in
     accepted v Kind.Raw a.from b.result.now _ b.ensures _ (raw_taken b.result.now)
     (raw_parts v a.from b.result.now c.nowhere-none.result c.nowhere-none.ensures)

@@ -20,17 +20,21 @@ decreases_loop s count left₀ i₀ left i = length s - i
 
 returns : tie.Need-returns-then-i-s invariant_loop decreases_loop
 returns c =
-    let a = c.before.before.before.args in
+    let at_start = c.before.before.before in
+    let a = at_start.args in
     let s = a.s.now in
     let L = c.before.before.loop-left in
     names_missing a.count s (omega (arith, no_zeros (drop L.i s) (omega (arith, length-drop L.i s))))
 
 loop_again : tie.Need-loop-left-preserved invariant_loop decreases_loop
 loop_again c =
-    let s = c.before.before.before.before.before.args.s.now in
-    let L = c.before.before.before.before.loop-left in
+    let at_loop_left_test = c.before.before.before in
+    let at_loop_left = at_loop_left_test.before in
+    let at_start = at_loop_left.before in
+    let s = at_start.args.s.now in
+    let L = at_loop_left.loop-left in
     let lt = c.before.before.if-i-s.false in
-    let some = c.before.before.before.loop-left-test.true in
+    let some = at_loop_left_test.loop-left-test.true in
     elim c.if-s-i-eq0.branch [
       | then-s-i-eq0 w ↦ rw w.left-is (omega (arith, name_closed s L.i lt L.left some w.if-s-i-eq0.true))
       | else-s-i-eq0 w ↦ rw w.left-is (omega (arith, name_goes_on s L.i lt L.left some w.if-s-i-eq0.false))

@@ -13,29 +13,39 @@ add_run c = omega (arith, zero_le c.before.part-b.result.now, c.before.part-b.ty
 
 returns : tie.Need-returns-then-b-run
 returns c v =
-    let a = c.before.before.before.before.args in
+    let at_start = c.before.before.before.before in
+    let a = at_start.args in
     let b = c.before.before.part-b in
     let z = c.before.zero_at-len in
     refused v Kind.Chapter a.from b.result.now _ b.ensures 10 (chapter_cut b.result.now z.result z.ensures c.if-b-run.true)
 
 add_start : tie.Need-overflow_add-start
 add_start c =
-    let a = c.before.before.before.before.before.before.before.before.args in
-    let b = c.before.before.before.before.before.before.part-b in
-    let whole = c.before.before.before.before.if-b-run.false in
+    let at_if_b_run = c.before.before.before.before in
+    let at_part_b = at_if_b_run.before.before in
+    let at_start = at_part_b.before.before in
+    let a = at_start.args in
+    let b = at_part_b.part-b in
+    let whole = at_if_b_run.if-b-run.false in
     omega (arith, cut_lies a.from a.to a.s.now b.result.now b.ensures (omega arith))
 
 returns_2 : tie.Need-returns
 returns_2 c v =
-    let a = c.before.before.before.before.before.before.before.before.before.args in
-    let b = c.before.before.before.before.before.before.before.part-b in
-    let z = c.before.before.before.before.before.before.zero_at-len in
+    let at_read32_2 = c.before.before.before in
+    let at_read32 = at_read32_2.before in
+    let at_if_b_run = at_read32.before in
+    let at_zero_at_len = at_if_b_run.before in
+    let at_part_b = at_zero_at_len.before in
+    let at_start = at_part_b.before.before in
+    let a = at_start.args in
+    let b = at_part_b.part-b in
+    let z = at_zero_at_len.zero_at-len in
     let none = c.nowhere in
     accepted v Kind.Chapter a.from b.result.now _ b.ensures _
-    (chapter_whole b.result.now z.result z.ensures c.before.before.before.before.before.if-b-run.false)
+    (chapter_whole b.result.now z.result z.ensures at_if_b_run.if-b-run.false)
     (chapter_parts b.result.now z.result z.ensures v a.from _ _ _ _ none.result
-    c.before.before.before.before.read32.ensures
-    c.before.before.before.read32-2.ensures
+    at_read32.read32.ensures
+    at_read32_2.read32-2.ensures
     c.before.before.read32-3.ensures
     c.before.read32-4.ensures
     none.ensures)

@@ -22,20 +22,25 @@ add_at c = omega (arith, zero_le c.before.part-b.result.now, c.before.part-b.typ
 
 returns : tie.Need-returns-then-b-at
 returns c v =
-    let a = c.before.before.before.before.args in
+    let at_start = c.before.before.before.before in
+    let a = at_start.args in
     let b = c.before.before.part-b in
     let z = c.before.zero_at-len in
     refused v Kind.Contents a.from b.result.now _ b.ensures 10 (contents_cut b.result.now z.result z.ensures c.if-b-at.true)
 
 returns_2 : tie.Need-returns-in_default
 returns_2 c v =
-    let a = c.before.before.before.before.before.before.before.before.before.args in
-    let b = c.before.before.before.before.before.before.before.part-b in
-    let z = c.before.before.before.before.before.before.zero_at-len in
+    let at_if_b_at = c.before.before.before.before.before in
+    let at_zero_at_len = at_if_b_at.before in
+    let at_part_b = at_zero_at_len.before in
+    let at_start = at_part_b.before.before in
+    let a = at_start.args in
+    let b = at_part_b.part-b in
+    let z = at_zero_at_len.zero_at-len in
     let names = c.before.before.part in
     let missing = names_cut _ _ (sym c.in_default.is ∙ c.before.names_len.ensures) in
     refused v Kind.Contents a.from b.result.now _ b.ensures 10
-    (contents_missing b.result.now z.result z.ensures names.result.now names.ensures c.before.before.before.before.before.if-b-at.false missing)
+    (contents_missing b.result.now z.result z.ensures names.result.now names.ensures at_if_b_at.if-b-at.false missing)
 
 -- where the names are there
 module _ (c : tie.In-Whole) where
@@ -65,19 +70,24 @@ module _ (c : tie.In-Whole) where
 
 add_run : tie.Need-overflow_add-run
 add_run c =
-    omega (arith, within c, c.before.before.before.before.before.before.before.part-b.type_inv)
+    let at_part_b = c.before.before.before.before.before.before.before in
+    omega (arith, within c, at_part_b.part-b.type_inv)
 
 add_first : tie.Need-overflow_add-first
 add_first c =
-    let a = c.before.before.before.before.before.before.before.before.before.args in
-    let e = c.before.before.before.before.before.before.before.part-b.ensures in
+    let at_part_b = c.before.before.before.before.before.before.before in
+    let at_start = at_part_b.before.before in
+    let a = at_start.args in
+    let e = at_part_b.part-b.ensures in
     let h = within c in
     omega (arith, cut_lies a.from a.to a.s.now (b c) e (omega arith))
 
 add_start : tie.Need-overflow_add-start
 add_start c =
-    let a = c.before.before.before.before.before.before.before.before.before.args in
-    let e = c.before.before.before.before.before.before.before.part-b.ensures in
+    let at_part_b = c.before.before.before.before.before.before.before in
+    let at_start = at_part_b.before.before in
+    let a = at_start.args in
+    let e = at_part_b.part-b.ensures in
     let h = within c in
     omega (arith, cut_lies a.from a.to a.s.now (b c) e (omega arith))
 
@@ -86,12 +96,16 @@ sub_left c = within c
 
 returns_3 : tie.Need-returns
 returns_3 c v =
-    let a = c.before.before.before.before.before.before.before.before.before.args in
-    let b = c.before.before.before.before.before.before.before.part-b in
-    let z = c.before.before.before.before.before.before.zero_at-len in
+    let at_if_b_at = c.before.before.before.before.before in
+    let at_zero_at_len = at_if_b_at.before in
+    let at_part_b = at_zero_at_len.before in
+    let at_start = at_part_b.before.before in
+    let a = at_start.args in
+    let b = at_part_b.part-b in
+    let z = at_zero_at_len.zero_at-len in
     let names = c.before.before.part in
     accepted v Kind.Contents a.from b.result.now _ b.ensures _
-    (contents_whole b.result.now z.result z.ensures names.result.now names.ensures c.before.before.before.before.before.if-b-at.false (answer c).0)
+    (contents_whole b.result.now z.result z.ensures names.result.now names.ensures at_if_b_at.if-b-at.false (answer c).0)
     (contents_parts b.result.now z.result z.ensures names.result.now names.ensures v a.from (n c) (answer c).1)
 
 pub parse_contents_spec : {M : Type 1} → statement M

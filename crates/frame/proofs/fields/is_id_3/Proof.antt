@@ -8,7 +8,8 @@ use Rattle.frame.proofs.fields.is_id_3.Tie as tie
 
 returns : tie.Need-returns
 returns c =
-    c.is_utf8_3.ensures ∙ ap is_utf8 (sym (three 0 c.before.before.before.before.before.args.b.now c.before.before.before.before.before.requires))
+    let at_start = c.before.before.before.before.before in
+    c.is_utf8_3.ensures ∙ ap is_utf8 (sym (three 0 at_start.args.b.now at_start.requires))
 
 pub is_id_3_spec : {M : Type 1} → statement M
 is_id_3_spec =

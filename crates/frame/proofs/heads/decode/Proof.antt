@@ -18,8 +18,10 @@ checked : (c : tie.After-first_refusal-refusal)
     → let a = c.before.before.before.before.before.before.before.args in
     Tested a.version a.depth c.first_refusal-refusal.result c.before.before.before.before.before.part-b.result.now
 checked c =
+    let at_if_b_head_len = c.before.before.before in
+    let at_head_len = at_if_b_head_len.before in
     record {
-      long = rw c.before.before.before.before.head_len.ensures.0 at c.before.before.before.if-b-head_len.false;
+      long = rw at_head_len.head_len.ensures.0 at at_if_b_head_len.if-b-head_len.false;
       some = c.before.if-b-eq0.false;
       given = c.first_refusal-refusal.ensures;
     }
@@ -47,26 +49,33 @@ module _ (c : tie.Else-refusal-ne0) (v : Version) where
 
 returns : tie.Need-returns-then-b-head_len
 returns c =
-    let a = c.before.before.before.before.args in
+    let at_start = c.before.before.before.before in
+    let a = at_start.args in
     let b = c.before.before.part-b in
     ends_short a.version a.depth b.result.now (rw c.before.head_len.ensures.0 at c.if-b-head_len.true)
     ∙ ap (head_of a.version a.depth) b.ensures
 
 shared_slice_read_if2 : tie.Need-bounds-b-0
 shared_slice_read_if2 c =
-    omega (arith, c.before.before.head_len.ensures.0, head_some c.before.before.before.before.before.args.version)
+    let at_start = c.before.before.before.before.before in
+    omega (arith, c.before.before.head_len.ensures.0, head_some at_start.args.version)
 
 returns_2 : tie.Need-returns-then-b-eq0
 returns_2 c =
-    let a = c.before.before.before.before.before.before.args in
-    let b = c.before.before.before.before.part-b in
-    ends_padded a.version a.depth b.result.now (rw c.before.before.before.head_len.ensures.0 at c.before.before.if-b-head_len.false) c.if-b-eq0.true
+    let at_head_len = c.before.before.before in
+    let at_part_b = at_head_len.before in
+    let at_start = at_part_b.before.before in
+    let a = at_start.args in
+    let b = at_part_b.part-b in
+    ends_padded a.version a.depth b.result.now (rw at_head_len.head_len.ensures.0 at c.before.before.if-b-head_len.false) c.if-b-eq0.true
     ∙ ap (head_of a.version a.depth) b.ensures
 
 returns_3 : tie.Need-returns-then-refusal-ne0
 returns_3 c =
-    let a = c.before.before.before.before.before.before.before.before.args in
-    refused_first (checked c.before) c.if-refusal-ne0.true ∙ ap (head_of a.version a.depth) c.before.before.before.before.before.before.part-b.ensures
+    let at_part_b = c.before.before.before.before.before.before in
+    let at_start = at_part_b.before.before in
+    let a = at_start.args in
+    refused_first (checked c.before) c.if-refusal-ne0.true ∙ ap (head_of a.version a.depth) at_part_b.part-b.ensures
 
 with_body_requires : tie.Need-with_body-requires
 with_body_requires c κs = passed c.before Version.Id3v22 c.in-Id3v22.is

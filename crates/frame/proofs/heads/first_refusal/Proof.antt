@@ -14,38 +14,47 @@ returns c = let a = c.before.before.args in too_deep a.version a.depth a.b.now c
 
 is_id_3_requires : tie.Need-is_id_3-requires
 is_id_3_requires c κs =
-    omega (arith, head_some c.before.before.before.args.version, c.before.before.before.requires)
+    let at_start = c.before.before.before in
+    omega (arith, head_some at_start.args.version, at_start.requires)
 
 id_refusal_requires : tie.Need-id_refusal-requires
 id_refusal_requires c κs =
-    rw c.in-Id3v23.is at c.before.before.before.requires
+    let at_start = c.before.before.before in
+    rw c.in-Id3v23.is at at_start.requires
 
 id_refusal_requires_2 : tie.Need-id_refusal-requires-in-Id3v24
 id_refusal_requires_2 c κs =
-    rw c.in-Id3v24.is at c.before.before.before.requires
+    let at_start = c.before.before.before in
+    rw c.in-Id3v24.is at at_start.requires
 
 returns_2 : tie.Need-returns-then-is_id_3
 unfolding first
 returns_2 c =
-    let a = c.before.before.before.before.before.args in
+    let at_if_depth_gt_DEEPEST = c.before.before.before in
+    let at_start = at_if_depth_gt_DEEPEST.before.before in
+    let a = at_start.args in
     let utf8 = sym c.before.is_id_3.ensures ∙ c.if-is_id_3.true in
-    rw (c.before.before.in-Id3v22.is, le-ltb 8 a.depth c.before.before.before.if-depth-gt-DEEPEST.false, utf8)
+    rw (c.before.before.in-Id3v22.is, le-ltb 8 a.depth at_if_depth_gt_DEEPEST.if-depth-gt-DEEPEST.false, utf8)
 
 returns_3 : tie.Need-returns-else-is_id_3
 unfolding first
 returns_3 c =
-    let a = c.before.before.before.before.before.args in
+    let at_if_depth_gt_DEEPEST = c.before.before.before in
+    let at_start = at_if_depth_gt_DEEPEST.before.before in
+    let a = at_start.args in
     let utf8 = sym c.before.is_id_3.ensures ∙ c.if-is_id_3.false in
-    rw (c.before.before.in-Id3v22.is, le-ltb 8 a.depth c.before.before.before.if-depth-gt-DEEPEST.false, utf8)
+    rw (c.before.before.in-Id3v22.is, le-ltb 8 a.depth at_if_depth_gt_DEEPEST.if-depth-gt-DEEPEST.false, utf8)
 
 returns_4 : tie.Need-returns-in-Id3v23
 returns_4 c =
-    let a = c.before.before.before.before.args in
+    let at_start = c.before.before.before.before in
+    let a = at_start.args in
     rw c.before.in-Id3v23.is (c.id_refusal.ensures ∙ not_deep Id3v23 a.depth a.b.now c.before.before.if-depth-gt-DEEPEST.false)
 
 returns_5 : tie.Need-returns-in-Id3v24
 returns_5 c =
-    let a = c.before.before.before.before.args in
+    let at_start = c.before.before.before.before in
+    let a = at_start.args in
     rw c.before.in-Id3v24.is (c.id_refusal-in-Id3v24.ensures ∙ not_deep Id3v24 a.depth a.b.now c.before.before.if-depth-gt-DEEPEST.false)
 
 pub first_refusal_spec : {M : Type 1} → statement M

@@ -13,23 +13,33 @@ returns c = rw (sym c.before.is_id_4.ensures ∙ not-true _ c.if-not-is_id_4.tru
 returns_2 : tie.Need-returns-then-has
 unfolding first
 returns_2 c =
-    rw (sym c.before.before.before.before.is_id_4.ensures ∙ not-false _ c.before.before.before.if-not-is_id_4.false-raw, sym c.before.has.ensures ∙ c.if-has.true)
+    let at_if_not_is_id_4 = c.before.before.before in
+    let at_is_id_4 = at_if_not_is_id_4.before in
+    rw (sym at_is_id_4.is_id_4.ensures ∙ not-false _ at_if_not_is_id_4.if-not-is_id_4.false-raw, sym c.before.has.ensures ∙ c.if-has.true)
 
 returns_3 : tie.Need-returns-then-has-2
 unfolding first
 returns_3 c =
+    let at_if_has = c.before.before.before in
+    let at_has = at_if_has.before in
+    let at_if_not_is_id_4 = at_has.before.before in
+    let at_is_id_4 = at_if_not_is_id_4.before in
     rw (
-      sym c.before.before.before.before.before.before.before.is_id_4.ensures ∙ not-false _ c.before.before.before.before.before.before.if-not-is_id_4.false-raw,
-      sym c.before.before.before.before.has.ensures ∙ c.before.before.before.if-has.false,
+      sym at_is_id_4.is_id_4.ensures ∙ not-false _ at_if_not_is_id_4.if-not-is_id_4.false-raw,
+      sym at_has.has.ensures ∙ at_if_has.if-has.false,
       sym c.before.has-2.ensures ∙ c.if-has-2.true,
     )
 
 returns_4 : tie.Need-returns-else-has-2
 unfolding first
 returns_4 c =
+    let at_if_has = c.before.before.before in
+    let at_has = at_if_has.before in
+    let at_if_not_is_id_4 = at_has.before.before in
+    let at_is_id_4 = at_if_not_is_id_4.before in
     rw (
-      sym c.before.before.before.before.before.before.before.is_id_4.ensures ∙ not-false _ c.before.before.before.before.before.before.if-not-is_id_4.false-raw,
-      sym c.before.before.before.before.has.ensures ∙ c.before.before.before.if-has.false,
+      sym at_is_id_4.is_id_4.ensures ∙ not-false _ at_if_not_is_id_4.if-not-is_id_4.false-raw,
+      sym at_has.has.ensures ∙ at_if_has.if-has.false,
       sym c.before.has-2.ensures ∙ c.if-has-2.false,
     )
 

@@ -11,11 +11,13 @@ returns c = let a = c.before.args in sym (ascii_3 a.a a.b a.c c.if-a-b-lt128.tru
 
 returns_2 : tie.Need-returns
 returns_2 c =
-    let a = c.before.before.before.before.before.args in
+    let at_lead = c.before.before.before in
+    let at_start = at_lead.before.before in
+    let a = at_start.args in
     c.is_over.ensures
     ∙ c.before.next-2.ensures []
     ∙ c.before.before.next.ensures (a.c ∷ [])
-    ∙ c.before.before.before.lead.ensures (a.b ∷ a.c ∷ [])
+    ∙ at_lead.lead.ensures (a.b ∷ a.c ∷ [])
 
 pub is_utf8_3_spec : {M : Type 1} → statement M
 is_utf8_3_spec =

@@ -11,12 +11,15 @@ returns c = let a = c.before.args in sym (ascii_4 a.a a.b a.c a.d c.if-a-b-lt128
 
 returns_2 : tie.Need-returns
 returns_2 c =
-    let a = c.before.before.before.before.before.before.args in
+    let at_next = c.before.before.before in
+    let at_lead = at_next.before in
+    let at_start = at_lead.before.before in
+    let a = at_start.args in
     c.is_over.ensures
     ∙ c.before.next-3.ensures []
     ∙ c.before.before.next-2.ensures (a.d ∷ [])
-    ∙ c.before.before.before.next.ensures (a.c ∷ a.d ∷ [])
-    ∙ c.before.before.before.before.lead.ensures (a.b ∷ a.c ∷ a.d ∷ [])
+    ∙ at_next.next.ensures (a.c ∷ a.d ∷ [])
+    ∙ at_lead.lead.ensures (a.b ∷ a.c ∷ a.d ∷ [])
 
 pub is_utf8_4_spec : {M : Type 1} → statement M
 is_utf8_4_spec =

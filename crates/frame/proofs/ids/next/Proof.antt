@@ -10,23 +10,29 @@ returns c s = rw c.in_default.is
 
 returns_2 : tie.Need-returns-then-count-eq0
 returns_2 c s =
-    let b = c.before.before.before.args.b in
+    let at_start = c.before.before.before in
+    let b = at_start.args.b in
     rw c.before.before.in-Tails.is (c.lead.ensures s ∙ none_due _ _ b s _ c.before.if-count-eq0.true)
 
 returns_3 : tie.Need-returns-then-b-low
 returns_3 c s =
-    let b = c.before.before.before.args.b in
+    let at_start = c.before.before.before in
+    let b = at_start.args.b in
     rw c.before.before.in-Tails.is (tail_low _ _ b s _ c.before.if-count-eq0.false c.if-b-low.true)
 
 returns_4 : tie.Need-returns-then-high-b
 returns_4 c s =
-    let b = c.before.before.before.before.args.b in
-    rw c.before.before.before.in-Tails.is (tail_high _ _ b s _ c.before.before.if-count-eq0.false c.before.if-b-low.false c.if-high-b.true)
+    let at_in_Tails = c.before.before.before in
+    let at_start = at_in_Tails.before in
+    let b = at_start.args.b in
+    rw at_in_Tails.in-Tails.is (tail_high _ _ b s _ c.before.before.if-count-eq0.false c.before.if-b-low.false c.if-high-b.true)
 
 returns_5 : tie.Need-returns
 returns_5 c s =
-    let b = c.before.before.before.before.args.b in
-    rw c.before.before.before.in-Tails.is (tail _ _ b s _ c.before.before.if-count-eq0.false c.before.if-b-low.false c.if-high-b.false)
+    let at_in_Tails = c.before.before.before in
+    let at_start = at_in_Tails.before in
+    let b = at_start.args.b in
+    rw at_in_Tails.in-Tails.is (tail _ _ b s _ c.before.before.if-count-eq0.false c.before.if-b-low.false c.if-high-b.false)
 
 pub next_spec : {M : Type 1} → statement M
 next_spec =

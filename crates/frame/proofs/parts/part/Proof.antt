@@ -6,7 +6,8 @@ use Rattle.frame.proofs.parts.part.Tie as tie
 
 returns : tie.Need-returns
 returns c =
-    let a = c.before.before.before.before.args in
+    let at_start = c.before.before.before.before in
+    let a = at_start.args in
     let end = c.before.before.least-end in
     let start = c.before.least-start in
     part_cut a.from a.to start.result end.result a.s.now end.ensures start.ensures

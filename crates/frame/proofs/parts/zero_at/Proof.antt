@@ -17,14 +17,18 @@ decreases_loop s i₀ i = length s - i
 
 returns : tie.Need-returns-then-s-i-eq0 invariant_loop decreases_loop
 returns c =
-    let s = c.before.before.before.before.args.s.now in
-    let L = c.before.before.before.loop-i in
+    let at_loop_i = c.before.before.before in
+    let at_start = at_loop_i.before in
+    let s = at_start.args.s.now in
+    let L = at_loop_i.loop-i in
     omega (arith, zero_here s L.i c.before.before.loop-i-test.true c.if-s-i-eq0.true)
 
 loop_again : tie.Need-loop-i-preserved invariant_loop decreases_loop
 loop_again c =
-    let s = c.before.before.before.before.args.s.now in
-    let L = c.before.before.before.loop-i in
+    let at_loop_i = c.before.before.before in
+    let at_start = at_loop_i.before in
+    let s = at_start.args.s.now in
+    let L = at_loop_i.loop-i in
     omega (arith, zero_next s L.i c.before.before.loop-i-test.true c.if-s-i-eq0.false)
 
 returns_2 : tie.Need-returns invariant_loop decreases_loop

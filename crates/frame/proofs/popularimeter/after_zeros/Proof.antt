@@ -20,13 +20,17 @@ sub_loop : tie.Need-overflow_sub-to invariant_loop decreases_loop
 sub_loop c = c.loop-i.invariant.order
 
 shared_slice_read_if1 : tie.Need-bounds-s-i invariant_loop decreases_loop
-shared_slice_read_if1 c = let p = c.before.before.before.requires in omega arith
+shared_slice_read_if1 c =
+    let at_start = c.before.before.before in
+    let p = at_start.requires in omega arith
 
 loop_again : tie.Need-loop-i-preserved invariant_loop decreases_loop
 loop_again c =
-    let a = c.before.before.before.before.args in
-    let L = c.before.before.before.loop-i in
-    skip a.from a.to a.s.now c.before.before.before.before.requires.1 L.i L.invariant (omega arith) (omega arith)
+    let at_loop_i = c.before.before.before in
+    let at_start = at_loop_i.before in
+    let a = at_start.args in
+    let L = at_loop_i.loop-i in
+    skip a.from a.to a.s.now at_start.requires.1 L.i L.invariant (omega arith) (omega arith)
 
 returns : tie.Need-returns invariant_loop decreases_loop
 returns c =

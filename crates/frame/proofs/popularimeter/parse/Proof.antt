@@ -19,7 +19,8 @@ add_if1 c = omega (arith, zero_le c.before.part-b.result.now, c.before.part-b.ty
 
 returns : tie.Need-returns-then-b-len
 returns c v =
-    let a = c.before.before.before.before.args in
+    let at_start = c.before.before.before.before in
+    let a = at_start.args in
     let b = c.before.before.part-b in
     let z = c.before.zero_at-len in
     refused v Kind.Popularimeter a.from b.result.now _ b.ensures 10 (popularimeter_cut b.result.now z.result z.ensures c.if-b-len.true)
@@ -28,7 +29,8 @@ returns c v =
 lies : (c : tie.Else-b-len) →
     c.before.before.before.before.args.from + length c.before.before.part-b.result.now ≤ length c.before.before.before.before.args.s.now
 lies c =
-    let a = c.before.before.before.before.args in
+    let at_start = c.before.before.before.before in
+    let a = at_start.args in
     let b = c.before.before.part-b in
     cut_lies a.from a.to a.s.now b.result.now b.ensures (omega arith)
 
@@ -39,7 +41,8 @@ counter_in_lem : (c : tie.Else-b-len) →
     let b = c.before.before.part-b.result.now in
     number (slice (a.from + len + 2) (a.from + length b) a.s.now) ≡ number (drop (len + 2) b)
 counter_in_lem c =
-    let a = c.before.before.before.before.args in
+    let at_start = c.before.before.before.before in
+    let a = at_start.args in
     let b = c.before.before.part-b in
     ap number (counter_lies a.from a.to c.before.zero_at-len.result a.s.now b.result.now b.ensures c.if-b-len.false)
 
@@ -60,25 +63,34 @@ sub_if2 c = let begins = c.after_zeros-first.ensures in omega arith
 
 returns_2 : tie.Need-returns-then-end-first-gt8
 returns_2 c v =
-    let a = c.before.before.before.before.before.before.before.args in
-    let b = c.before.before.before.before.before.part-b in
-    let z = c.before.before.before.before.zero_at-len in
+    let at_if_b_len = c.before.before.before in
+    let at_zero_at_len = at_if_b_len.before in
+    let at_part_b = at_zero_at_len.before in
+    let at_start = at_part_b.before.before in
+    let a = at_start.args in
+    let b = at_part_b.part-b in
+    let z = at_zero_at_len.zero_at-len in
     let begins = c.before.after_zeros-first.ensures in
-    let large : 2 ^ 64 ≤ number (drop (z.result + 2) b.result.now) = omega (arith, begins.large c.if-end-first-gt8.true, begins.same, counter_in_lem c.before.before.before) in
+    let large : 2 ^ 64 ≤ number (drop (z.result + 2) b.result.now) = omega (arith, begins.large c.if-end-first-gt8.true, begins.same, counter_in_lem at_if_b_len) in
     refused v Kind.Popularimeter a.from b.result.now _ b.ensures 34
-    (popularimeter_large b.result.now z.result z.ensures c.before.before.before.if-b-len.false large)
+    (popularimeter_large b.result.now z.result z.ensures at_if_b_len.if-b-len.false large)
 
 returns_3 : tie.Need-returns
 returns_3 c v =
-    let a = c.before.before.before.before.before.before.before.before.before.args in
-    let b = c.before.before.before.before.before.before.before.part-b in
-    let z = c.before.before.before.before.before.before.zero_at-len in
+    let at_after_zeros_first = c.before.before.before in
+    let at_if_b_len = at_after_zeros_first.before.before in
+    let at_zero_at_len = at_if_b_len.before in
+    let at_part_b = at_zero_at_len.before in
+    let at_start = at_part_b.before.before in
+    let a = at_start.args in
+    let b = at_part_b.part-b in
+    let z = at_zero_at_len.zero_at-len in
     let n = c.before.read64-counter in
-    let rated = c.before.before.before.before.before.if-b-len.false in
+    let rated = at_if_b_len.if-b-len.false in
     let counter : n.result ≡ number (drop (z.result + 2) b.result.now) =
-    counter_read (a.from + z.result + 2) (a.from + length b.result.now) c.before.before.before.after_zeros-first.result n.result a.s.now
-    c.before.before.before.after_zeros-first.ensures (omega arith) n.ensures
-    ∙ counter_in_lem c.before.before.before.before.before in
+    counter_read (a.from + z.result + 2) (a.from + length b.result.now) at_after_zeros_first.after_zeros-first.result n.result a.s.now
+    at_after_zeros_first.after_zeros-first.ensures (omega arith) n.ensures
+    ∙ counter_in_lem at_if_b_len in
     let fits : number (drop (z.result + 2) b.result.now) < 2 ^ 64 = omega (arith, counter, n.type_inv) in
     accepted v Kind.Popularimeter a.from b.result.now _ b.ensures _
     (popularimeter_whole b.result.now z.result z.ensures rated fits)

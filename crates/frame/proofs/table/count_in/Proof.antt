@@ -20,7 +20,8 @@ fitting_requires c κs =
 
 returns_2 : tie.Need-returns
 returns_2 c =
-    let a = c.before.before.before.args in
+    let at_start = c.before.before.before in
+    let a = at_start.args in
     let s = c.before.before.sum_of-sum in
     counts a.v a.w a.n s.result c.fitting.result (widths a.v a.w s.result s.ensures c.before.if-sum-eq0.false) c.fitting.ensures
 

@@ -10,27 +10,36 @@ use Rattle.frame.proofs.table.parse.Tie as tie
 
 returns : tie.Need-returns-then-refusal-ne0
 returns c v =
-    let a = c.before.before.before.before.before.before.before.args in
-    let b = c.before.before.before.before.before.part-b in
+    let at_part_b = c.before.before.before.before.before in
+    let at_start = at_part_b.before.before in
+    let a = at_start.args in
+    let b = at_part_b.part-b in
     let no = c.before.widths_refusal-refusal in
     refused_as v Kind.Table a.from b.result.now _ b.ensures no.result
     (table_checked b.result.now (omega arith) ∙ sym no.ensures) c.if-refusal-ne0.true
 
 add_start : tie.Need-overflow_add-start
 add_start c =
-    let a = c.before.before.before.before.before.before.before.before.before.before.args in
-    let b = c.before.before.before.before.before.before.before.before.part-b in
+    let at_part_b = c.before.before.before.before.before.before.before.before in
+    let at_start = at_part_b.before.before in
+    let a = at_start.args in
+    let b = at_part_b.part-b in
     omega (arith, cut_lies a.from a.to a.s.now b.result.now b.ensures (omega arith))
 
 returns_2 : tie.Need-returns
 returns_2 c v =
-    let a = c.before.before.before.before.before.before.before.before.before.before.before.args in
-    let b = c.before.before.before.before.before.before.before.before.before.part-b in
-    let no = c.before.before.before.before.before.widths_refusal-refusal in
+    let at_read_few_frames = c.before.before.before in
+    let at_if_refusal_ne0 = at_read_few_frames.before in
+    let at_widths_refusal_refusal = at_if_refusal_ne0.before in
+    let at_part_b = at_widths_refusal_refusal.before.before.before.before in
+    let at_start = at_part_b.before.before in
+    let a = at_start.args in
+    let b = at_part_b.part-b in
+    let no = at_widths_refusal_refusal.widths_refusal-refusal in
     accepted v Kind.Table a.from b.result.now _ b.ensures _
-    (table_checked b.result.now (omega arith) ∙ sym no.ensures ∙ c.before.before.before.before.if-refusal-ne0.false)
+    (table_checked b.result.now (omega arith) ∙ sym no.ensures ∙ at_if_refusal_ne0.if-refusal-ne0.false)
     (table_parts b.result.now v a.from _ _ _ c.nowhere-none.result
-    c.before.before.before.read_few-frames.ensures.0
+    at_read_few_frames.read_few-frames.ensures.0
     c.before.before.read_few-bytes.ensures.0
     c.before.read_few-millis.ensures.0
     c.nowhere-none.ensures)

@@ -6,13 +6,15 @@ use Rattle.frame.proofs.table.sum_of.Tie as tie
 
 returns : tie.Need-returns-then-is_width-2
 returns c =
-    let v = sym c.before.before.before.is_width.ensures ∙ c.before.before.if-is_width.true in
+    let at_is_width = c.before.before.before in
+    let v = sym at_is_width.is_width.ensures ∙ c.before.before.if-is_width.true in
     let w = sym c.before.is_width-then-is_width.ensures ∙ c.if-is_width-2.true in
     rw (v, w)
 
 returns_2 : tie.Need-returns-else-is_width-2
 returns_2 c =
-    let v = sym c.before.before.before.is_width.ensures ∙ c.before.before.if-is_width.true in
+    let at_is_width = c.before.before.before in
+    let v = sym at_is_width.is_width.ensures ∙ c.before.before.if-is_width.true in
     let w = sym c.before.is_width-then-is_width.ensures ∙ c.if-is_width-2.false in
     rw (v, w)
 

@@ -13,14 +13,16 @@ returns c =
 
 returns_2 : tie.Need-returns-then-sum-ne0
 returns_2 c =
-    let a = c.before.before.before.args in
+    let at_start = c.before.before.before in
+    let a = at_start.args in
     let s = c.before.before.sum_of-sum in
     let d = widths a.v a.w s.result s.ensures c.before.if-sum-eq0.false in
     sym (fours_refused a.v a.w s.result d c.if-sum-ne0.true)
 
 returns_3 : tie.Need-returns
 returns_3 c =
-    let a = c.before.before.before.args in
+    let at_start = c.before.before.before in
+    let a = at_start.args in
     let s = c.before.before.sum_of-sum in
     let d = widths a.v a.w s.result s.ensures c.before.if-sum-eq0.false in
     sym (widths_taken a.v a.w s.result d c.if-sum-ne0.false)

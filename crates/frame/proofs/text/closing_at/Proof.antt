@@ -22,14 +22,18 @@ loop_holds c =
 
 returns : tie.Need-returns-then-s-i-ne0 invariant_loop decreases_loop
 returns c =
-    let s = c.before.before.before.before.args.s.now in
-    let L = c.before.before.before.loop-i in
+    let at_loop_i = c.before.before.before in
+    let at_start = at_loop_i.before in
+    let s = at_start.args.s.now in
+    let L = at_loop_i.loop-i in
     sym (closing_kept L.i s (omega arith) L.invariant.0 L.invariant.2 c.if-s-i-ne0.true)
 
 loop_again : tie.Need-loop-i-preserved invariant_loop decreases_loop
 loop_again c =
-    let s = c.before.before.before.before.args.s.now in
-    let L = c.before.before.before.loop-i in
+    let at_loop_i = c.before.before.before in
+    let at_start = at_loop_i.before in
+    let s = at_start.args.s.now in
+    let L = at_loop_i.loop-i in
     (omega arith, omega arith, trim_zero L.i s (omega arith) L.invariant.0 L.invariant.2 c.if-s-i-ne0.false)
 
 returns_2 : tie.Need-returns invariant_loop decreases_loop

@@ -24,16 +24,21 @@ loop_holds c =
 
 returns : tie.Need-returns-then-not-zero_pair invariant_loop decreases_loop
 returns c =
-    let s = c.before.before.before.before.before.before.before.args.s.now in
-    let L = c.before.before.before.before.before.loop-i in
+    let at_loop_i_test = c.before.before.before.before in
+    let at_loop_i = at_loop_i_test.before in
+    let at_start = at_loop_i.before.before in
+    let s = at_start.args.s.now in
+    let L = at_loop_i.loop-i in
     let z = c.before.zero_pair in
-    let p = c.before.before.before.before.loop-i-test.true in
+    let p = at_loop_i_test.loop-i-test.true in
     sym (closing_pairs_kept L.i s p L.invariant.1 L.invariant.0 L.invariant.3 (sym (not-true _ c.if-not-zero_pair.true-raw) ∙ z.ensures))
 
 loop_again : tie.Need-loop-i-preserved invariant_loop decreases_loop
 loop_again c =
-    let s = c.before.before.before.before.before.before.before.args.s.now in
-    let L = c.before.before.before.before.before.loop-i in
+    let at_loop_i = c.before.before.before.before.before in
+    let at_start = at_loop_i.before.before in
+    let s = at_start.args.s.now in
+    let L = at_loop_i.loop-i in
     let z = c.before.zero_pair in (
       omega arith,
       omega arith,
@@ -43,7 +48,8 @@ loop_again c =
 
 returns_2 : tie.Need-returns invariant_loop decreases_loop
 returns_2 c =
-    let s = c.before.before.before.args.s.now in
+    let at_start = c.before.before.before in
+    let s = at_start.args.s.now in
     let L = c.before.loop-i in
     sym (closing_pairs_none L.i s c.loop-i-test.false L.invariant.1 L.invariant.2 L.invariant.3)
 

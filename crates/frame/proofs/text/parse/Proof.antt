@@ -9,29 +9,38 @@ use Rattle.frame.proofs.text.parse.Tie as tie
 
 returns : tie.Need-returns-then-b-eq0
 returns c =
-    let a = c.before.before.before.args in
+    let at_start = c.before.before.before in
+    let a = at_start.args in
     let b = c.before.part-b in
     refused a.version Kind.Text a.from b.result.now _ b.ensures 10 (text_empty b.result.now c.if-b-eq0.true)
 
 returns_2 : tie.Need-returns-then-encoding-gt3
 returns_2 c =
-    let a = c.before.before.before.before.before.args in
-    let b = c.before.before.before.part-b in
+    let at_part_b = c.before.before.before in
+    let at_start = at_part_b.before.before in
+    let a = at_start.args in
+    let b = at_part_b.part-b in
     let some = c.before.before.if-b-eq0.false in
     refused a.version Kind.Text a.from b.result.now _ b.ensures 11 (text_unknown b.result.now some c.if-encoding-gt3.true)
 
 add_start : tie.Need-overflow_add-start
 add_start c =
-    let a = c.before.before.before.before.before.before.args in
-    let b = c.before.before.before.before.part-b in
-    let some = c.before.before.before.if-b-eq0.false in
+    let at_if_b_eq0 = c.before.before.before in
+    let at_part_b = at_if_b_eq0.before in
+    let at_start = at_part_b.before.before in
+    let a = at_start.args in
+    let b = at_part_b.part-b in
+    let some = at_if_b_eq0.if-b-eq0.false in
     omega (arith, cut_lies a.from a.to a.s.now b.result.now b.ensures (omega arith))
 
 returns_3 : tie.Need-returns
 returns_3 c =
-    let a = c.before.before.before.before.before.before.before.args in
-    let b = c.before.before.before.before.before.part-b in
-    let some = c.before.before.before.before.if-b-eq0.false in
+    let at_if_b_eq0 = c.before.before.before.before in
+    let at_part_b = at_if_b_eq0.before in
+    let at_start = at_part_b.before.before in
+    let a = at_start.args in
+    let b = at_part_b.part-b in
+    let some = at_if_b_eq0.if-b-eq0.false in
     accepted a.version Kind.Text a.from b.result.now _ b.ensures _ (text_known b.result.now some (omega arith))
     (text_parts a.version a.from b.result.now c.before.text_end-len.result c.nowhere-none.result c.before.text_end-len.ensures c.nowhere-none.ensures)
 

@@ -17,21 +17,28 @@ decreases_loop s i₀ i = length s - i
 
 returns : tie.Need-returns-then-zero_pair invariant_loop decreases_loop
 returns c =
-    let s = c.before.before.before.before.before.before.before.args.s.now in
-    let L = c.before.before.before.before.before.loop-i in
+    let at_loop_i_test = c.before.before.before.before in
+    let at_loop_i = at_loop_i_test.before in
+    let at_start = at_loop_i.before.before in
+    let s = at_start.args.s.now in
+    let L = at_loop_i.loop-i in
     let z = c.before.zero_pair in
-    omega (arith, pair_here s L.i c.before.before.before.before.loop-i-test.true z.result z.ensures c.if-zero_pair.true)
+    omega (arith, pair_here s L.i at_loop_i_test.loop-i-test.true z.result z.ensures c.if-zero_pair.true)
 
 loop_again : tie.Need-loop-i-preserved invariant_loop decreases_loop
 loop_again c =
-    let s = c.before.before.before.before.before.before.before.args.s.now in
-    let L = c.before.before.before.before.before.loop-i in
+    let at_loop_i_test = c.before.before.before.before in
+    let at_loop_i = at_loop_i_test.before in
+    let at_start = at_loop_i.before.before in
+    let s = at_start.args.s.now in
+    let L = at_loop_i.loop-i in
     let z = c.before.zero_pair in
-    omega (arith, pair_next s L.i c.before.before.before.before.loop-i-test.true z.result z.ensures c.if-zero_pair.false)
+    omega (arith, pair_next s L.i at_loop_i_test.loop-i-test.true z.result z.ensures c.if-zero_pair.false)
 
 returns_2 : tie.Need-returns invariant_loop decreases_loop
 returns_2 c =
-    let s = c.before.before.before.args.s.now in
+    let at_start = c.before.before.before in
+    let s = at_start.args.s.now in
     let L = c.before.loop-i in
     omega (arith, pair_none (drop L.i s) (omega (arith, length-drop L.i s)), length-drop L.i s)
 

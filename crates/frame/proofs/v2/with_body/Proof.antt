@@ -13,10 +13,11 @@ use Rattle.frame.proofs.v2.with_body.Tie as tie
 
 returns : tie.Need-returns
 returns c depth shallow =
-    let b = c.before.before.before.before.args.b.now in
+    let at_start = c.before.before.before.before in
+    let b = at_start.args.b.now in
     let id = c.before.before.read_few-id in
     let size = c.before.read_few-size in
-    found Id3v22 b c.before.before.before.before.requires depth shallow 0 refl c.before.before.before.before.requires.long
+    found Id3v22 b at_start.requires depth shallow 0 refl at_start.requires.long
     size.result (size.ensures.0 ∙ ap number (short_cut 3 3 6 b (omega arith))) size.result (omega arith) (λ w. absurd (false_not_true w))
     id.result (id.ensures.0 ∙ ap number (short_cut 3 0 3 b (omega arith))) false false refl refl c.found.result c.found.ensures
 

@@ -10,7 +10,8 @@ use Rattle.frame.proofs.v4.frame_size.Tie as tie
 
 returns : tie.Need-returns
 returns c =
-    let s = c.before.before.before.args.b.now in
+    let at_start = c.before.before.before in
+    let s = at_start.args.b.now in
     c.decode_u32.ensures
     ∙ ap (λ (n : ℕ). from_synchsafe (bytes_of 4 n)) c.before.read32.ensures
     ∙ ap from_synchsafe (bytes_back 4 s (omega arith) (λ i. omega (arith, c.before.before.shared_slice_known-1.given i)))

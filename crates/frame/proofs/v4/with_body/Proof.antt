@@ -16,12 +16,17 @@ is_length c = c.length_bytes-n.ensures.0 ∙ ap (λ (t : Bool). pick t 4 0) c.be
 
 returns : tie.Need-returns
 returns c depth shallow =
-    let whole = c.before.before.before.before.before.before.frame_size in
-    let size = c.before.before.before.before.before.beyond-size in
+    let at_has_compressed = c.before.before.before in
+    let at_beyond_size = at_has_compressed.before.before in
+    let at_frame_size = at_beyond_size.before in
+    let at_length_bytes_n = at_frame_size.before in
+    let at_start = at_length_bytes_n.before.before.before.before in
+    let whole = at_frame_size.frame_size in
+    let size = at_beyond_size.beyond-size in
     let id = c.before.read32 in
-    let compressed = c.before.before.before.has-compressed in
+    let compressed = at_has_compressed.has-compressed in
     let flagged = c.before.before.has-flagged in
-    found Id3v24 c.before.before.before.before.before.before.before.before.before.before.before.args.b.now c.before.before.before.before.before.before.before.before.before.before.before.requires depth shallow c.before.before.before.before.before.before.before.length_bytes-n.result (is_length c.before.before.before.before.before.before.before) (omega arith)
+    found Id3v24 at_start.args.b.now at_start.requires depth shallow at_length_bytes_n.length_bytes-n.result (is_length at_length_bytes_n) (omega arith)
     whole.result whole.ensures size.result size.ensures (λ w. absurd (false_not_true w))
     id.result id.ensures compressed.result flagged.result compressed.ensures flagged.ensures c.found.result c.found.ensures
 

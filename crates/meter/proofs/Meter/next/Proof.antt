@@ -6,12 +6,14 @@ use Rattle.meter.proofs.Meter.next.Tie as tie
 
 returns_2 : tie.Need-returns-in-Ended
 returns_2 c =
-    let a = c.before.before.before.before.args in
+    let at_start = c.before.before.before.before in
+    let a = at_start.args in
     next_ended a.self a.tag.now a.work.now c.in-Ended.is
 
 returns_3 : tie.Need-returns-in-Failed
 returns_3 c =
-    let a = c.before.before.before.before.args in
+    let at_start = c.before.before.before.before in
+    let a = at_start.args in
     next_failed a.self a.tag.now a.work.now c.in-Failed.is
 
 pub next_spec : {M : Type 1} → statement M

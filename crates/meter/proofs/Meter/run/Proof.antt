@@ -18,7 +18,8 @@ decreases_loop self work₀ tag r version at₀ frames₀ short₀ compressed₀
 
 loop_holds : tie.Need-loop-k-init invariant_loop decreases_loop
 loop_holds c =
-    (refl, begins c.before.before.before.args.self c.before.before.before.args.tag.now c.before.before.before.args.work.now c.before.before.before.requires)
+    let at_start = c.before.before.before in
+    (refl, begins at_start.args.self at_start.args.tag.now at_start.args.work.now at_start.requires)
 
 -- ---- after a look at the place: it was `met` that stood there
 
@@ -62,8 +63,9 @@ loop_less c =
 
 loop_again : tie.Need-loop-k-preserved invariant_loop decreases_loop
 loop_again c =
-    let at_meet = c.before.before.before.before in
-    (c.before.before.before.before.meet.auto.work ∙ (at_loop c.before.before.before.before).loop-k.invariant.0, rw c.one_more-frames.ensures (rest_is at_meet c.before.in-Passed.is))
+    let at_meet' = c.before.before.before.before in
+    let at_meet = at_meet' in
+    (at_meet'.meet.auto.work ∙ (at_loop at_meet').loop-k.invariant.0, rw c.one_more-frames.ensures (rest_is at_meet c.before.in-Passed.is))
 
 returns_3 : tie.Need-returns-in-Popularimeter invariant_loop decreases_loop
 returns_3 c =

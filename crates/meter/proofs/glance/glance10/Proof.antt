@@ -7,25 +7,44 @@ use Rattle.meter.proofs.glance.glance10.Tie as tie
 
 returns : tie.Need-returns-then-id-lt16777216
 returns c =
-    let a = c.before.before.before.args in
-    ten_end a.at a.left a.s.now (λ i. omega (arith, c.before.before.shared_slice_known-1.given i)) c.before.before.before.requires c.before.read32-id.result c.before.read32-id.ensures a.v4 c.if-id-lt16777216.true
+    let at_start = c.before.before.before in
+    let a = at_start.args in
+    ten_end a.at a.left a.s.now (λ i. omega (arith, c.before.before.shared_slice_known-1.given i)) at_start.requires c.before.read32-id.result c.before.read32-id.ensures a.v4 c.if-id-lt16777216.true
 
 returns_4 : tie.Need-returns-then-flags-eq0
 returns_4 c =
-    let a = c.before.before.before.before.before.before.before.before.before.before.before.args in
-    let id = c.before.before.before.before.before.before.before.before.before.read32-id in
-    ten_says a.at a.left a.s.now (λ i. omega (arith, c.before.before.before.before.before.before.before.before.before.before.shared_slice_known-1.given i)) c.before.before.before.before.before.before.before.before.before.before.before.requires id.result id.ensures c.before.before.before.before.before.before.before.before.if-id-lt16777216.false c.before.before.before.before.before.before.before.if-id-ne0.false
-    c.before.before.before.before.before.size_of-size.result c.before.before.before.before.if-left-size.false c.before.kind_of.result c.before.kind_of.ensures c.by_kind.result c.by_kind.ensures a.v4
-    (c.before.before.before.before.before.size_of-size.ensures ∙ ap (size_by a.v4) c.before.before.before.before.before.before.read32.ensures) c.before.before.if-flags-eq0.true
+    let at_if_left_size = c.before.before.before.before in
+    let at_size_of_size = at_if_left_size.before in
+    let at_read32 = at_size_of_size.before in
+    let at_if_id_ne0 = at_read32.before in
+    let at_if_id_lt16777216 = at_if_id_ne0.before in
+    let at_read32_id = at_if_id_lt16777216.before in
+    let at_shared_slice_known_1 = at_read32_id.before in
+    let at_start = at_shared_slice_known_1.before in
+    let a = at_start.args in
+    let id = at_read32_id.read32-id in
+    ten_says a.at a.left a.s.now (λ i. omega (arith, at_shared_slice_known_1.shared_slice_known-1.given i)) at_start.requires id.result id.ensures at_if_id_lt16777216.if-id-lt16777216.false at_if_id_ne0.if-id-ne0.false
+    at_size_of_size.size_of-size.result at_if_left_size.if-left-size.false c.before.kind_of.result c.before.kind_of.ensures c.by_kind.result c.by_kind.ensures a.v4
+    (at_size_of_size.size_of-size.ensures ∙ ap (size_by a.v4) at_read32.read32.ensures) c.before.before.if-flags-eq0.true
 
 returns_5 : tie.Need-returns-then-v4
 returns_5 c =
-    let a = c.before.before.before.before.before.before.before.before.before.before.before.before.before.before.args in
-    let id = c.before.before.before.before.before.before.before.before.before.before.before.before.read32-id in
+    let at_if_v4 = c.before.before.before in
+    let at_if_flags_eq_UNSYNCHRONISED = at_if_v4.before in
+    let at_if_left_size = at_if_flags_eq_UNSYNCHRONISED.before.before.before in
+    let at_size_of_size = at_if_left_size.before in
+    let at_read32 = at_size_of_size.before in
+    let at_if_id_ne0 = at_read32.before in
+    let at_if_id_lt16777216 = at_if_id_ne0.before in
+    let at_read32_id = at_if_id_lt16777216.before in
+    let at_shared_slice_known_1 = at_read32_id.before in
+    let at_start = at_shared_slice_known_1.before in
+    let a = at_start.args in
+    let id = at_read32_id.read32-id in
     rw c.with_flag.ensures
-    (ten_says_flagged a.at a.left a.s.now (λ i. omega (arith, c.before.before.before.before.before.before.before.before.before.before.before.before.before.shared_slice_known-1.given i)) c.before.before.before.before.before.before.before.before.before.before.before.before.before.before.requires id.result id.ensures c.before.before.before.before.before.before.before.before.before.before.before.if-id-lt16777216.false c.before.before.before.before.before.before.before.before.before.before.if-id-ne0.false
-    c.before.before.before.before.before.before.before.before.size_of-size.result c.before.before.before.before.before.before.before.if-left-size.false c.before.before.kind_of-then-v4.result c.before.before.kind_of-then-v4.ensures c.before.by_kind-then-v4.result c.before.by_kind-then-v4.ensures a.v4 c.before.before.before.if-v4.true
-    (c.before.before.before.before.before.before.before.before.size_of-size.ensures ∙ ap (size_by a.v4) c.before.before.before.before.before.before.before.before.before.read32.ensures) c.before.before.before.before.if-flags-eq-UNSYNCHRONISED.true)
+    (ten_says_flagged a.at a.left a.s.now (λ i. omega (arith, at_shared_slice_known_1.shared_slice_known-1.given i)) at_start.requires id.result id.ensures at_if_id_lt16777216.if-id-lt16777216.false at_if_id_ne0.if-id-ne0.false
+    at_size_of_size.size_of-size.result at_if_left_size.if-left-size.false c.before.before.kind_of-then-v4.result c.before.before.kind_of-then-v4.ensures c.before.by_kind-then-v4.result c.before.by_kind-then-v4.ensures a.v4 at_if_v4.if-v4.true
+    (at_size_of_size.size_of-size.ensures ∙ ap (size_by a.v4) at_read32.read32.ensures) at_if_flags_eq_UNSYNCHRONISED.if-flags-eq-UNSYNCHRONISED.true)
 
 pub glance10_spec : {M : Type 1} → statement M
 glance10_spec =

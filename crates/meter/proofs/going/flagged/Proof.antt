@@ -8,14 +8,18 @@ use Rattle.meter.proofs.going.flagged.Tie as tie
 
 returns : tie.Need-returns-in-Refused
 returns c =
-    let a = c.before.before.before.before.before.before.before.args in
-    rw c.in-Refused.is at (flagged_put (resynchronised (slice a.first a.next a.tag.now)) a.next a.work.now c.before.before.before.resync_into.ensures)
+    let at_resync_into = c.before.before.before in
+    let at_start = at_resync_into.before.before.before.before in
+    let a = at_start.args in
+    rw c.in-Refused.is at (flagged_put (resynchronised (slice a.first a.next a.tag.now)) a.next a.work.now at_resync_into.resync_into.ensures)
 
 returns_2 : tie.Need-returns-in-Bytes
 returns_2 c =
-    let a = c.before.before.before.before.before.before.before.before.args in
+    let at_resync_into = c.before.before.before.before in
+    let at_start = at_resync_into.before.before.before.before in
+    let a = at_start.args in
     rw c.passed.ensures
-    (rw c.before.in-Bytes.is at (flagged_put (resynchronised (slice a.first a.next a.tag.now)) a.next a.work.now c.before.before.before.before.resync_into.ensures))
+    (rw c.before.in-Bytes.is at (flagged_put (resynchronised (slice a.first a.next a.tag.now)) a.next a.work.now at_resync_into.resync_into.ensures))
 
 pub flagged_spec : {M : Type 1} → statement M
 flagged_spec =

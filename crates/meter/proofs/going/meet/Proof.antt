@@ -61,8 +61,9 @@ add_first c =
 
 add_flagged : tie.Need-overflow_add-first-in-Flagged
 add_flagged c =
+    let at_in_Flagged = c.before.before.before in
     let at_glance = c.before.before.before.before in
-    omega (arith, fits at_glance (says at_glance c.before.before.before.in-Flagged.is).0 c.before.head_len-in-Flagged.ensures.0)
+    omega (arith, fits at_glance (says at_glance at_in_Flagged.in-Flagged.is).0 c.before.head_len-in-Flagged.ensures.0)
 
 add_first_2 : tie.Need-overflow_add-first-in-Meter
 add_first_2 c =
@@ -89,16 +90,20 @@ returns_4 c =
 
 returns_5 : tie.Need-returns-else-in_work
 returns_5 c =
+    let at_head_len_in_Flagged = c.before.before.before.before in
+    let at_if_in_work = at_head_len_in_Flagged.before in
+    let at_in_Flagged = at_if_in_work.before in
     let at_glance = c.before.before.before.before.before.before.before in
     let a = (at_start c.before.before.before.before.before.before.before).args in
-    λ begin. meets_flagged a.version a.in_work begin a.at a.end a.tag.now a.work.now _ c.before.before.before.before.before.if-in_work.false (says at_glance c.before.before.before.before.before.before.in-Flagged.is)
-    (rw c.before.before.before.before.head_len-in-Flagged.ensures.0 at c.before.before.flagged.ensures)
+    λ begin. meets_flagged a.version a.in_work begin a.at a.end a.tag.now a.work.now _ at_if_in_work.if-in_work.false (says at_glance at_in_Flagged.in-Flagged.is)
+    (rw at_head_len_in_Flagged.head_len-in-Flagged.ensures.0 at c.before.before.flagged.ensures)
 
 returns_6 : tie.Need-returns-in-Meter
 returns_6 c =
+    let at_in_Meter = c.before.before.before in
     let at_glance = c.before.before.before.before in
     let a = (at_start c.before.before.before.before).args in
-    λ begin. meets_meter a.version a.in_work begin a.at a.end a.tag.now a.work.now _ (says at_glance c.before.before.before.in-Meter.is) c.before.before.head_len-in-Meter.ensures.0 (at_source c.before.before.before.before).source-s.ensures
+    λ begin. meets_meter a.version a.in_work begin a.at a.end a.tag.now a.work.now _ (says at_glance at_in_Meter.in-Meter.is) c.before.before.head_len-in-Meter.ensures.0 (at_source c.before.before.before.before).source-s.ensures
     (c.before.parse.ensures a.version) (c.read_as.ensures a.version)
 
 pub meet_spec : {M : Type 1} → statement M

@@ -9,7 +9,8 @@ returns c = missing_short c.before.before.args.tag.now c.if-tag-lt10.true
 
 returns_2 : tie.Need-returns
 returns_2 c =
-    missing_long c.before.before.before.args.tag.now c.before.if-tag-lt10.false c.size_of.ensures.0
+    let at_start = c.before.before.before in
+    missing_long at_start.args.tag.now c.before.if-tag-lt10.false c.size_of.ensures.0
 
 pub is_missing_spec : {M : Type 1} → statement M
 is_missing_spec = tie.close (tie.spec returns (λ c. search rules) (λ c κs. search rules) returns_2)

@@ -8,16 +8,20 @@ use Rattle.meter.proofs.opening.open_any.Tie as tie
 
 returns : tie.Need-returns-in-Ready
 returns c =
-    let a = c.before.before.before.before.before.before.before.before.before.args in
-    let made = c.before.before.before.before.before.open-opened in
+    let at_open_opened = c.before.before.before.before.before in
+    let at_start = at_open_opened.before.before.before.before in
+    let a = at_start.args in
+    let made = at_open_opened.open-opened in
     opens_any a.tag.now a.work.now made.new.work c.before.before.in-Ready.reader c.metered.result
     (c.metered.ensures ∙ ap (λ (t : Bool). meter_at t c.before.before.in-Ready.reader) c.before.is_missing.ensures)
     (ap {B = Opened × List ℕ} (λ (x : Opened). (x, made.new.work)) (sym c.before.before.in-Ready.is) ∙ made.ensures)
 
 returns_2 : tie.Need-returns-in-Refused
 returns_2 c =
-    let a = c.before.before.before.before.before.before.before.args in
-    let made = c.before.before.before.open-opened in
+    let at_open_opened = c.before.before.before in
+    let at_start = at_open_opened.before.before.before.before in
+    let a = at_start.args in
+    let made = at_open_opened.open-opened in
     opens_refused a.tag.now a.work.now made.new.work c.in-Refused.k
     (ap {B = Opened × List ℕ} (λ (x : Opened). (x, made.new.work)) (sym c.in-Refused.is) ∙ made.ensures)
 

@@ -6,12 +6,13 @@ use Rattle.meter.proofs.opening.size_of.Statement.{statement}
 use Rattle.meter.proofs.opening.size_of.Tie as tie
 
 returns : tie.Need-returns
-returns c = (
-  c.decode_u32.ensures
-      ∙ ap (λ (n : ℕ). from_synchsafe (bytes_of 4 n)) c.before.read32.ensures
-      ∙ synchsafe_four 6 c.before.before.before.args.tag.now (omega arith) (λ i. omega (arith, c.before.before.shared_slice_known-1.given i)),
-  omega arith,
-)
+returns c =
+    let at_start = c.before.before.before in (
+      c.decode_u32.ensures
+          ∙ ap (λ (n : ℕ). from_synchsafe (bytes_of 4 n)) c.before.read32.ensures
+          ∙ synchsafe_four 6 at_start.args.tag.now (omega arith) (λ i. omega (arith, c.before.before.shared_slice_known-1.given i)),
+      omega arith,
+    )
 
 pub size_of_spec : {M : Type 1} → statement M
 size_of_spec = tie.close (tie.spec (λ c κs. search rules) (λ c κs. search rules) (λ c. search rules) returns)

@@ -19,13 +19,15 @@ loop_holds c = (omega arith, sym (ap (λ (m : ℕ). c.args.value / m) (pow-zero 
 
 returns : tie.Need-returns-then-left-eq0 invariant_loop decreases_loop
 returns c =
-    let a = c.before.before.before.args in
+    let at_start = c.before.before.before in
+    let a = at_start.args in
     let L = c.before.before.loop-k in
     sym (fits_early a.value L.k a.n (sym L.invariant.1 ∙ c.if-left-eq0.true) L.invariant.0)
 
 loop_again : tie.Need-loop-k-preserved invariant_loop decreases_loop
 loop_again c =
-    let a = c.before.before.before.args in
+    let at_start = c.before.before.before in
+    let a = at_start.args in
     let L = c.before.before.loop-k in
     (omega arith, ap (λ (m : ℕ). m / 256) L.invariant.1 ∙ next_left a.value L.k)
 

@@ -19,25 +19,33 @@ small c = omega arith
 
 returns_2 : tie.Need-returns-then-stop-start
 returns_2 c =
-    let a = c.before.before.before.args in
+    let at_start = c.before.before.before in
+    let a = at_start.args in
     sum_nowhere a.start a.stop a.counter a.amount a.tag.now (small c.before) (field_back a.start a.stop a.tag.now c.if-stop-start.true)
 
 returns_3 : tie.Need-returns-then-tag-stop
 returns_3 c =
-    let a = c.before.before.before.before.args in
+    let at_start = c.before.before.before.before in
+    let a = at_start.args in
     sum_nowhere a.start a.stop a.counter a.amount a.tag.now (small c.before.before) (field_past a.start a.stop a.tag.now (omega (arith, c.before.if-stop-start.false)) c.if-tag-stop.true)
 
 returns_4 : tie.Need-returns-then-not-fits
 returns_4 c =
-    let a = c.before.before.before.before.before.before.args in
+    let at_start = c.before.before.before.before.before.before in
+    let a = at_start.args in
     sum_wide a.start a.stop a.counter a.amount a.tag.now (small c.before.before.before.before) (sym c.before.fits.ensures ∙ not-true _ c.if-not-fits.true-raw)
 
 returns_5 : tie.Need-returns
 returns_5 c =
-    let a = c.before.before.before.before.before.before.before.before.before.before.args in
+    let at_if_not_fits = c.before.before.before.before in
+    let at_fits = at_if_not_fits.before in
+    let at_if_tag_stop = at_fits.before in
+    let at_if_stop_start = at_if_tag_stop.before in
+    let at_start = at_if_stop_start.before.before.before in
+    let a = at_start.args in
     sum_stored a.start a.stop a.counter a.amount a.tag.now (small c.before.before.before.before.before.before.before.before)
-    (field_there a.start a.stop a.tag.now (omega (arith, c.before.before.before.before.before.before.before.if-stop-start.false)) (omega (arith, c.before.before.before.before.before.before.if-tag-stop.false)))
-    (sym c.before.before.before.before.before.fits.ensures ∙ not-false _ c.before.before.before.before.if-not-fits.false-raw) _ c.before.before.put_value.ensures
+    (field_there a.start a.stop a.tag.now (omega (arith, at_if_stop_start.if-stop-start.false)) (omega (arith, at_if_tag_stop.if-tag-stop.false)))
+    (sym at_fits.fits.ensures ∙ not-false _ at_if_not_fits.if-not-fits.false-raw) _ c.before.before.put_value.ensures
 
 pub raise_at_spec : {M : Type 1} → statement M
 raise_at_spec =

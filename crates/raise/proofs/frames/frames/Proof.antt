@@ -11,7 +11,8 @@ frames_found_requires c κs =
 
 returns : tie.Need-returns-in-Refused
 returns c =
-    header_refuses c.before.before.before.args.tag.now _ (sym c.before.header-headed.ensures ∙ c.in-Refused.is)
+    let at_start = c.before.before.before in
+    header_refuses at_start.args.tag.now _ (sym c.before.header-headed.ensures ∙ c.in-Refused.is)
 
 pub frames_spec : {M : Type 1} → statement M
 frames_spec = tie.close (tie.spec (λ c κs. search rules) (λ c. search rules) (λ c. search rules) frames_found_requires returns (λ c. search rules))

@@ -8,17 +8,22 @@ use Rattle.raise.proofs.frames.frames_found.Tie as tie
 
 returns : tie.Need-returns-then-is_whole
 returns c =
-    let a = c.before.before.before.args in
-    whole_refused a.tag.now a.h c.before.before.before.requires (sym c.before.is_whole.ensures ∙ c.if-is_whole.true)
+    let at_start = c.before.before.before in
+    let a = at_start.args in
+    whole_refused a.tag.now a.h at_start.requires (sym c.before.is_whole.ensures ∙ c.if-is_whole.true)
 
 returns_2 : tie.Need-returns
 returns_2 c =
-    let a = c.before.before.before.before.before.before.before.before.args in
+    let at_least_end = c.before.before.before in
+    let at_if_is_whole = at_least_end.before.before in
+    let at_is_whole = at_if_is_whole.before in
+    let at_start = at_is_whole.before.before in
+    let a = at_start.args in
     let tag = a.tag.now in
-    let end = c.before.before.before.least-end.result in
-    frames_told tag a.h c.before.before.before.before.before.before.before.before.requires (sym c.before.before.before.before.before.before.is_whole.ensures ∙ c.before.before.before.before.before.if-is_whole.false)
-    (region_start_lem tag a.h c.before.before.before.before.before.before.before.before.requires end c.before.before.before.least-end.ensures c.before.least-begin.result c.before.least-begin.ensures)
-    (region_end_lem tag a.h c.before.before.before.before.before.before.before.before.requires end c.before.before.before.least-end.ensures)
+    let end = at_least_end.least-end.result in
+    frames_told tag a.h at_start.requires (sym at_is_whole.is_whole.ensures ∙ at_if_is_whole.if-is_whole.false)
+    (region_start_lem tag a.h at_start.requires end at_least_end.least-end.ensures c.before.least-begin.result c.before.least-begin.ensures)
+    (region_end_lem tag a.h at_start.requires end at_least_end.least-end.ensures)
     c.is_simple-odd.ensures
 
 pub frames_found_spec : {M : Type 1} → statement M

@@ -14,7 +14,8 @@ returns c =
 
 returns_2 : tie.Need-returns
 returns_2 c =
-    let a = c.before.before.before.args in
+    let at_start = c.before.before.before in
+    let a = at_start.args in
     c.all_zero.ensures ∙ sym (ap (λ (t : Bool). not t && all_zero (slice a.at a.end a.tag.now)) c.before.if-odd.false)
 
 pub is_plain_end_spec : {M : Type 1} → statement M

@@ -10,13 +10,15 @@ use Rattle.raise.proofs.scanning.after_last.Tie as tie
 
 returns : tie.Need-returns-then-not-is_plain_end
 returns c =
-    let a = c.before.before.before.args in
+    let at_start = c.before.before.before in
+    let a = at_start.args in
     let found = Scanned.Frames a.version a.found a.aim a.last a.end in
     sym (ap (λ (t : Bool). pick t found (Scanned.Refused 40)) (sym c.before.is_plain_end.ensures ∙ not-true _ c.if-not-is_plain_end.true-raw))
 
 returns_2 : tie.Need-returns
 returns_2 c =
-    let a = c.before.before.before.args in
+    let at_start = c.before.before.before in
+    let a = at_start.args in
     let found = Scanned.Frames a.version a.found a.aim a.last a.end in
     sym (ap (λ (t : Bool). pick t found (Scanned.Refused 40)) (sym c.before.is_plain_end.ensures ∙ not-false _ c.if-not-is_plain_end.false-raw))
 

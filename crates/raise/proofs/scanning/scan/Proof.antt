@@ -26,7 +26,8 @@ returns c = framed_refused Scanned.Refused _ _ (told c.before c.in-Refused.is)
 returns_2 : tie.Need-returns-in-Frames
 unfolding scanned_of scanned_in
 returns_2 c =
-    let a = c.before.before.before.before.before.args in
+    let at_start = c.before.before.before.before.before in
+    let a = at_start.args in
     c.search.ensures
     ∙ framed_looked Scanned.Refused _ (λ (v : Version) (begin end : ℕ) (s : List ℕ). scanned_on v a.user.now a.number begin end (blocks_in v s)) (told c.before.before c.before.in-Frames.is)
 

@@ -130,20 +130,21 @@ loop_less_2 c =
 
 loop_again_2 : tie.Need-loop-k-preserved invariant_loop decreases_loop
 loop_again_2 c =
+    let at_in_Popularimeter = c.before.before.before.before in
     let a = (start c.before.before.before.before.before).args in
     let le = (start c.before.before.before.before.before).requires in
     let L = (at_loop c.before.before.before.before.before).loop-k in
-    let m = meter c.before.before.before.before in
+    let m = meter at_in_Popularimeter in
     let v = a.version in
-    let rest = blocks_in v (slice c.before.before.before.before.in-Popularimeter.next a.end a.tag.now) in (
+    let rest = blocks_in v (slice at_in_Popularimeter.in-Popularimeter.next a.end a.tag.now) in (
       look_again le m.met L.odd L.invariant.0,
-      λ even. let p = or_false L.odd c.before.before.before.before.in-Popularimeter.itself even in
+      λ even. let p = or_false L.odd at_in_Popularimeter.in-Popularimeter.itself even in
           let before = L.invariant.1 p.0 in (
-            ap (λ (f : Found). found_on v a.user.now f c.before.before.before.before.in-Popularimeter.next rest) c.before.also-found.ensures
+            ap (λ (f : Found). found_on v a.user.now f at_in_Popularimeter.in-Popularimeter.next rest) c.before.also-found.ensures
                 ∙ meter_turn v a.user.now L.found le m c.before.before.is_user-mine.result _ p.1 c.before.before.is_user-mine.ensures refl
                 ∙ before.0,
             (
-              ap (λ (x : Aim). aimed_on x c.before.before.before.before.in-Popularimeter.next rest) c.aimed-aim-in-Popularimeter.ensures ∙ aim_turn le m.met L.aim p.1 ∙ before.1.0,
+              ap (λ (x : Aim). aimed_on x at_in_Popularimeter.in-Popularimeter.next rest) c.aimed-aim-in-Popularimeter.ensures ∙ aim_turn le m.met L.aim p.1 ∙ before.1.0,
               last_on le m.met p.1 ∙ before.1.1,
             ),
           ),

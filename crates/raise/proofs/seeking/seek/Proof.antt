@@ -9,7 +9,9 @@ use Rattle.raise.proofs.seeking.seek.Tie as tie
 
 -- what the scan found
 told : (c : tie.After-scan-scanned) {x : Scanned} → c.scan-scanned.result ≡ x → let a = c.before.before.before.args in sought_in x ≡ sought_of a.tag.now a.user.now
-told c e = let a = c.before.before.before.args in sought_scanned a.tag.now a.user.now 0 (sym e ∙ c.scan-scanned.ensures)
+told c e =
+    let at_start = c.before.before.before in
+    let a = at_start.args in sought_scanned a.tag.now a.user.now 0 (sym e ∙ c.scan-scanned.ensures)
 
 returns : tie.Need-returns-in-Refused
 returns c = told c.before c.in-Refused.is

@@ -31,14 +31,18 @@ loop_holds c =
 
 returns_2 : tie.Need-returns-then-s-start invariant_loop decreases_loop
 returns_2 c =
-    let a = c.before.before.before.before.before.before.args in
-    let L = c.before.before.before.before.loop-i in
+    let at_loop_i = c.before.before.before.before in
+    let at_start = at_loop_i.before.before in
+    let a = at_start.args in
+    let L = at_loop_i.loop-i in
     sym (same_not a.s.now a.start (a.start + a.len) a.user.now L.i (omega arith) L.invariant.2 (omega (arith, L.invariant.0)) c.if-s-start.true) ∙ L.invariant.3
 
 loop_again : tie.Need-loop-i-preserved invariant_loop decreases_loop
 loop_again c =
-    let a = c.before.before.before.before.before.before.args in
-    let L = c.before.before.before.before.loop-i in (
+    let at_loop_i = c.before.before.before.before in
+    let at_start = at_loop_i.before.before in
+    let a = at_start.args in
+    let L = at_loop_i.loop-i in (
       L.invariant.0,
       omega arith,
       L.invariant.2,
@@ -47,7 +51,8 @@ loop_again c =
 
 returns_3 : tie.Need-returns invariant_loop decreases_loop
 returns_3 c =
-    let a = c.before.before.before.args in
+    let at_start = c.before.before.before in
+    let a = at_start.args in
     let L = c.before.loop-i in
     same_end a.s.now a.start (a.start + a.len) a.user.now L.i (omega arith) (omega (arith, L.invariant.0)) ∙ L.invariant.3
 

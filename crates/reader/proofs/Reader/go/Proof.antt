@@ -6,8 +6,10 @@ use Rattle.reader.proofs.Reader.go.Tie as tie
 
 returns : tie.Need-returns
 returns c =
-    let a = c.before.before.before.before.before.before.before.args in
-    gone a.self a.tag.now a.work.now c.before.before.before.frame_at.ensures c.answer.ensures
+    let at_frame_at = c.before.before.before in
+    let at_start = at_frame_at.before.before.before.before in
+    let a = at_start.args in
+    gone a.self a.tag.now a.work.now at_frame_at.frame_at.ensures c.answer.ensures
 
 pub go_spec : {M : Type 1} → statement M
 go_spec =

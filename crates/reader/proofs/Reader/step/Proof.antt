@@ -6,17 +6,21 @@ use Rattle.reader.proofs.Reader.step.Tie as tie
 
 returns : tie.Need-returns-in-Running
 returns c =
-    let a = c.before.before.before.before.before.before.before.args in
-    running a.self a.tag.now a.work.now c.before.before.before.before.in-Running.is c.before.before.go.ensures
+    let at_in_Running = c.before.before.before.before in
+    let at_start = at_in_Running.before.before.before in
+    let a = at_start.args in
+    running a.self a.tag.now a.work.now at_in_Running.in-Running.is c.before.before.go.ensures
 
 returns_2 : tie.Need-returns-in-Ended
 returns_2 c =
-    let a = c.before.before.before.args in
+    let at_start = c.before.before.before in
+    let a = at_start.args in
     ended a.self a.tag.now a.work.now c.in-Ended.is
 
 returns_3 : tie.Need-returns-in-Failed
 returns_3 c =
-    let a = c.before.before.before.args in
+    let at_start = c.before.before.before in
+    let a = at_start.args in
     failed a.self a.tag.now a.work.now c.in-Failed.is
 
 pub step_spec : {M : Type 1} → statement M

@@ -12,7 +12,8 @@ use Rattle.reader.proofs.headers.begins.Tie as tie
 
 returns : tie.Need-returns
 returns c =
-    let tag = c.before.before.before.args.tag.now in
+    let at_start = c.before.before.before in
+    let tag = at_start.args.tag.now in
     let e : c.read32.result / 256 ≡ number (take 3 tag) =
     ap (λ (n : ℕ). n / 256) c.read32.ensures ∙ first_three 0 tag (omega arith) (λ i. omega (arith, c.before.before.shared_slice_known-1.given i)) in
     rw (e, le-leb 10 (length tag) (omega arith))

@@ -12,7 +12,8 @@ shared_slice_read_has c = omega (arith, accepted _ c.before.before.requires)
 
 synchsafe_requires : tie.Need-synchsafe-requires
 synchsafe_requires c κs =
-    let there = (accepted _ c.before.before.before.before.requires).there (sym c.before.has.ensures ∙ c.if-has.true) in
+    let at_start = c.before.before.before.before in
+    let there = (accepted _ at_start.requires).there (sym c.before.has.ensures ∙ c.if-has.true) in
     omega arith
 
 returns : tie.Need-returns-then-has

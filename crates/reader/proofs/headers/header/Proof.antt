@@ -28,8 +28,11 @@ synchsafe_requires c κs = omega (arith, taken c.before.before.before)
 returns_2 : tie.Need-returns
 unfolding header_of
 returns_2 c =
-    let none = sym c.before.before.before.before.before.before.refusal-k.ensures ∙ c.before.before.before.before.before.if-k-ne0.false in
-    rw (none, c.before.before.before.version_of.ensures, c.before.synchsafe.ensures, c.extended_size.ensures)
+    let at_version_of = c.before.before.before in
+    let at_if_k_ne0 = at_version_of.before.before in
+    let at_refusal_k = at_if_k_ne0.before in
+    let none = sym at_refusal_k.refusal-k.ensures ∙ at_if_k_ne0.if-k-ne0.false in
+    rw (none, at_version_of.version_of.ensures, c.before.synchsafe.ensures, c.extended_size.ensures)
 
 pub header_spec : {M : Type 1} → statement M
 header_spec =

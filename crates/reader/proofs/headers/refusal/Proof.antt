@@ -37,12 +37,14 @@ known : (c : tie.Else-not-known) → is_version (edition_of (tag (at_tag c.befor
 known c = sym c.before.is_version-known.ensures ∙ not-false _ c.if-not-known.false-raw
 
 begun : (c : tie.Else-not-clear) → Begun (tag (at_tag c.before.before)) c.before.before.before.has-extended.result
-begun c = record {
-  is = is_tag_lem (at_tag c.before.before);
-  known = known c.before;
-  clear = not-false _ c.if-not-clear.false-raw;
-  says = c.before.before.before.has-extended.ensures;
-}
+begun c =
+    let at_has_extended = c.before.before.before in
+    record {
+      is = is_tag_lem (at_tag c.before.before);
+      known = known c.before;
+      clear = not-false _ c.if-not-clear.false-raw;
+      says = at_has_extended.has-extended.ensures;
+    }
 
 ends : (c : tie.After-end_of) → c.end_of.result ≡ length (cut_of (tag_there c))
 ends c = cut_end (tag_there c) c.before.synchsafe.ensures c.end_of.ensures
@@ -53,7 +55,8 @@ is_there c = not-false _ c.if-not-extended.false-raw
 sized : (c : tie.After-synchsafe-2)
     → (c.synchsafe-2.result < 6 → 6 ≡ header_refusal (tag_there c.before.before)) × (6 ≤ c.synchsafe-2.result → 0 ≡ header_refusal (tag_there c.before.before))
 sized c =
-    by_size (begun (at_clear c.before.before)) c.before.before.before.before.before.if-compressed.false (is_there c.before.before.before.before) (ends c.before.before) c.before.if-end_of-lt16.false c.synchsafe-2.ensures
+    let at_if_compressed = c.before.before.before.before.before in
+    by_size (begun (at_clear c.before.before)) at_if_compressed.if-compressed.false (is_there c.before.before.before.before) (ends c.before.before) c.before.if-end_of-lt16.false c.synchsafe-2.ensures
 
 returns : tie.Need-returns-then-not-begins
 returns c = no_tag _ (sym c.before.begins.ensures ∙ not-true _ c.if-not-begins.true-raw)
@@ -84,7 +87,8 @@ synchsafe_requires c κs = is_long (at_tag c.before.before.before.before)
 
 returns_6 : tie.Need-returns-then-end_of-lt16
 returns_6 c =
-    missing_bytes (begun (at_clear c.before)) c.before.before.before.before.if-compressed.false (is_there c.before.before.before) (ends c.before) c.if-end_of-lt16.true
+    let at_if_compressed = c.before.before.before.before in
+    missing_bytes (begun (at_clear c.before)) at_if_compressed.if-compressed.false (is_there c.before.before.before) (ends c.before) c.if-end_of-lt16.true
 
 returns_7 : tie.Need-returns
 returns_7 c = (sized c.before).1 (omega arith)

@@ -6,10 +6,11 @@ use Rattle.reader.proofs.headers.region_of.Tie as tie
 
 returns : tie.Need-returns
 returns c =
-    let a = c.before.before.before.before.args in
+    let at_start = c.before.before.before.before in
+    let a = at_start.args in
     let ends = c.before.before.end_of-end.ensures in (
-      region_start_lem a.tag.now a.h c.before.before.before.before.requires c.before.before.end_of-end.result ends c.least.result c.least.ensures,
-      region_end_lem a.tag.now a.h c.before.before.before.before.requires c.before.before.end_of-end.result ends,
+      region_start_lem a.tag.now a.h at_start.requires c.before.before.end_of-end.result ends c.least.result c.least.ensures,
+      region_end_lem a.tag.now a.h at_start.requires c.before.before.end_of-end.result ends,
     )
 
 pub region_of_spec : {M : Type 1} → statement M

@@ -10,10 +10,11 @@ use Rattle.reader.proofs.headers.synchsafe.Tie as tie
 
 returns : tie.Need-returns
 returns c =
-    let a = c.before.before.before.args in
+    let at_start = c.before.before.before in
+    let a = at_start.args in
     c.decode_u32.ensures
     ∙ ap (λ (n : ℕ). from_synchsafe (bytes_of 4 n)) c.before.read32.ensures
-    ∙ synchsafe_four a.at a.s.now c.before.before.before.requires (λ i. omega (arith, c.before.before.shared_slice_known-1.given i))
+    ∙ synchsafe_four a.at a.s.now at_start.requires (λ i. omega (arith, c.before.before.shared_slice_known-1.given i))
 
 pub synchsafe_spec : {M : Type 1} → statement M
 synchsafe_spec = tie.close (tie.spec (λ c κs. search rules) (λ c κs. search rules) returns)

@@ -10,7 +10,8 @@ open_found_requires c κs = sym c.before.before.header-headed.ensures ∙ c.befo
 
 returns_2 : tie.Need-returns-in-Refused
 returns_2 c =
-    let a = c.before.before.before.before.args in
+    let at_start = c.before.before.before.before in
+    let a = at_start.args in
     open_refused a.tag.now a.work.now _ (sym c.before.header-headed.ensures ∙ c.in-Refused.is)
 
 pub open_spec : {M : Type 1} → statement M

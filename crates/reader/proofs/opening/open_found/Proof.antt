@@ -15,12 +15,14 @@ work c = c.before.before.before.before.args.work.now
 
 is_told : (c : tie.After-is_whole)
     → Told (tag c) c.before.before.before.before.args.h c.before.region_of-part.result.start c.before.region_of-part.result.end c.is_whole.result
-is_told c = record {
-  head = c.before.before.before.before.requires;
-  starts = c.before.region_of-part.ensures.0;
-  ends = c.before.region_of-part.ensures.1;
-  says = c.is_whole.ensures;
-}
+is_told c =
+    let at_start = c.before.before.before.before in
+    record {
+      head = at_start.requires;
+      starts = c.before.region_of-part.ensures.0;
+      ends = c.before.region_of-part.ensures.1;
+      says = c.is_whole.ensures;
+    }
 
 returns : tie.Need-returns-then-not-is_whole
 returns c =
@@ -28,13 +30,17 @@ returns c =
 
 returns_2 : tie.Need-returns-in-Bytes
 returns_2 c =
-    let on = not-false _ c.before.before.before.before.before.before.if-not-is_whole.false-raw in
-    in_work (is_told c.before.before.before.before.before.before.before) (work c.before.before.before.before.before.before.before) on c.before.before.before.before.resync_into-put.ensures c.before.in-Bytes.is c.ready-in-Bytes.ensures
+    let at_resync_into_put = c.before.before.before.before in
+    let at_if_not_is_whole = at_resync_into_put.before.before in
+    let on = not-false _ at_if_not_is_whole.if-not-is_whole.false-raw in
+    in_work (is_told c.before.before.before.before.before.before.before) (work c.before.before.before.before.before.before.before) on at_resync_into_put.resync_into-put.ensures c.before.in-Bytes.is c.ready-in-Bytes.ensures
 
 returns_3 : tie.Need-returns-in-Refused
 returns_3 c =
-    let on = not-false _ c.before.before.before.before.before.if-not-is_whole.false-raw in
-    too_small (is_told c.before.before.before.before.before.before) (work c.before.before.before.before.before.before) on c.before.before.before.resync_into-put.ensures c.in-Refused.is
+    let at_resync_into_put = c.before.before.before in
+    let at_if_not_is_whole = at_resync_into_put.before.before in
+    let on = not-false _ at_if_not_is_whole.if-not-is_whole.false-raw in
+    too_small (is_told c.before.before.before.before.before.before) (work c.before.before.before.before.before.before) on at_resync_into_put.resync_into-put.ensures c.in-Refused.is
 
 pub open_found_spec : {M : Type 1} → statement M
 open_found_spec =

@@ -12,9 +12,11 @@ use Rattle.unsynch.proofs.blocks.copy_behind.Tie as tie
 
 returns : tie.Need-returns
 returns c =
-    let a = c.before.before.before.before.before.before.before.before.before.before.args in
+    let at_copy = c.before.before.before.before.before.before in
+    let at_start = at_copy.before.before.before.before in
+    let a = at_start.args in
     let part : List ℕ = slice (a.i + 1) (a.i + a.n + 1) a.s.now in
-    let block = slice_copy a.s.now (replicate 64 0) _ (a.i + 1) (a.i + a.n + 1) a.n (omega arith) (omega arith) (omega arith) c.before.before.before.before.before.before.copy.ensures in
+    let block = slice_copy a.s.now (replicate 64 0) _ (a.i + 1) (a.i + a.n + 1) a.n (omega arith) (omega arith) (omega arith) at_copy.copy.ensures in
     let n : a.at + a.n ≡ a.at + length part = omega (arith, length-slice (a.i + 1) (a.i + a.n + 1) a.s.now (omega arith)) in
     λ j. (n j, (c.before.before.copy-2.ensures ∙ ap (sets a.buf.now a.at) block) j)
 

@@ -32,8 +32,10 @@ add_n c = omega (arith, number c.hit.result)
 
 loop_again : tie.Need-loop-k-preserved invariant_loop decreases_loop
 loop_again c =
-    let a = c.before.before.before.before.before.before.args in
-    let L = c.before.before.before.before.loop-k in
+    let at_loop_k = c.before.before.before.before in
+    let at_start = at_loop_k.before.before in
+    let a = at_start.args in
+    let L = at_loop_k.loop-k in
     let here : a.i + L.k + 1 ≡ a.i + (L.k + 1) = omega arith in
     let one = counts a.how a.s.now (a.i + L.k) (a.i + 64 + 1) (omega arith) (omega arith) c.hit.result c.hit.ensures in
     let same = ap (λ (j : ℕ). hits_after a.how a.s.now j (a.i + 64 + 1)) here in
@@ -41,7 +43,8 @@ loop_again c =
 
 returns : tie.Need-returns invariant_loop decreases_loop
 returns c =
-    let a = c.before.before.before.args in
+    let at_start = c.before.before.before in
+    let a = at_start.args in
     let L = c.before.loop-k in
     omega (arith, hits_end a.how a.s.now (a.i + L.k) (a.i + 64 + 1) (omega arith))
 

@@ -9,7 +9,8 @@ use Rattle.unsynch.proofs.blocks.hits.Tie as tie
 
 returns_2 : tie.Need-returns
 returns_2 c =
-    let a = c.before.before.before.args in
+    let at_start = c.before.before.before in
+    let a = at_start.args in
     sym (no_ff a.how a.s.now 64 a.i (a.i + 64) (omega arith) (omega arith) (sym c.before.any_ff.ensures ∙ c.if-any_ff.false))
 
 pub hits_spec : {M : Type 1} → statement M

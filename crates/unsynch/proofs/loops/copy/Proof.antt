@@ -20,13 +20,15 @@ loop_holds c =
 
 slice_write_buf : tie.Need-bounds-buf-at invariant_loop decreases_loop
 slice_write_buf c =
-    let a = c.before.before.before.args in
+    let at_start = c.before.before.before in
+    let a = at_start.args in
     let L = c.before.before.loop-k in
     (copy_turn a.s.now a.from a.to a.at (omega arith) L.k (omega arith) L.invariant.2).0
 
 loop_again : tie.Need-loop-k-preserved invariant_loop decreases_loop
 loop_again c =
-    let a = c.before.before.before.args in
+    let at_start = c.before.before.before in
+    let a = at_start.args in
     let L = c.before.before.loop-k in
     (refl, omega arith, (copy_turn a.s.now a.from a.to a.at (omega arith) L.k (omega arith) L.invariant.2).1)
 

@@ -28,7 +28,8 @@ turn : (c : tie.After-shared_slice_known-in-loop-i-1 invariant_loop decreases_lo
     → (L.o < length L.buf)
     × Storing a.buf.now a.at (edited_after resync_by a.s.now a.from a.to) (set L.buf L.o (get_or a.s.now (L.i + 1) 0)) q (edited_after resync_by a.s.now (L.i + 1) a.to)
 turn c f q e is =
-    let a = c.before.before.before.before.before.args in
+    let at_start = c.before.before.before.before.before in
+    let a = at_start.args in
     let L = c.before.before.loop-i in
     drop_turn L.invariant.2 (get_or a.s.now (L.i + 1) 0) (edited_after resync_by a.s.now (L.i + 1) a.to) f q _ _
     (stays a.s.now L.i a.to (omega arith) (omega arith) f e)
@@ -43,11 +44,13 @@ slice_write_buf c = (turn c _ _ refl refl).0
 
 add_o : tie.Need-overflow_add-o invariant_loop decreases_loop
 add_o c =
-    omega (arith, (turn c.before.before.before _ _ refl refl).0, c.bit-o.ensures.1, c.before.before.before.before.before.loop-i.invariant.2.long)
+    let at_loop_i = c.before.before.before.before.before in
+    omega (arith, (turn c.before.before.before _ _ refl refl).0, c.bit-o.ensures.1, at_loop_i.loop-i.invariant.2.long)
 
 loop_again : tie.Need-loop-i-preserved invariant_loop decreases_loop
 loop_again c =
-    let L = c.before.before.before.before.before.loop-i in
+    let at_loop_i = c.before.before.before.before.before in
+    let L = at_loop_i.loop-i in
     (omega arith, omega arith, (turn c.before.before.before c.before.stays.result _ c.before.stays.ensures (ap (λ (k : ℕ). L.o + k) c.bit-o.ensures.0)).1)
 
 drop_last_requires : tie.Need-drop_last-requires invariant_loop decreases_loop
@@ -55,11 +58,13 @@ drop_last_requires c κs = (omega arith, lies c.before.before.loop-i.invariant.2
 
 same_length : tie.Need-shape_of-buf invariant_loop decreases_loop
 same_length c =
-    c.before.before.drop_last.auto.buf ∙ c.before.before.before.before.before.loop-i.invariant.2.long
+    let at_loop_i = c.before.before.before.before.before in
+    c.before.before.drop_last.auto.buf ∙ at_loop_i.loop-i.invariant.2.long
 
 returns : tie.Need-returns invariant_loop decreases_loop
 returns c =
-    c.before.before.drop_last.ensures ∙ rest c.before.before.before.before.before.loop-i.invariant.2
+    let at_loop_i = c.before.before.before.before.before in
+    c.before.before.drop_last.ensures ∙ rest at_loop_i.loop-i.invariant.2
 
 pub drop_bytes_spec : {M : Type 1} → statement M
 drop_bytes_spec =

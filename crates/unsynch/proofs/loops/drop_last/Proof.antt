@@ -36,13 +36,15 @@ returns c =
 
 returns_2 : tie.Need-returns-else-stays
 returns_2 c =
-    let a = c.before.before.before.before.before.before.before.args in
+    let at_start = c.before.before.before.before.before.before.before in
+    let a = at_start.args in
     let goes = stays a.s.now a.from a.to (omega arith) (omega arith) false (sym c.if-stays.false ∙ c.before.stays.ensures) in
     done (goes ∙ edited_end resync_by a.s.now (a.from + 1) a.to (omega arith)) (begin _ _ _ (omega arith))
 
 returns_3 : tie.Need-returns-else-from-to
 returns_3 c =
-    let a = c.before.before.before.args in
+    let at_start = c.before.before.before in
+    let a = at_start.args in
     done (edited_end resync_by a.s.now a.from a.to (omega arith)) (begin _ _ _ (omega arith))
 
 pub drop_last_spec : {M : Type 1} → statement M

@@ -30,30 +30,39 @@ loop_holds c = (omega arith, omega arith, begin _ _ _ (omega arith))
 
 drop_bytes_requires : tie.Need-drop_bytes-o-requires invariant_loop decreases_loop
 drop_bytes_requires c κs =
-    let a = c.before.before.before.before.before.before.before.args in
-    let L = c.before.before.before.before.loop-i in
+    let at_loop_i = c.before.before.before.before in
+    let at_start = at_loop_i.before.before.before in
+    let a = at_start.args in
+    let L = at_loop_i.loop-i in
     (omega arith, (piece resync_by a.s.now L.i (L.i + 8) a.to (omega arith) (omega arith) (omega arith) L.invariant.2).0)
 
 copy_behind_requires : tie.Need-copy_behind-o-requires invariant_loop decreases_loop
 copy_behind_requires c κs =
-    let a = c.before.before.before.before.before.before.before.args in
-    let L = c.before.before.before.before.loop-i in
+    let at_loop_i = c.before.before.before.before in
+    let at_start = at_loop_i.before.before.before in
+    let a = at_start.args in
+    let L = at_loop_i.loop-i in
     (omega arith, omega arith, (block resync_by a.s.now L.i 8 a.to (omega arith) (omega arith) (alone c.before.before c.before.if-any_ff.false) L.invariant.2).0)
 
 loop_again : tie.Need-loop-i-preserved-then-any_ff invariant_loop decreases_loop
 loop_again c =
+    let at_loop_i = c.before.before.before.before.before.before.before in
+    let at_start = at_loop_i.before.before.before in
     let stores = c.before.before.drop_bytes-o in
-    let a = c.before.before.before.before.before.before.before.before.before.before.args in
-    let L = c.before.before.before.before.before.before.before.loop-i in
+    let a = at_start.args in
+    let L = at_loop_i.loop-i in
     let t = (piece resync_by a.s.now L.i (L.i + 8) a.to (omega arith) (omega arith) (omega arith) L.invariant.2).1 stores.result stores.new.buf stores.ensures in
     (omega arith, omega arith, t.1)
 
 loop_again_2 : tie.Need-loop-i-preserved invariant_loop decreases_loop
 loop_again_2 c =
+    let at_if_any_ff = c.before.before.before.before in
+    let at_loop_i = at_if_any_ff.before.before.before in
+    let at_start = at_loop_i.before.before.before in
     let stores = c.before.before.copy_behind-o in
-    let a = c.before.before.before.before.before.before.before.before.before.before.args in
-    let L = c.before.before.before.before.before.before.before.loop-i in
-    let t = (block resync_by a.s.now L.i 8 a.to (omega arith) (omega arith) (alone c.before.before.before.before.before c.before.before.before.before.if-any_ff.false) L.invariant.2).1 stores.result stores.new.buf stores.ensures in
+    let a = at_start.args in
+    let L = at_loop_i.loop-i in
+    let t = (block resync_by a.s.now L.i 8 a.to (omega arith) (omega arith) (alone c.before.before.before.before.before at_if_any_ff.if-any_ff.false) L.invariant.2).1 stores.result stores.new.buf stores.ensures in
     (omega arith, omega arith, t)
 
 drop_bytes_requires_2 : tie.Need-drop_bytes-requires invariant_loop decreases_loop
@@ -61,11 +70,13 @@ drop_bytes_requires_2 c κs = (omega arith, lies c.before.before.loop-i.invarian
 
 same_length : tie.Need-shape_of-buf invariant_loop decreases_loop
 same_length c =
-    c.before.before.drop_bytes.auto.buf ∙ c.before.before.before.before.before.loop-i.invariant.2.long
+    let at_loop_i = c.before.before.before.before.before in
+    c.before.before.drop_bytes.auto.buf ∙ at_loop_i.loop-i.invariant.2.long
 
 returns : tie.Need-returns invariant_loop decreases_loop
 returns c =
-    c.before.before.drop_bytes.ensures ∙ rest c.before.before.before.before.before.loop-i.invariant.2
+    let at_loop_i = c.before.before.before.before.before in
+    c.before.before.drop_bytes.ensures ∙ rest at_loop_i.loop-i.invariant.2
 
 pub drop_words_spec : {M : Type 1} → statement M
 drop_words_spec =

@@ -21,47 +21,62 @@ loop_holds c = (omega arith, omega arith, omega arith, omega arith, begin _ _ _ 
 
 copy_behind_requires : tie.Need-copy_behind-o-requires invariant_loop decreases_loop
 copy_behind_requires c κs =
-    let a = c.before.before.before.before.before.before.before.args in
-    let L = c.before.before.before.before.loop-i in
+    let at_loop_i = c.before.before.before.before in
+    let at_start = at_loop_i.before.before.before in
+    let a = at_start.args in
+    let L = at_loop_i.loop-i in
     let alone = sym c.before.before.hits.ensures ∙ c.before.if-hits-eq0.true in
     (omega arith, omega arith, (block a.how a.s.now L.i 64 a.to (omega arith) (omega arith) alone L.invariant.4).0)
 
 loop_again : tie.Need-loop-i-preserved-then-hits-eq0 invariant_loop decreases_loop
 loop_again c =
-    let a = c.before.before.before.before.before.before.before.before.before.before.args in
-    let L = c.before.before.before.before.before.before.before.loop-i in
-    let alone = sym c.before.before.before.before.before.hits.ensures ∙ c.before.before.before.before.if-hits-eq0.true in
+    let at_if_hits_eq0 = c.before.before.before.before in
+    let at_hits = at_if_hits_eq0.before in
+    let at_loop_i = at_hits.before.before in
+    let at_start = at_loop_i.before.before.before in
+    let a = at_start.args in
+    let L = at_loop_i.loop-i in
+    let alone = sym at_hits.hits.ensures ∙ at_if_hits_eq0.if-hits-eq0.true in
     let stores = c.before.before.copy_behind-o in
     let t = (block a.how a.s.now L.i 64 a.to (omega arith) (omega arith) alone L.invariant.4).1 stores.result stores.new.buf stores.ensures in
     (omega arith, omega arith, omega arith, omega arith, t)
 
 edit_by_byte_requires : tie.Need-edit_by_byte-o-requires invariant_loop decreases_loop
 edit_by_byte_requires c κs =
-    let a = c.before.before.before.before.before.before.before.before.args in
-    let L = c.before.before.before.before.before.loop-i in
+    let at_loop_i = c.before.before.before.before.before in
+    let at_start = at_loop_i.before.before.before in
+    let a = at_start.args in
+    let L = at_loop_i.loop-i in
     let last = L.i + c.before.least.result in
-    (omega arith, ((piece a.how a.s.now L.i last a.to (omega arith) (omega arith) (omega arith) L.invariant.4).0, c.before.before.before.before.before.before.before.before.requires.1.1))
+    (omega arith, ((piece a.how a.s.now L.i last a.to (omega arith) (omega arith) (omega arith) L.invariant.4).0, at_start.requires.1.1))
 
 loop_again_2 : tie.Need-loop-i-preserved invariant_loop decreases_loop
 loop_again_2 c =
-    let a = c.before.before.before.before.before.before.before.before.before.before.before.before.args in
-    let L = c.before.before.before.before.before.before.before.before.before.loop-i in
-    let last = L.i + c.before.before.before.before.before.least.result in
-    let stores = c.before.before.before.edit_by_byte-o in
+    let at_edit_by_byte_o = c.before.before.before in
+    let at_least = at_edit_by_byte_o.before.before in
+    let at_loop_i = at_least.before.before.before.before in
+    let at_start = at_loop_i.before.before.before in
+    let a = at_start.args in
+    let L = at_loop_i.loop-i in
+    let last = L.i + at_least.least.result in
+    let stores = at_edit_by_byte_o.edit_by_byte-o in
     let t = (piece a.how a.s.now L.i last a.to (omega arith) (omega arith) (omega arith) L.invariant.4).1 stores.result stores.new.buf stores.ensures in
     (omega arith, omega arith, omega arith, omega arith, t.1)
 
 edit_by_byte_requires_2 : tie.Need-edit_by_byte-requires invariant_loop decreases_loop
 edit_by_byte_requires_2 c κs =
-    (omega arith, (lies c.before.before.loop-i.invariant.4, c.before.before.before.before.before.requires.1.1))
+    let at_start = c.before.before.before.before.before in
+    (omega arith, (lies c.before.before.loop-i.invariant.4, at_start.requires.1.1))
 
 same_length : tie.Need-shape_of-buf invariant_loop decreases_loop
 same_length c =
-    c.before.before.edit_by_byte.auto.buf ∙ c.before.before.before.before.before.loop-i.invariant.4.long
+    let at_loop_i = c.before.before.before.before.before in
+    c.before.before.edit_by_byte.auto.buf ∙ at_loop_i.loop-i.invariant.4.long
 
 returns : tie.Need-returns invariant_loop decreases_loop
 returns c =
-    c.before.before.edit_by_byte.ensures ∙ rest c.before.before.before.before.before.loop-i.invariant.4
+    let at_loop_i = c.before.before.before.before.before in
+    c.before.before.edit_by_byte.ensures ∙ rest at_loop_i.loop-i.invariant.4
 
 pub edit_after_spec : {M : Type 1} → statement M
 edit_after_spec =

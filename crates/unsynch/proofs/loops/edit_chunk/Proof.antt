@@ -12,14 +12,18 @@ use Rattle.unsynch.proofs.loops.edit_chunk.Tie as tie
 
 edit_after_requires : tie.Need-edit_after-requires
 edit_after_requires c κs =
-    let a = c.before.before.before.before.before.before.args in
-    let e = in_copy a.how a.area.now (replicate 1025 0) c.before.before.before.copy.new.buf a.from a.to (omega arith) (omega arith) (omega arith) c.before.before.before.copy.ensures in
-    (omega arith, (omega (arith, ap length e.1), c.before.before.before.before.before.before.requires.1.1))
+    let at_copy = c.before.before.before in
+    let at_start = at_copy.before.before.before in
+    let a = at_start.args in
+    let e = in_copy a.how a.area.now (replicate 1025 0) at_copy.copy.new.buf a.from a.to (omega arith) (omega arith) (omega arith) at_copy.copy.ensures in
+    (omega arith, (omega (arith, ap length e.1), at_start.requires.1.1))
 
 returns : tie.Need-returns
 returns c =
-    let a = c.before.before.before.before.before.before.before.before.before.args in
-    let e = in_copy a.how a.area.now (replicate 1025 0) c.before.before.before.before.before.before.copy.new.buf a.from a.to (omega arith) (omega arith) (omega arith) c.before.before.before.before.before.before.copy.ensures in
+    let at_copy = c.before.before.before.before.before.before in
+    let at_start = at_copy.before.before.before in
+    let a = at_start.args in
+    let e = in_copy a.how a.area.now (replicate 1025 0) at_copy.copy.new.buf a.from a.to (omega arith) (omega arith) (omega arith) at_copy.copy.ensures in
     c.before.before.edit_after.ensures ∙ ap (λ (l : List ℕ). stored l a.at a.area.now) e.1
 
 pub edit_chunk_spec : {M : Type 1} → statement M

@@ -20,21 +20,23 @@ slice_write_area c =
 
 edit_in_after_requires : tie.Need-edit_in_after-requires
 edit_in_after_requires c κs =
-    let a = c.before.before.before.args in
+    let at_start = c.before.before.before in
+    let a = at_start.args in
     let x = get_or a.area.now a.from 0 in
     let same = same_front a.how (set a.area.now a.at x) a.area.now a.from a.to a.at (omega arith) (omega arith) (simp length-set (omega arith)) (omega arith) (take-set-le a.at a.area.now a.at x (omega arith)) in
-    let first = first_stored a.how a.area.now a.from a.to a.at a.area.now (omega arith) (omega arith) c.before.before.before.requires.1.0 in
-    (omega arith, (rw same (lies first.1), c.before.before.before.requires.1.1))
+    let first = first_stored a.how a.area.now a.from a.to a.at a.area.now (omega arith) (omega arith) at_start.requires.1.0 in
+    (omega arith, (rw same (lies first.1), at_start.requires.1.1))
 
 same_length : tie.Need-shape_of-area
 same_length c = simp length-set at c.before.before.edit_in_after.auto.area
 
 returns : tie.Need-returns
 returns c =
-    let a = c.before.before.before.before.before.before.args in
+    let at_start = c.before.before.before.before.before.before in
+    let a = at_start.args in
     let x = get_or a.area.now a.from 0 in
     let same = same_front a.how (set a.area.now a.at x) a.area.now a.from a.to a.at (omega arith) (omega arith) (simp length-set (omega arith)) (omega arith) (take-set-le a.at a.area.now a.at x (omega arith)) in
-    let first = first_stored a.how a.area.now a.from a.to a.at a.area.now (omega arith) (omega arith) c.before.before.before.before.before.before.requires.1.0 in
+    let first = first_stored a.how a.area.now a.from a.to a.at a.area.now (omega arith) (omega arith) at_start.requires.1.0 in
     c.before.before.edit_in_after.ensures
     ∙ ap (λ (l : List ℕ). stored l (a.at + 1) (set a.area.now a.at x)) same
     ∙ rest first.1

@@ -24,15 +24,20 @@ loop_holds c = (omega arith, omega arith, omega arith, refl, begin _ _ _ (omega 
 
 edit_chunk_requires : tie.Need-edit_chunk-o-requires invariant_loop decreases_loop
 edit_chunk_requires c κs =
-    let a = c.before.before.before.before.before.args in
-    let L = c.before.before.before.loop-i in
-    (omega (arith, L.invariant.4.long), ((piece_in a.how a.area.now L.i (L.i + c.before.least.result) a.to (omega arith) (omega arith) (omega arith) a.at (omega arith) (omega arith) L.invariant.2 L.invariant.4.long L.invariant.3 L.invariant.4).0, c.before.before.before.before.before.requires.1.1))
+    let at_loop_i = c.before.before.before in
+    let at_start = at_loop_i.before.before in
+    let a = at_start.args in
+    let L = at_loop_i.loop-i in
+    (omega (arith, L.invariant.4.long), ((piece_in a.how a.area.now L.i (L.i + c.before.least.result) a.to (omega arith) (omega arith) (omega arith) a.at (omega arith) (omega arith) L.invariant.2 L.invariant.4.long L.invariant.3 L.invariant.4).0, at_start.requires.1.1))
 
 loop_again : tie.Need-loop-i-preserved invariant_loop decreases_loop
 loop_again c =
-    let a = c.before.before.before.before.before.before.before.before.args in
-    let L = c.before.before.before.before.before.before.loop-i in
-    let t = (piece_in a.how a.area.now L.i (L.i + c.before.before.before.before.least.result) a.to (omega arith) (omega arith) (omega arith) a.at (omega arith) (omega arith) L.invariant.2 L.invariant.4.long L.invariant.3 L.invariant.4).1 c.before.before.edit_chunk-o.result c.before.before.edit_chunk-o.new.area c.before.before.edit_chunk-o.ensures in
+    let at_least = c.before.before.before.before in
+    let at_loop_i = at_least.before.before in
+    let at_start = at_loop_i.before.before in
+    let a = at_start.args in
+    let L = at_loop_i.loop-i in
+    let t = (piece_in a.how a.area.now L.i (L.i + at_least.least.result) a.to (omega arith) (omega arith) (omega arith) a.at (omega arith) (omega arith) L.invariant.2 L.invariant.4.long L.invariant.3 L.invariant.4).1 c.before.before.edit_chunk-o.result c.before.before.edit_chunk-o.new.area c.before.before.edit_chunk-o.ensures in
     (omega arith, omega arith, omega arith, t.1, t.2)
 
 same_length : tie.Need-shape_of-area invariant_loop decreases_loop
@@ -40,7 +45,8 @@ same_length c = c.before.loop-i.invariant.4.long
 
 returns : tie.Need-returns invariant_loop decreases_loop
 returns c =
-    let a = c.before.before.before.args in
+    let at_start = c.before.before.before in
+    let a = at_start.args in
     let L = c.before.loop-i in
     done (edited_end a.how a.area.now L.i a.to (omega arith)) L.invariant.4
 

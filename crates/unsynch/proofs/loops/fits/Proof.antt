@@ -19,16 +19,18 @@ most_requires c κs = omega (arith, c.before.well_formed)
 
 returns : tie.Need-returns-then-most-room
 returns c =
-    let a = c.before.before.before.args in
+    let at_start = c.before.before.before in
+    let a = at_start.args in
     let part = slice a.from a.to a.s.now in
     let long = length-slice a.from a.to a.s.now (omega arith) in
     let most : length (edited a.how false part) ≤ a.room =
-    omega (arith, length_most a.how c.before.before.before.requires.1 part, ap (λ (n : ℕ). pick (a.how.insert && a.how.zero) (n + n) n) long) in
+    omega (arith, length_most a.how at_start.requires.1 part, ap (λ (n : ℕ). pick (a.how.insert && a.how.zero) (n + n) n) long) in
     sym (le-leb _ _ most)
 
 returns_2 : tie.Need-returns
 returns_2 c =
-    ap (λ (n : ℕ). leb n c.before.before.before.before.args.room) c.edited_len.ensures
+    let at_start = c.before.before.before.before in
+    ap (λ (n : ℕ). leb n at_start.args.room) c.edited_len.ensures
 
 pub fits_spec : {M : Type 1} → statement M
 fits_spec = tie.close (tie.spec (λ c. search rules) most_requires returns (λ c κs. omega arith) returns_2)

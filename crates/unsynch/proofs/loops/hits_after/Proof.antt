@@ -15,13 +15,15 @@ decreases_loop s from to how n₀ i₀ n i = to - i
 
 add_n : tie.Need-overflow_add-n invariant_loop decreases_loop
 add_n c =
-    let a = c.before.before.before.before.args in
+    let at_start = c.before.before.before.before in
+    let a = at_start.args in
     let L = c.before.before.loop-i in
     omega (arith, few_after a.how a.s.now L.i (L.i + 64 + 1) (omega arith) (omega arith))
 
 loop_again : tie.Need-loop-i-preserved invariant_loop decreases_loop
 loop_again c =
-    let a = c.before.before.before.before.args in
+    let at_start = c.before.before.before.before in
+    let a = at_start.args in
     let L = c.before.before.loop-i in
     let few = few_after a.how a.s.now L.i (L.i + 64 + 1) (omega arith) (omega arith) in
     let both = hits_parted a.how a.s.now 64 L.i (L.i + 64) a.to (omega arith) (omega arith) (omega arith) in
@@ -29,7 +31,8 @@ loop_again c =
 
 add_result : tie.Need-overflow_add-result invariant_loop decreases_loop
 add_result c =
-    let a = c.before.before.before.before.args in
+    let at_start = c.before.before.before.before in
+    let a = at_start.args in
     let L = c.before.before.loop-i in
     omega (arith, few_after a.how a.s.now L.i a.to (omega arith) (omega arith))
 

@@ -16,13 +16,16 @@ decreases_loop s from to how n₀ k₀ n k = to - k
 
 loop_again : tie.Need-loop-k-preserved invariant_loop decreases_loop
 loop_again c =
-    let a = c.before.before.before.before.before.before.before.args in
-    let L = c.before.before.before.before.before.loop-k in
+    let at_loop_k = c.before.before.before.before.before in
+    let at_start = at_loop_k.before.before in
+    let a = at_start.args in
+    let L = at_loop_k.loop-k in
     omega (arith, counts a.how a.s.now L.k a.to (omega arith) (omega arith) c.before.hit.result c.before.hit.ensures)
 
 returns : tie.Need-returns invariant_loop decreases_loop
 returns c =
-    let a = c.before.before.before.args in
+    let at_start = c.before.before.before in
+    let a = at_start.args in
     let L = c.before.loop-k in
     omega (arith, hits_end a.how a.s.now L.k a.to (omega arith))
 

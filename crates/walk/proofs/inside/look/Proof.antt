@@ -33,36 +33,40 @@ returns c = rw c.before.in-Text.is c.text.ensures
 -- src/inside.rt:62:1
 returns_2 : tie.Need-returns-in-Popularimeter
 returns_2 c =
-    let a = c.before.before.before.before.args in
+    let at_start = c.before.before.before.before in
+    let a = at_start.args in
     let b = slice a.from a.to a.s.now in
-    let l = length-slice a.from a.to a.s.now c.before.before.before.before.requires.1 in
+    let l = length-slice a.from a.to a.s.now at_start.requires.1 in
     let ends : a.from + length b ≡ a.to = omega arith in
     c.after.ensures ∙ after_as Id3v24 a.from a.to b ends a.kind Kind.Popularimeter c.before.parse.result c.before.before.in-Popularimeter.is (c.before.parse.ensures Id3v24)
 
 -- src/inside.rt:62:1
 returns_3 : tie.Need-returns-in-Table
 returns_3 c =
-    let a = c.before.before.before.before.args in
+    let at_start = c.before.before.before.before in
+    let a = at_start.args in
     let b = slice a.from a.to a.s.now in
-    let l = length-slice a.from a.to a.s.now c.before.before.before.before.requires.1 in
+    let l = length-slice a.from a.to a.s.now at_start.requires.1 in
     let ends : a.from + length b ≡ a.to = omega arith in
     c.after-in-Table.ensures ∙ after_as Id3v24 a.from a.to b ends a.kind Kind.Table c.before.parse-in-Table.result c.before.before.in-Table.is (c.before.parse-in-Table.ensures Id3v24)
 
 -- src/inside.rt:62:1
 returns_4 : tie.Need-returns-in-Chapter
 returns_4 c =
-    let a = c.before.before.before.before.args in
+    let at_start = c.before.before.before.before in
+    let a = at_start.args in
     let b = slice a.from a.to a.s.now in
-    let l = length-slice a.from a.to a.s.now c.before.before.before.before.requires.1 in
+    let l = length-slice a.from a.to a.s.now at_start.requires.1 in
     let ends : a.from + length b ≡ a.to = omega arith in
     c.after-in-Chapter.ensures ∙ after_as Id3v24 a.from a.to b ends a.kind Kind.Chapter c.before.parse_chapter.result c.before.before.in-Chapter.is (c.before.parse_chapter.ensures Id3v24)
 
 -- src/inside.rt:62:1
 returns_5 : tie.Need-returns-in-Contents
 returns_5 c =
-    let a = c.before.before.before.before.args in
+    let at_start = c.before.before.before.before in
+    let a = at_start.args in
     let b = slice a.from a.to a.s.now in
-    let l = length-slice a.from a.to a.s.now c.before.before.before.before.requires.1 in
+    let l = length-slice a.from a.to a.s.now at_start.requires.1 in
     let ends : a.from + length b ≡ a.to = omega arith in
     c.after-in-Contents.ensures ∙ after_as Id3v24 a.from a.to b ends a.kind Kind.Contents c.before.parse_contents.result c.before.before.in-Contents.is (c.before.parse_contents.ensures Id3v24)
 

@@ -23,19 +23,21 @@ returns c =
 -- src/inside.rt:56:9
 returns_2 : tie.Need-returns-then-s-from-gt3
 returns_2 c =
-    let a = c.before.before.before.args in
+    let at_start = c.before.before.before in
+    let a = at_start.args in
     let b = slice a.from a.to a.s.now in
-    let l : length b ≡ a.to - a.from = length-slice a.from a.to a.s.now c.before.before.before.requires.1 in
-    let f = first_byte a.from a.to a.s.now c.before.before.if-to-from.false c.before.before.before.requires.1 in
+    let l : length b ≡ a.to - a.from = length-slice a.from a.to a.s.now at_start.requires.1 in
+    let f = first_byte a.from a.to a.s.now c.before.before.if-to-from.false at_start.requires.1 in
     refused_inside Kind.Text a.from b 11 (text_unknown b (λ z. omega arith) (omega arith))
 
 -- src/inside.rt:48:1
 returns_3 : tie.Need-returns
 returns_3 c =
-    let a = c.before.before.before.args in
+    let at_start = c.before.before.before in
+    let a = at_start.args in
     let b = slice a.from a.to a.s.now in
-    let l : length b ≡ a.to - a.from = length-slice a.from a.to a.s.now c.before.before.before.requires.1 in
-    let f = first_byte a.from a.to a.s.now c.before.before.if-to-from.false c.before.before.before.requires.1 in
+    let l : length b ≡ a.to - a.from = length-slice a.from a.to a.s.now at_start.requires.1 in
+    let f = first_byte a.from a.to a.s.now c.before.before.if-to-from.false at_start.requires.1 in
     let ends : a.from + length b ≡ a.to = omega arith in
     runs_inside Kind.Text a.from b a.to (text_known b (λ z. omega arith) (omega arith)) (text_runs a.from a.to b ends)
 

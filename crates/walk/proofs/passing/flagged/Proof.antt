@@ -14,15 +14,19 @@ use Rattle.walk.proofs.passing.flagged.Tie as tie
 
 returns : tie.Need-returns-in-Refused
 returns c =
-    let a = c.before.before.before.before.before.before.before.args in
-    let R = c.before.before.before.resync_into in
+    let at_resync_into = c.before.before.before in
+    let at_start = at_resync_into.before.before.before.before in
+    let a = at_start.args in
+    let R = at_resync_into.resync_into in
     let e = ap {B = Put × List ℕ} (λ (x : Put). (x, R.new.room)) (sym c.in-Refused.is) ∙ R.ensures in
     λ v id place from len. front_refused v (record_of id a.short false place true from len) a.next (resynchronised (slice a.first a.next a.s.now)) a.room.now R.new.room e
 
 returns_2 : tie.Need-returns-in-Bytes
 returns_2 c =
-    let a = c.before.before.before.before.before.before.before.before.before.args in
-    let R = c.before.before.before.before.before.resync_into in
+    let at_resync_into = c.before.before.before.before.before in
+    let at_start = at_resync_into.before.before.before.before in
+    let a = at_start.args in
+    let R = at_resync_into.resync_into in
     let e = ap {B = Put × List ℕ} (λ (x : Put). (x, R.new.room)) (sym c.before.before.in-Bytes.is) ∙ R.ensures in
     λ v id place from len. front_read v (record_of id a.short false place true from len) a.next (resynchronised (slice a.first a.next a.s.now)) a.room.now R.new.room e
     (c.before.parse.ensures v) (c.read_as.ensures v id place from len)

@@ -25,25 +25,40 @@ found d =
 
 add_first : tie.Need-overflow_add-first
 add_first c =
-    omega (arith, (found c).within, c.before.before.before.before.ranges)
+    let at_start = c.before.before.before.before in
+    omega (arith, (found c).within, at_start.ranges)
 
 add_next : tie.Need-overflow_add-next
 add_next c =
-    omega (arith, (found c).within, c.before.before.before.before.ranges)
+    let at_start = c.before.before.before.before in
+    omega (arith, (found c).within, at_start.ranges)
 
 returns : tie.Need-returns-then-resynced
 returns c =
-    let a = c.before.before.before.before.before.before.before.before.before.before.before.before.before.args in
-    let b = slice (a.at + c.before.before.before.before.before.before.before.before.before.in-Found.start) (a.at + c.before.before.before.before.before.before.before.before.before.in-Found.start + c.before.before.before.before.before.before.before.before.before.in-Found.len) a.s.now in
-    λ begin. pass_front a.version a.in_work begin a.at a.end a.s.now a.room.now (found c.before.before.before.before.before.before.before.before.before) _ _ c.before.before.before.before.before.before.before.before.shown_kind-kind.ensures c.before.before.before.before.before.before.before.is_resynced-resynced.ensures (sym c.before.before.before.before.before.before.is_popularimeter.ensures ∙ c.before.before.before.before.before.if-is_popularimeter.true) c.before.before.before.before.if-resynced.true
-    (c.before.before.flagged.ensures a.version c.before.before.before.before.before.before.before.before.before.in-Found.id (a.at - begin) 0 (length (resynchronised b)))
+    let at_if_resynced = c.before.before.before.before in
+    let at_if_is_popularimeter = at_if_resynced.before in
+    let at_is_popularimeter = at_if_is_popularimeter.before in
+    let at_is_resynced_resynced = at_is_popularimeter.before in
+    let at_shown_kind_kind = at_is_resynced_resynced.before in
+    let at_in_Found = at_shown_kind_kind.before in
+    let at_start = at_in_Found.before.before.before.before in
+    let a = at_start.args in
+    let b = slice (a.at + at_in_Found.in-Found.start) (a.at + at_in_Found.in-Found.start + at_in_Found.in-Found.len) a.s.now in
+    λ begin. pass_front a.version a.in_work begin a.at a.end a.s.now a.room.now (found at_in_Found) _ _ at_shown_kind_kind.shown_kind-kind.ensures at_is_resynced_resynced.is_resynced-resynced.ensures (sym at_is_popularimeter.is_popularimeter.ensures ∙ at_if_is_popularimeter.if-is_popularimeter.true) at_if_resynced.if-resynced.true
+    (c.before.before.flagged.ensures a.version at_in_Found.in-Found.id (a.at - begin) 0 (length (resynchronised b)))
 
 returns_2 : tie.Need-returns-then-is_popularimeter
 returns_2 c =
-    let a = c.before.before.before.before.before.before.before.before.before.before.before.args in
-    let b = slice (a.at + c.before.before.before.before.before.before.before.in-Found.start) (a.at + c.before.before.before.before.before.before.before.in-Found.start + c.before.before.before.before.before.before.before.in-Found.len) a.s.now in
-    λ begin. pass_meter a.version a.in_work begin a.at a.end a.s.now a.room.now (found c.before.before.before.before.before.before.before) _ _ c.before.before.before.before.before.before.shown_kind-kind.ensures c.before.before.before.before.before.is_resynced-resynced.ensures (sym c.before.before.before.before.is_popularimeter.ensures ∙ c.before.before.before.if-is_popularimeter.true) c.before.before.if-resynced.false
-    (c.before.parse.ensures a.version) (c.read_as.ensures a.version c.before.before.before.before.before.before.before.in-Found.id (a.at - begin) (a.at + c.before.before.before.before.before.before.before.in-Found.start) (length b))
+    let at_if_is_popularimeter = c.before.before.before in
+    let at_is_popularimeter = at_if_is_popularimeter.before in
+    let at_is_resynced_resynced = at_is_popularimeter.before in
+    let at_shown_kind_kind = at_is_resynced_resynced.before in
+    let at_in_Found = at_shown_kind_kind.before in
+    let at_start = at_in_Found.before.before.before.before in
+    let a = at_start.args in
+    let b = slice (a.at + at_in_Found.in-Found.start) (a.at + at_in_Found.in-Found.start + at_in_Found.in-Found.len) a.s.now in
+    λ begin. pass_meter a.version a.in_work begin a.at a.end a.s.now a.room.now (found at_in_Found) _ _ at_shown_kind_kind.shown_kind-kind.ensures at_is_resynced_resynced.is_resynced-resynced.ensures (sym at_is_popularimeter.is_popularimeter.ensures ∙ at_if_is_popularimeter.if-is_popularimeter.true) c.before.before.if-resynced.false
+    (c.before.parse.ensures a.version) (c.read_as.ensures a.version at_in_Found.in-Found.id (a.at - begin) (a.at + at_in_Found.in-Found.start) (length b))
 
 body_requires : tie.Need-body-r-requires
 body_requires c κs =
@@ -51,24 +66,37 @@ body_requires c κs =
 
 returns_3 : tie.Need-returns-then-r-ne0
 returns_3 c =
-    let a = c.before.before.before.before.before.before.before.before.before.before.before.before.before.args in
-    λ begin. pass_body_refused a.version a.in_work begin a.at a.end a.s.now a.room.now (found c.before.before.before.before.before.before.before.before.before) _ _ c.before.before.before.before.before.before.before.before.shown_kind-kind.ensures c.before.before.before.before.before.before.before.is_resynced-resynced.ensures c.before.before.before.body-r.ensures c.if-r-ne0.true
+    let at_body_r = c.before.before.before in
+    let at_is_resynced_resynced = at_body_r.before.before.before.before in
+    let at_shown_kind_kind = at_is_resynced_resynced.before in
+    let at_start = at_shown_kind_kind.before.before.before.before.before in
+    let a = at_start.args in
+    λ begin. pass_body_refused a.version a.in_work begin a.at a.end a.s.now a.room.now (found c.before.before.before.before.before.before.before.before.before) _ _ at_shown_kind_kind.shown_kind-kind.ensures at_is_resynced_resynced.is_resynced-resynced.ensures at_body_r.body-r.ensures c.if-r-ne0.true
 
 returns_4 : tie.Need-returns-in-Nothing
 returns_4 c =
-    let a = c.before.before.before.before.args in
+    let at_start = c.before.before.before.before in
+    let a = at_start.args in
     λ begin. pass_nothing a.version a.in_work begin a.at (slice a.at a.end a.s.now) a.room.now (sym c.in-Nothing.is ∙ c.before.decode.ensures)
 
 returns_5 : tie.Need-returns-in-Refused
 returns_5 c =
-    let a = c.before.before.before.before.args in
+    let at_start = c.before.before.before.before in
+    let a = at_start.args in
     λ begin. pass_refused a.version a.in_work begin a.at (slice a.at a.end a.s.now) a.room.now (sym c.in-Refused.is ∙ c.before.decode.ensures)
 
 returns_6 : tie.Need-returns-else-r-ne0
 returns_6 c =
-    let a = c.before.before.before.before.before.before.before.before.before.before.before.before.before.before.before.args in
-    let packed = ap (λ (x : Bool). c.before.before.before.before.before.before.before.before.before.before.before.in-Found.compressed && x) (c.is_popularimeter-in-Found.ensures ∙ ap (λ (k : Kind). eqb (kind_number k) 1) c.before.kind_of.ensures) in
-    λ begin. pass_over a.version a.in_work begin a.at a.end a.s.now a.room.now (found c.before.before.before.before.before.before.before.before.before.before.before) _ _ c.before.before.before.before.before.before.before.before.before.before.shown_kind-kind.ensures c.before.before.before.before.before.before.before.before.before.is_resynced-resynced.ensures c.before.before.before.before.before.body-r.ensures c.before.before.if-r-ne0.false (sym c.before.before.before.before.before.before.before.before.is_popularimeter.ensures ∙ c.before.before.before.before.before.before.before.if-is_popularimeter.false) _ packed
+    let at_body_r = c.before.before.before.before.before in
+    let at_if_is_popularimeter = at_body_r.before.before in
+    let at_is_popularimeter = at_if_is_popularimeter.before in
+    let at_is_resynced_resynced = at_is_popularimeter.before in
+    let at_shown_kind_kind = at_is_resynced_resynced.before in
+    let at_in_Found = at_shown_kind_kind.before in
+    let at_start = at_in_Found.before.before.before.before in
+    let a = at_start.args in
+    let packed = ap (λ (x : Bool). at_in_Found.in-Found.compressed && x) (c.is_popularimeter-in-Found.ensures ∙ ap (λ (k : Kind). eqb (kind_number k) 1) c.before.kind_of.ensures) in
+    λ begin. pass_over a.version a.in_work begin a.at a.end a.s.now a.room.now (found at_in_Found) _ _ at_shown_kind_kind.shown_kind-kind.ensures at_is_resynced_resynced.is_resynced-resynced.ensures at_body_r.body-r.ensures c.before.before.if-r-ne0.false (sym at_is_popularimeter.is_popularimeter.ensures ∙ at_if_is_popularimeter.if-is_popularimeter.false) _ packed
 
 pub pass_in_spec : {M : Type 1} → statement M
 pass_in_spec =

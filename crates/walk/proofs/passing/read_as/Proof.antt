@@ -16,13 +16,17 @@ returns_2 c =
 
 returns_3 : tie.Need-returns-in-Popularimeter
 returns_3 c =
-    let a = c.before.before.before.before.args in
-    λ v id place from len. read_whole v id a.short place a.in_work from len a.next c.before.before.before.in-Parts.is c.before.before.if-short.false c.in-Popularimeter.is
+    let at_in_Parts = c.before.before.before in
+    let at_start = at_in_Parts.before in
+    let a = at_start.args in
+    λ v id place from len. read_whole v id a.short place a.in_work from len a.next at_in_Parts.in-Parts.is c.before.before.if-short.false c.in-Popularimeter.is
 
 returns_4 : tie.Need-returns-in_default
 returns_4 c =
-    let a = c.before.before.before.before.args in
-    λ v id place from len. read_other v id a.short place a.in_work from len a.next c.before.before.before.in-Parts.is c.in_default.in_default-own.keys2
+    let at_in_Parts = c.before.before.before in
+    let at_start = at_in_Parts.before in
+    let a = at_start.args in
+    λ v id place from len. read_other v id a.short place a.in_work from len a.next at_in_Parts.in-Parts.is c.in_default.in_default-own.keys2
 
 pub read_as_spec : {M : Type 1} → statement M
 read_as_spec =

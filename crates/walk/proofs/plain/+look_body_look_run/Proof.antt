@@ -77,28 +77,32 @@ run_begins t c = sym c.in-Run.is ∙ c.before.look.ensures
 
 body_returns : (t : ℕ) → look-body-lts.Need-returns-then-to-at (body_calls t) (look_body_at t) look-body.Post
 body_returns t c =
+    let at_start = c.before.before.before.before in
     let at_run = c.before in
-    let a = c.before.before.before.before.args in
+    let a = at_start.args in
     body_none a.version (a.depth + 1) a.kind a.from a.to a.s.now _ (run_begins t at_run) (omega (arith, c.if-to-at.true))
 
 body_look_run_requires : (t : ℕ) → look-body-lts.Need-look_run-requires (body_calls t) (look_body_at t) look-body.Post
 body_look_run_requires t c κs =
+    let at_start = c.before.before.before.before in
     let at_run = c.before in
-    let a = c.before.before.before.before.args in
+    let a = at_start.args in
     let at = c.before.in-Run.at in
-    let m : 2 * (a.to - a.from) + 1 ≡ t = c.before.before.before.before.requires.0 in
+    let m : 2 * (a.to - a.from) + 1 ≡ t = at_start.requires.0 in
     let less : 2 * (a.to - at) < t = omega (arith, run_from a.kind a.from a.to at a.s.now (run_begins t at_run)) in
     (less, omega arith)
 
 body_returns_2 : (t : ℕ) → look-body-lts.Need-returns-in-Refused (body_calls t) (look_body_at t) look-body.Post
 body_returns_2 t c =
-    let a = c.before.before.before.args in
+    let at_start = c.before.before.before in
+    let a = at_start.args in
     body_stopped a.version (a.depth + 1) a.kind a.from a.to a.s.now _ (sym c.in-Refused.is ∙ c.before.look.ensures)
 
 body_returns_3 : (t : ℕ) → look-body-lts.Need-returns-else-to-at (body_calls t) (look_body_at t) look-body.Post
 body_returns_3 t c =
+    let at_start = c.before.before.before.before.before in
     let at_run = c.before.before in
-    let a = c.before.before.before.before.before.args in
+    let a = at_start.args in
     c.look_run.ensures ∙ body_run a.version (a.depth + 1) a.kind a.from a.to a.s.now _ (run_begins t at_run)
 
 -- ---- a run
@@ -145,17 +149,22 @@ run_look_ahead_requires t c κs = c.loop-k.invariant.1
 
 run_returns : (t : ℕ) → look-run-lts.Need-returns-in-Stop (run_calls t) (look_run_at t) look-run.Post invariant_loop decreases_loop
 run_returns t c =
-    let a = c.before.before.before.before.before.args in
+    let at_least_end = c.before.before.before in
+    let at_start = at_least_end.before.before in
+    let a = at_start.args in
     let L = c.before.before.loop-k in
     let k = c.in-Stop.k in
-    let stops = look_stopped a.version a.depth L.at (slice L.at c.before.before.before.least-end.result a.s.now) k (sym c.in-Stop.is ∙ c.before.look_ahead.ensures) in
+    let stops = look_stopped a.version a.depth L.at (slice L.at at_least_end.least-end.result a.s.now) k (sym c.in-Stop.is ∙ c.before.look_ahead.ensures) in
     sym (both_stop (not L.odd) k) ∙ ap (both (plain_if (not L.odd))) (sym stops) ∙ L.invariant.3
 
 run_returns_2 : (t : ℕ) → look-run-lts.Need-returns-in-End (run_calls t) (look_run_at t) look-run.Post invariant_loop decreases_loop
 run_returns_2 t c =
-    let a = c.before.before.before.before.before.before.args in
-    let L = c.before.before.before.loop-k in
-    let ends = look_ended a.version a.depth L.at (slice L.at c.before.before.before.before.least-end.result a.s.now) c.before.before.before.before.before.before.requires.1 (sym c.before.in-End.is ∙ c.before.before.look_ahead.ensures) in
+    let at_loop_k = c.before.before.before in
+    let at_least_end = at_loop_k.before in
+    let at_start = at_least_end.before.before in
+    let a = at_start.args in
+    let L = at_loop_k.loop-k in
+    let ends = look_ended a.version a.depth L.at (slice L.at at_least_end.least-end.result a.s.now) at_start.requires.1 (sym c.before.in-End.is ∙ c.before.before.look_ahead.ensures) in
     c.ended.ensures ∙ sym (both_end (plain_if (not L.odd))) ∙ ap (both (plain_if (not L.odd))) (sym ends) ∙ L.invariant.3
 
 -- where the look goes on
@@ -163,37 +172,45 @@ run_goes : (t : ℕ) (c : look-run-lts.In-Body (run_calls t) (look_run_at t) loo
     → let a = c.before.before.before.before.before.args in
     Goes a.version a.depth c.before.before.loop-k.at c.before.before.before.least-end.result a.s.now c.in-Body.kind c.in-Body.itself c.in-Body.start c.in-Body.stop
 run_goes t c =
-    let a = c.before.before.before.before.before.args in
-    goes a.version a.depth c.before.before.loop-k.at c.before.before.before.least-end.result a.s.now c.before.before.loop-k.invariant.1 _ _ _ _
+    let at_least_end = c.before.before.before in
+    let at_start = at_least_end.before.before in
+    let a = at_start.args in
+    goes a.version a.depth c.before.before.loop-k.at at_least_end.least-end.result a.s.now c.before.before.loop-k.invariant.1 _ _ _ _
     (sym c.in-Body.is ∙ c.before.look_ahead.ensures)
 
 run_look_body_requires : (t : ℕ) → look-run-lts.Need-look_body-body-requires (run_calls t) (look_run_at t) look-run.Post invariant_loop decreases_loop
 run_look_body_requires t c κs =
+    let at_start = c.before.before.before.before.before in
     let at_kind = c in
-    let a = c.before.before.before.before.before.args in
+    let a = at_start.args in
     let L = c.before.before.loop-k in
     let on = run_goes t at_kind in
-    let m : 2 * (a.to - a.from) ≡ t = c.before.before.before.before.before.requires.0 in
+    let m : 2 * (a.to - a.from) ≡ t = at_start.requires.0 in
     let less : 2 * (c.in-Body.stop - c.in-Body.start) + 1 < t = omega (arith, on.begins, on.ordered, on.within, L.invariant) in
-    (less, (on.ordered, omega (arith, on.within, L.invariant), omega (arith, c.before.before.before.before.before.requires.1), on.shallow))
+    (less, (on.ordered, omega (arith, on.within, L.invariant), omega (arith, at_start.requires.1), on.shallow))
 
 -- the body's look and the turn after it, at a turn
 run_turned : (t : ℕ) (c : look-run-lts.After-turned (run_calls t) (look_run_at t) look-run.Post invariant_loop decreases_loop)
     → let a = c.before.before.before.before.before.before.before.args in
     c.turned.result ≡ turn_of c.before.before.before.before.loop-k.odd (inside_look (look_at a.version (a.depth + 1)) c.before.before.in-Body.kind (slice c.before.before.in-Body.start c.before.before.in-Body.stop a.s.now)) c.before.before.in-Body.itself
 run_turned t c =
-    c.turned.ensures ∙ ap (λ (x : Look). turn_of c.before.before.before.before.loop-k.odd x c.before.before.in-Body.itself) c.before.look_body-body.ensures
+    let at_loop_k = c.before.before.before.before in
+    c.turned.ensures ∙ ap (λ (x : Look). turn_of at_loop_k.loop-k.odd x c.before.before.in-Body.itself) c.before.look_body-body.ensures
 
 run_returns_3 : (t : ℕ) → look-run-lts.Need-returns-in-Stop-turned (run_calls t) (look_run_at t) look-run.Post invariant_loop decreases_loop
 run_returns_3 t c =
+    let at_in_Body = c.before.before.before in
+    let at_loop_k = at_in_Body.before.before in
+    let at_least_end = at_loop_k.before in
+    let at_start = at_least_end.before.before in
     let at_turned = c.before in
     let at_kind = at_turned.before.before in
-    let a = c.before.before.before.before.before.before.before.before.args in
-    let L = c.before.before.before.before.before.loop-k in
+    let a = at_start.args in
+    let L = at_loop_k.loop-k in
     let on = run_goes t at_kind in
-    let inside = inside_look (look_at a.version (a.depth + 1)) c.before.before.before.in-Body.kind (slice c.before.before.before.in-Body.start c.before.before.before.in-Body.stop a.s.now) in
-    let rest = look_at a.version a.depth (slice c.before.before.before.in-Body.stop c.before.before.before.before.before.before.least-end.result a.s.now) in
-    sym (turn_stop L.odd inside c.before.before.before.in-Body.itself _ rest (sym c.in-Stop-turned.is ∙ run_turned t at_turned))
+    let inside = inside_look (look_at a.version (a.depth + 1)) at_in_Body.in-Body.kind (slice at_in_Body.in-Body.start at_in_Body.in-Body.stop a.s.now) in
+    let rest = look_at a.version a.depth (slice at_in_Body.in-Body.stop at_least_end.least-end.result a.s.now) in
+    sym (turn_stop L.odd inside at_in_Body.in-Body.itself _ rest (sym c.in-Stop-turned.is ∙ run_turned t at_turned))
     ∙ ap (both (plain_if (not L.odd))) (sym on.same) ∙ L.invariant.3
 
 run_loop_less : (t : ℕ) → look-run-lts.Need-loop-k-smaller (run_calls t) (look_run_at t) look-run.Post invariant_loop decreases_loop
@@ -204,17 +221,21 @@ run_loop_less t c =
 
 run_loop_again : (t : ℕ) → look-run-lts.Need-loop-k-preserved (run_calls t) (look_run_at t) look-run.Post invariant_loop decreases_loop
 run_loop_again t c =
+    let at_in_Body = c.before.before.before in
+    let at_loop_k = at_in_Body.before.before in
+    let at_least_end = at_loop_k.before in
+    let at_start = at_least_end.before.before in
     let at_turned = c.before in
     let at_kind = at_turned.before.before in
-    let a = c.before.before.before.before.before.before.before.before.args in
-    let L = c.before.before.before.before.before.loop-k in
+    let a = at_start.args in
+    let L = at_loop_k.loop-k in
     let on = run_goes t at_kind in
-    let inside = inside_look (look_at a.version (a.depth + 1)) c.before.before.before.in-Body.kind (slice c.before.before.before.in-Body.start c.before.before.before.in-Body.stop a.s.now) in
-    let rest = look_at a.version a.depth (slice c.before.before.before.in-Body.stop c.before.before.before.before.before.before.least-end.result a.s.now) in (
+    let inside = inside_look (look_at a.version (a.depth + 1)) at_in_Body.in-Body.kind (slice at_in_Body.in-Body.start at_in_Body.in-Body.stop a.s.now) in
+    let rest = look_at a.version a.depth (slice at_in_Body.in-Body.stop at_least_end.least-end.result a.s.now) in (
       omega (arith, on.begins, on.ordered, L.invariant.0),
       L.invariant.1,
       L.invariant.2,
-      sym (turn_on L.odd inside c.before.before.before.in-Body.itself _ rest (sym c.in-On.is ∙ run_turned t at_turned))
+      sym (turn_on L.odd inside at_in_Body.in-Body.itself _ rest (sym c.in-On.is ∙ run_turned t at_turned))
           ∙ ap (both (plain_if (not L.odd))) (sym on.same) ∙ L.invariant.3,
     )
 

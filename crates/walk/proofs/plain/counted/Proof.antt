@@ -11,12 +11,14 @@ returns c =
 
 returns_2 : tie.Need-returns-in-Popularimeter
 returns_2 c =
-    let a = c.before.before.before.args in
+    let at_start = c.before.before.before in
+    let a = at_start.args in
     counted_whole a.next a.odd c.before.before.in-Parts.is c.in-Popularimeter.is
 
 returns_3 : tie.Need-returns-in_default
 returns_3 c =
-    let a = c.before.before.before.args in
+    let at_start = c.before.before.before in
+    let a = at_start.args in
     counted_other a.next a.odd c.before.before.in-Parts.is c.in_default.in_default-own.keys2
 
 pub counted_spec : {M : Type 1} → statement M

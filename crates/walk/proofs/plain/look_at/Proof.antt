@@ -67,21 +67,24 @@ look_body_requires c κs =
 
 returns : tie.Need-returns-in-Stop
 returns c =
+    let at_start = c.before.before.before.before in
     let at_ahead = c.before in
-    let a = c.before.before.before.before.args in
+    let a = at_start.args in
     seen_stopped a.version a.at _ _ (here at_ahead c.in-Stop.is) ∙ ap (seen_of a.version a.at) (same_end at_ahead)
 
 returns_2 : tie.Need-returns-in-End
 returns_2 c =
+    let at_start = c.before.before.before.before in
     let at_ahead = c.before in
-    let a = c.before.before.before.before.args in
+    let a = at_start.args in
     seen_ended a.version a.at _ (here at_ahead c.in-End.is) ∙ ap (seen_of a.version a.at) (same_end at_ahead)
 
 returns_3 : tie.Need-returns-in-Popularimeter
 returns_3 c =
-    let at_kind = c.before.before.before in
+    let at_in_Body = c.before.before.before in
+    let at_kind = at_in_Body in
     let a = (met at_kind).args in
-    let odd = c.before.before.before.in-Body.odd in
+    let odd = at_in_Body.in-Body.odd in
     let b = slice (first at_kind) (next at_kind) a.s.now in
     c.counted.ensures
     ∙ ap (λ (p : Parsed). counted_as p (next at_kind) odd) (c.before.parse.ensures a.version)
@@ -91,9 +94,10 @@ returns_3 c =
 
 returns_4 : tie.Need-returns-in_default
 returns_4 c =
-    let at_kind = c.before.before.before in
+    let at_in_Body = c.before.before.before in
+    let at_kind = at_in_Body in
     let a = (met at_kind).args in
-    let odd = c.before.before.before.in-Body.odd in
+    let odd = at_in_Body.in-Body.odd in
     let b = slice (first at_kind) (next at_kind) a.s.now in
     c.passed.ensures
     ∙ ap (λ (x : Look). passed_as x (next at_kind) odd) c.before.look_body.ensures

@@ -10,22 +10,29 @@ use Rattle.walk.proofs.record.enter.Tie as tie
 
 shown_body_requires : tie.Need-shown_body-requires
 shown_body_requires c κs =
-    let a = c.before.before.before.before.before.before.before.before.args in
-    let e = ap {B = Lies × List ℕ} (λ (x : Lies). (x, c.before.before.before.before.ready.new.work)) (sym c.before.in-At.is) ∙ c.before.before.before.before.ready.ensures in
-    ready_within a.version a.kind a.from a.to a.tag.now a.work.now a.in_work a.resynced c.before.in-At.start c.before.in-At.stop c.before.before.before.before.ready.new.work e c.before.before.before.before.before.before.before.before.requires.0 c.before.before.before.before.before.before.before.before.requires.1
+    let at_ready = c.before.before.before.before in
+    let at_start = at_ready.before.before.before.before in
+    let a = at_start.args in
+    let e = ap {B = Lies × List ℕ} (λ (x : Lies). (x, at_ready.ready.new.work)) (sym c.before.in-At.is) ∙ at_ready.ready.ensures in
+    ready_within a.version a.kind a.from a.to a.tag.now a.work.now a.in_work a.resynced c.before.in-At.start c.before.in-At.stop at_ready.ready.new.work e at_start.requires.0 at_start.requires.1
 
 returns : tie.Need-returns-in-Refused
 returns c =
-    let a = c.before.before.before.before.before.before.before.args in
-    let e = ap {B = Lies × List ℕ} (λ (x : Lies). (x, c.before.before.before.ready.new.work)) (sym c.in-Refused.is) ∙ c.before.before.before.ready.ensures in
-    ready_refused a.version a.kind a.from a.to a.tag.now a.work.now a.in_work a.resynced c.in-Refused.k c.before.before.before.ready.new.work e
+    let at_ready = c.before.before.before in
+    let at_start = at_ready.before.before.before.before in
+    let a = at_start.args in
+    let e = ap {B = Lies × List ℕ} (λ (x : Lies). (x, at_ready.ready.new.work)) (sym c.in-Refused.is) ∙ at_ready.ready.ensures in
+    ready_refused a.version a.kind a.from a.to a.tag.now a.work.now a.in_work a.resynced c.in-Refused.k at_ready.ready.new.work e
 
 returns_2 : tie.Need-returns-in-At
 returns_2 c =
-    let a = c.before.before.before.before.before.before.before.before.before.before.before.args in
-    let e = ap {B = Lies × List ℕ} (λ (x : Lies). (x, c.before.before.before.before.before.before.before.ready.new.work)) (sym c.before.before.before.before.in-At.is) ∙ c.before.before.before.before.before.before.before.ready.ensures in
+    let at_in_At = c.before.before.before.before in
+    let at_ready = at_in_At.before.before.before in
+    let at_start = at_ready.before.before.before.before in
+    let a = at_start.args in
+    let e = ap {B = Lies × List ℕ} (λ (x : Lies). (x, at_ready.ready.new.work)) (sym at_in_At.in-At.is) ∙ at_ready.ready.ensures in
     c.before.before.shown_body.ensures
-    ∙ ready_shown a.version a.kind a.from a.to a.tag.now a.work.now a.in_work a.resynced c.before.before.before.before.in-At.start c.before.before.before.before.in-At.stop c.before.before.before.before.before.before.before.ready.new.work e
+    ∙ ready_shown a.version a.kind a.from a.to a.tag.now a.work.now a.in_work a.resynced at_in_At.in-At.start at_in_At.in-At.stop at_ready.ready.new.work e
 
 pub enter_spec : {M : Type 1} → statement M
 enter_spec =

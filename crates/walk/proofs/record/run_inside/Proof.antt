@@ -8,25 +8,34 @@ use Rattle.walk.proofs.record.run_inside.Tie as tie
 
 returns : tie.Need-returns-then-to-run
 returns c =
-    let a = c.before.before.before.args in
+    let at_start = c.before.before.before in
+    let a = at_start.args in
     run_none a.in_work a.resynced a.version a.run a.to a.tag.now a.work.now c.if-to-run.true
 
 returns_2 : tie.Need-returns-then-in_work
 returns_2 c =
-    let a = c.before.before.before.before.before.before.before.args in
-    run_in_work a.in_work a.resynced a.version a.run a.to a.tag.now a.work.now c.before.before.before.if-in_work.true
+    let at_if_in_work = c.before.before.before in
+    let at_start = at_if_in_work.before.before.before.before in
+    let a = at_start.args in
+    run_in_work a.in_work a.resynced a.version a.run a.to a.tag.now a.work.now at_if_in_work.if-in_work.true
     c.before.walk.result (ap (λ (o : Out). o.0) c.before.walk.ensures)
 
 returns_3 : tie.Need-returns-then-resynced
 returns_3 c =
-    let a = c.before.before.before.before.before.before.before.before.before.args in
-    run_behind a.in_work a.resynced a.version a.run a.to a.tag.now a.work.now c.before.before.before.before.before.if-in_work.false c.before.before.before.before.if-resynced.true
+    let at_if_resynced = c.before.before.before.before in
+    let at_if_in_work = at_if_resynced.before in
+    let at_start = at_if_in_work.before.before.before.before in
+    let a = at_start.args in
+    run_behind a.in_work a.resynced a.version a.run a.to a.tag.now a.work.now at_if_in_work.if-in_work.false at_if_resynced.if-resynced.true
     (c.before.before.walk_in.result, c.before.before.walk_in.new.area) c.before.before.walk_in.ensures
 
 returns_4 : tie.Need-returns
 returns_4 c =
-    let a = c.before.before.before.before.before.before.before.before.before.args in
-    run_apart a.in_work a.resynced a.version a.run a.to a.tag.now a.work.now c.before.before.before.before.before.if-in_work.false c.before.before.before.before.if-resynced.false
+    let at_if_resynced = c.before.before.before.before in
+    let at_if_in_work = at_if_resynced.before in
+    let at_start = at_if_in_work.before.before.before.before in
+    let a = at_start.args in
+    run_apart a.in_work a.resynced a.version a.run a.to a.tag.now a.work.now at_if_in_work.if-in_work.false at_if_resynced.if-resynced.false
     (c.before.before.walk-2.result, c.before.before.walk-2.new.room) c.before.before.walk-2.ensures
 
 pub run_inside_spec : {M : Type 1} → statement M

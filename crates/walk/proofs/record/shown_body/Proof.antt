@@ -28,21 +28,31 @@ within d =
 
 returns : tie.Need-returns-then-r-ne0
 returns c =
-    let k = within c.before.before.before in
-    shows_run _ _ _ _ _ _ _ _ _ k.0 k.2 _ (sym c.before.before.before.before.before.before.in-Parts.is ∙ c.before.before.before.before.before.before.before.parse.ensures) _ c.before.before.before.before.before.place-run.ensures _ _ c.before.before.before.run_inside-r.ensures c.if-r-ne0.true
+    let at_run_inside_r = c.before.before.before in
+    let at_place_run = at_run_inside_r.before.before in
+    let at_in_Parts = at_place_run.before in
+    let at_parse = at_in_Parts.before in
+    let k = within at_run_inside_r in
+    shows_run _ _ _ _ _ _ _ _ _ k.0 k.2 _ (sym at_in_Parts.in-Parts.is ∙ at_parse.parse.ensures) _ at_place_run.place-run.ensures _ _ at_run_inside_r.run_inside-r.ensures c.if-r-ne0.true
 
 returns_2 : tie.Need-returns-in-Refused
 returns_2 c =
-    let a = c.before.before.before.before.before.before.args in
+    let at_either = c.before.before.before in
+    let at_start = at_either.before.before.before in
+    let a = at_start.args in
     let S = c.before.before.source.result.now in
     let es : S ≡ source_of (a.in_work || a.resynced) a.work.now a.tag.now =
-    c.before.before.source.ensures ∙ ap (λ (x : Bool). source_of x a.work.now a.tag.now) c.before.before.before.either.ensures in
+    c.before.before.source.ensures ∙ ap (λ (x : Bool). source_of x a.work.now a.tag.now) at_either.either.ensures in
     shows_refused a.in_work a.resynced a.version a.kind a.from a.to a.tag.now a.work.now S es c.in-Refused.k (sym c.in-Refused.is ∙ c.before.parse.ensures)
 
 returns_3 : tie.Need-returns-else-r-ne0
 returns_3 c =
-    let k = within c.before.before.before in
-    shows_parts _ _ _ _ _ _ _ _ _ k.0 k.2 _ (sym c.before.before.before.before.before.before.in-Parts.is ∙ c.before.before.before.before.before.before.before.parse.ensures) _ c.before.before.before.before.before.place-run.ensures _ _ c.before.before.before.run_inside-r.ensures c.if-r-ne0.false _ (sym k.1)
+    let at_run_inside_r = c.before.before.before in
+    let at_place_run = at_run_inside_r.before.before in
+    let at_in_Parts = at_place_run.before in
+    let at_parse = at_in_Parts.before in
+    let k = within at_run_inside_r in
+    shows_parts _ _ _ _ _ _ _ _ _ k.0 k.2 _ (sym at_in_Parts.in-Parts.is ∙ at_parse.parse.ensures) _ at_place_run.place-run.ensures _ _ at_run_inside_r.run_inside-r.ensures c.if-r-ne0.false _ (sym k.1)
 
 pub shown_body_spec : {M : Type 1} → statement M
 shown_body_spec =

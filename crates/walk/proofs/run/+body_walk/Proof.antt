@@ -66,55 +66,66 @@ body_enum_known_k t c = search rules
 
 body_same_length : (t : ℕ) → body-lts.Need-shape_of-room-in-Refused (body_calls t) (body_at t) body.Post
 body_same_length t c =
-    c.before.before.before.resync_into.auto.room
+    let at_resync_into = c.before.before.before in
+    at_resync_into.resync_into.auto.room
 
 body_returns : (t : ℕ) → body-lts.Need-returns-in-Refused (body_calls t) (body_at t) body.Post
 body_returns t c =
-    let a = c.before.before.before.before.before.before.before.before.args in
+    let at_resync_into = c.before.before.before in
+    let at_if_resynced = at_resync_into.before.before in
+    let at_start = at_if_resynced.before.before.before in
+    let a = at_start.args in
     let b = slice a.from a.to a.s.now in
     let room = a.room.now in
     let go = walked a.strict a.version (a.depth + 1) in
     let u = resynchronised b in
-    let e0 : c.before.before.before.resync_into.result ≡ (into_of u room).0 = ap (λ (o : Put × List ℕ). o.0) c.before.before.before.resync_into.ensures in
-    let e1 : c.before.before.before.resync_into.new.room ≡ (into_of u room).1 = ap (λ (o : Put × List ℕ). o.1) c.before.before.before.resync_into.ensures in
+    let e0 : at_resync_into.resync_into.result ≡ (into_of u room).0 = ap (λ (o : Put × List ℕ). o.0) at_resync_into.resync_into.ensures in
+    let e1 : at_resync_into.resync_into.new.room ≡ (into_of u room).1 = ap (λ (o : Put × List ℕ). o.1) at_resync_into.resync_into.ensures in
     let k = c.in-Refused.k in
     ap {B = Out} (λ (z : List ℕ). (k, z)) e1
     ∙ sym (put_refused u room go a.kind k (sym e0 ∙ c.in-Refused.is))
-    ∙ as_resynced a.resynced go a.kind b room c.before.before.before.before.before.if-resynced.true
+    ∙ as_resynced a.resynced go a.kind b room at_if_resynced.if-resynced.true
 
 body_enum_known_n : (t : ℕ) → body-lts.Need-enum_known-n (body_calls t) (body_at t) body.Post
 body_enum_known_n t c = search rules
 
 body_shown_in_requires : (t : ℕ) → body-lts.Need-shown_in-requires (body_calls t) (body_at t) body.Post
 body_shown_in_requires t c κs =
-    let a = c.before.before.before.before.before.before.before.before.before.args in
+    let at_resync_into = c.before.before.before.before in
+    let at_start = at_resync_into.before.before.before.before.before in
+    let a = at_start.args in
     let b = slice a.from a.to a.s.now in
     let room = a.room.now in
     let u = resynchronised b in
-    let e0 : c.before.before.before.before.resync_into.result ≡ (into_of u room).0 = ap (λ (o : Put × List ℕ). o.0) c.before.before.before.before.resync_into.ensures in
-    let e1 : c.before.before.before.before.resync_into.new.room ≡ (into_of u room).1 = ap (λ (o : Put × List ℕ). o.1) c.before.before.before.before.resync_into.ensures in
+    let e0 : at_resync_into.resync_into.result ≡ (into_of u room).0 = ap (λ (o : Put × List ℕ). o.0) at_resync_into.resync_into.ensures in
+    let e1 : at_resync_into.resync_into.new.room ≡ (into_of u room).1 = ap (λ (o : Put × List ℕ). o.1) at_resync_into.resync_into.ensures in
     let f = put_bytes u room c.before.in-Bytes.n (sym e0 ∙ c.before.in-Bytes.is) in
-    (omega arith, omega arith, omega (arith, fitted_room f, ap length e1), c.before.before.before.before.before.before.before.before.before.requires.1.2)
+    (omega arith, omega arith, omega (arith, fitted_room f, ap length e1), at_start.requires.1.2)
 
 body_same_length_2 : (t : ℕ) → body-lts.Need-shape_of-room-in-Bytes (body_calls t) (body_at t) body.Post
 body_same_length_2 t c =
-    c.before.before.shown_in.auto.area ∙ c.before.before.before.before.before.before.before.resync_into.auto.room
+    let at_resync_into = c.before.before.before.before.before.before.before in
+    c.before.before.shown_in.auto.area ∙ at_resync_into.resync_into.auto.room
 
 body_returns_2 : (t : ℕ) → body-lts.Need-returns-in-Bytes (body_calls t) (body_at t) body.Post
 body_returns_2 t c =
-    let a = c.before.before.before.before.before.before.before.before.before.before.before.before.args in
+    let at_in_Bytes = c.before.before.before.before in
+    let at_resync_into = at_in_Bytes.before.before.before in
+    let at_if_resynced = at_resync_into.before.before in
+    let at_start = at_if_resynced.before.before.before in
+    let a = at_start.args in
     let b = slice a.from a.to a.s.now in
     let room = a.room.now in
     let go = walked a.strict a.version (a.depth + 1) in
     let u = resynchronised b in
-    let e0 : c.before.before.before.before.before.before.before.resync_into.result ≡ (into_of u room).0 = ap (λ (o : Put × List ℕ). o.0) c.before.before.before.before.before.before.before.resync_into.ensures in
-    let e1 : c.before.before.before.before.before.before.before.resync_into.new.room ≡ (into_of u room).1 = ap (λ (o : Put × List ℕ). o.1) c.before.before.before.before.before.before.before.resync_into.ensures in
-    let n = c.before.before.before.before.in-Bytes.n in
-    let f = put_bytes u room n (sym e0 ∙ c.before.before.before.before.in-Bytes.is) in
+    let e0 : at_resync_into.resync_into.result ≡ (into_of u room).0 = ap (λ (o : Put × List ℕ). o.0) at_resync_into.resync_into.ensures in
+    let e1 : at_resync_into.resync_into.new.room ≡ (into_of u room).1 = ap (λ (o : Put × List ℕ). o.1) at_resync_into.resync_into.ensures in
+    let n = at_in_Bytes.in-Bytes.n in
+    let f = put_bytes u room n (sym e0 ∙ at_in_Bytes.in-Bytes.is) in
     c.before.before.shown_in.ensures
     ∙ ap (λ (p : List ℕ). inside_in go a.kind (slice 0 n p) n p) e1
     ∙ put_inside u room go a.kind n (into_of u room).1 f
-    ∙ as_resynced a.resynced go a.kind b room c.before.before.before.before.before.before.before.before.before.if-resynced.true
+    ∙ as_resynced a.resynced go a.kind b room at_if_resynced.if-resynced.true
 
 body_look_requires : (t : ℕ) → body-lts.Need-look-requires (body_calls t) (body_at t) body.Post
 body_look_requires t c κs = omega arith
@@ -130,17 +141,19 @@ body_add_walk t c = omega arith
 
 body_walk_requires : (t : ℕ) → body-lts.Need-walk-requires (body_calls t) (body_at t) body.Post
 body_walk_requires t c κs =
-    let a = c.before.before.before.before.before.before.args in
+    let at_start = c.before.before.before.before.before.before in
+    let a = at_start.args in
     let b = slice a.from a.to a.s.now in
     let at = c.before.in-Run.at in
     let e : Inside.Run at ≡ inside_at a.kind a.from b = sym c.before.in-Run.is ∙ c.before.before.look.ensures in
-    let m : 2 * (a.to - a.from) + 1 ≡ t = c.before.before.before.before.before.before.requires.0 in
+    let m : 2 * (a.to - a.from) + 1 ≡ t = at_start.requires.0 in
     let less : 2 * (a.to - at) < t = omega (arith, run_from a.kind a.from a.to at a.s.now e) in
     (less, tt)
 
 body_returns_3 : (t : ℕ) → body-lts.Need-returns-in-Refused-look (body_calls t) (body_at t) body.Post
 body_returns_3 t c =
-    let a = c.before.before.before.before.before.args in
+    let at_start = c.before.before.before.before.before in
+    let a = at_start.args in
     let b = slice a.from a.to a.s.now in
     let room = a.room.now in
     let go = walked a.strict a.version (a.depth + 1) in
@@ -153,15 +166,19 @@ body_same_length_3 t c = c.before.before.walk.auto.room
 
 body_returns_4 : (t : ℕ) → body-lts.Need-returns-in-Run (body_calls t) (body_at t) body.Post
 body_returns_4 t c =
-    let a = c.before.before.before.before.before.before.before.before.before.args in
+    let at_in_Run = c.before.before.before.before in
+    let at_look = at_in_Run.before in
+    let at_if_resynced = at_look.before in
+    let at_start = at_if_resynced.before.before.before in
+    let a = at_start.args in
     let b = slice a.from a.to a.s.now in
     let room = a.room.now in
     let go = walked a.strict a.version (a.depth + 1) in
-    let at = c.before.before.before.before.in-Run.at in
-    let e : Inside.Run at ≡ inside_at a.kind a.from b = sym c.before.before.before.before.in-Run.is ∙ c.before.before.before.before.before.look.ensures in
+    let at = at_in_Run.in-Run.at in
+    let e : Inside.Run at ≡ inside_at a.kind a.from b = sym at_in_Run.in-Run.is ∙ at_look.look.ensures in
     c.before.before.walk.ensures
     ∙ sym (run_walked a.kind a.from a.to at a.s.now e go room)
-    ∙ as_stored a.resynced go a.kind b room c.before.before.before.before.before.before.if-resynced.false
+    ∙ as_stored a.resynced go a.kind b room at_if_resynced.if-resynced.false
 
 abbrev walk_Inv_loop : walk-lts.invariant-loop-k
 walk_Inv_loop room₀ s from to version strict depth end at₀ room at =
@@ -176,7 +193,8 @@ walk_least_requires t c κs = search rules
 
 walk_loop_holds : (t : ℕ) → walk-lts.Need-loop-k-init (walk_calls t) (walk_at t) walk.Post walk_Inv_loop walk-μ-loop
 walk_loop_holds t c =
-    let a = c.before.before.before.args in
+    let at_start = c.before.before.before in
+    let a = at_start.args in
     let same = slice_cut a.from a.to c.least-end.result a.s.now c.least-end.ensures in
     (omega arith, omega arith, omega arith, refl, ap (λ (x : List ℕ). walked a.strict a.version a.depth x a.room.now) same)
 
@@ -192,9 +210,11 @@ walk_same_length t c =
 
 walk_returns : (t : ℕ) → walk-lts.Need-returns-in-Stop (walk_calls t) (walk_at t) walk.Post walk_Inv_loop walk-μ-loop
 walk_returns t c =
-    let a = c.before.before.before.before.before.before.args in
+    let at_least_end = c.before.before.before in
+    let at_start = at_least_end.before.before.before in
+    let a = at_start.args in
     let L = c.before.before.loop-k in
-    sym (stopped a.strict a.version a.depth L.at c.before.before.before.least-end.result a.s.now c.in-Stop.k (sym c.in-Stop.is ∙ c.before.step_at.ensures) L.room)
+    sym (stopped a.strict a.version a.depth L.at at_least_end.least-end.result a.s.now c.in-Stop.k (sym c.in-Stop.is ∙ c.before.step_at.ensures) L.room)
     ∙ L.invariant.4
 
 walk_enum_known_kind : (t : ℕ) → walk-lts.Need-enum_known-kind (walk_calls t) (walk_at t) walk.Post walk_Inv_loop walk-μ-loop
@@ -205,34 +225,45 @@ walk_onward : (t : ℕ) (c : walk-lts.In-Body (walk_calls t) (walk_at t) walk.Po
     → let a = c.before.before.before.before.before.before.args in
     Onward a.strict a.version a.depth c.before.before.loop-k.at c.before.before.before.least-end.result a.s.now c.in-Body.kind c.in-Body.resynced c.in-Body.start c.in-Body.stop
 walk_onward t c =
-    let a = c.before.before.before.before.before.before.args in
-    onward a.strict a.version a.depth c.before.before.loop-k.at c.before.before.before.least-end.result a.s.now c.before.before.loop-k.invariant.1 _ _ _ _
+    let at_least_end = c.before.before.before in
+    let at_start = at_least_end.before.before.before in
+    let a = at_start.args in
+    onward a.strict a.version a.depth c.before.before.loop-k.at at_least_end.least-end.result a.s.now c.before.before.loop-k.invariant.1 _ _ _ _
     (sym c.in-Body.is ∙ c.before.step_at.ensures)
 
 walk_body_requires : (t : ℕ) → walk-lts.Need-body-r-requires (walk_calls t) (walk_at t) walk.Post walk_Inv_loop walk-μ-loop
 walk_body_requires t c κs =
-    let a = c.before.before.before.before.before.before.before.args in
-    let L = c.before.before.before.loop-k in
+    let at_loop_k = c.before.before.before in
+    let at_start = at_loop_k.before.before.before.before in
+    let a = at_start.args in
+    let L = at_loop_k.loop-k in
     let on = walk_onward t c.before in
-    let m : 2 * (a.to - a.from) ≡ t = c.before.before.before.before.before.before.before.requires.0 in
+    let m : 2 * (a.to - a.from) ≡ t = at_start.requires.0 in
     let less : 2 * (c.before.in-Body.stop - c.before.in-Body.start) + 1 < t = omega (arith, on.begins, on.ordered, on.within, L.invariant) in
     (less, (on.ordered, omega (arith, on.within, L.invariant), on.shallow))
 
 walk_same_length_2 : (t : ℕ) → walk-lts.Need-shape_of-room-then-r-ne0 (walk_calls t) (walk_at t) walk.Post walk_Inv_loop walk-μ-loop
 walk_same_length_2 t c =
-    c.before.before.before.body-r.auto.room ∙ c.before.before.before.before.before.before.before.loop-k.invariant.3
+    let at_body_r = c.before.before.before in
+    let at_loop_k = at_body_r.before.before.before.before in
+    at_body_r.body-r.auto.room ∙ at_loop_k.loop-k.invariant.3
 
 walk_returns_2 : (t : ℕ) → walk-lts.Need-returns-then-r-ne0 (walk_calls t) (walk_at t) walk.Post walk_Inv_loop walk-μ-loop
 walk_returns_2 t c =
-    let at_body = c.before.before.before in
+    let at_body_r = c.before.before.before in
+    let at_in_Body = at_body_r.before.before in
+    let at_loop_k = at_in_Body.before.before in
+    let at_least_end = at_loop_k.before in
+    let at_start = at_least_end.before.before.before in
+    let at_body = at_body_r in
     let at_kind = at_body.before.before in
-    let a = c.before.before.before.before.before.before.before.before.before.before.before.args in
-    let L = c.before.before.before.before.before.before.before.loop-k in
-    let end = c.before.before.before.before.before.before.before.before.least-end.result in
+    let a = at_start.args in
+    let L = at_loop_k.loop-k in
+    let end = at_least_end.least-end.result in
     let on = walk_onward t at_kind in
-    let o = body_of c.before.before.before.before.before.in-Body.resynced (walked a.strict a.version (a.depth + 1)) c.before.before.before.before.before.in-Body.kind (slice c.before.before.before.before.before.in-Body.start c.before.before.before.before.before.in-Body.stop a.s.now) L.room in
-    let rest = walked a.strict a.version a.depth (slice c.before.before.before.before.before.in-Body.stop end a.s.now) in
-    let e : ◌≡◌ {A = Out} (c.before.before.before.body-r.result, c.before.before.before.body-r.new.room) o = c.before.before.before.body-r.ensures in
+    let o = body_of at_in_Body.in-Body.resynced (walked a.strict a.version (a.depth + 1)) at_in_Body.in-Body.kind (slice at_in_Body.in-Body.start at_in_Body.in-Body.stop a.s.now) L.room in
+    let rest = walked a.strict a.version a.depth (slice at_in_Body.in-Body.stop end a.s.now) in
+    let e : ◌≡◌ {A = Out} (at_body_r.body-r.result, at_body_r.body-r.new.room) o = at_body_r.body-r.ensures in
     e ∙ sym (on.same L.room ∙ then_halt o rest (λ z. c.if-r-ne0.true (ap (λ (p : Out). p.0) e ∙ z))) ∙ L.invariant.4
 
 walk_loop_less : (t : ℕ) → walk-lts.Need-loop-k-smaller (walk_calls t) (walk_at t) walk.Post walk_Inv_loop walk-μ-loop
@@ -244,19 +275,24 @@ walk_loop_less t c =
 
 walk_loop_again : (t : ℕ) → walk-lts.Need-loop-k-preserved (walk_calls t) (walk_at t) walk.Post walk_Inv_loop walk-μ-loop
 walk_loop_again t c =
-    let at_body = c.before.before.before in
+    let at_body_r = c.before.before.before in
+    let at_in_Body = at_body_r.before.before in
+    let at_loop_k = at_in_Body.before.before in
+    let at_least_end = at_loop_k.before in
+    let at_start = at_least_end.before.before.before in
+    let at_body = at_body_r in
     let at_kind = at_body.before.before in
-    let a = c.before.before.before.before.before.before.before.before.before.before.before.args in
-    let L = c.before.before.before.before.before.before.before.loop-k in
-    let end = c.before.before.before.before.before.before.before.before.least-end.result in
+    let a = at_start.args in
+    let L = at_loop_k.loop-k in
+    let end = at_least_end.least-end.result in
     let on = walk_onward t at_kind in
-    let o = body_of c.before.before.before.before.before.in-Body.resynced (walked a.strict a.version (a.depth + 1)) c.before.before.before.before.before.in-Body.kind (slice c.before.before.before.before.before.in-Body.start c.before.before.before.before.before.in-Body.stop a.s.now) L.room in
-    let rest = walked a.strict a.version a.depth (slice c.before.before.before.before.before.in-Body.stop end a.s.now) in
-    let e : ◌≡◌ {A = Out} (c.before.before.before.body-r.result, c.before.before.before.body-r.new.room) o = c.before.before.before.body-r.ensures in (
+    let o = body_of at_in_Body.in-Body.resynced (walked a.strict a.version (a.depth + 1)) at_in_Body.in-Body.kind (slice at_in_Body.in-Body.start at_in_Body.in-Body.stop a.s.now) L.room in
+    let rest = walked a.strict a.version a.depth (slice at_in_Body.in-Body.stop end a.s.now) in
+    let e : ◌≡◌ {A = Out} (at_body_r.body-r.result, at_body_r.body-r.new.room) o = at_body_r.body-r.ensures in (
       omega (arith, on.begins, on.ordered, L.invariant.0),
       L.invariant.1,
       L.invariant.2,
-      c.before.before.before.body-r.auto.room ∙ L.invariant.3,
+      at_body_r.body-r.auto.room ∙ L.invariant.3,
       ap rest (ap (λ (p : Out). p.1) e) ∙ sym (on.same L.room ∙ then_on o rest (sym (ap (λ (p : Out). p.0) e) ∙ c.if-r-ne0.false)) ∙ L.invariant.4,
     )
 

@@ -19,26 +19,35 @@ decreases_loop s from to end at₀ at = end - at
 
 loop_holds : tie.Need-loop-at-init invariant_loop decreases_loop
 loop_holds c =
-    let a = c.before.before.before.args in
+    let at_start = c.before.before.before in
+    let a = at_start.args in
     (omega arith, omega arith, ap all_zero (cut_both a.from a.to c.before.least-end.result c.least-at.result a.s.now c.before.least-end.ensures c.least-at.ensures))
 
 returns : tie.Need-returns-then-not-block_zero invariant_loop decreases_loop
 returns c =
-    let a = c.before.before.before.before.before.before.before.args in
-    let L = c.before.before.before.loop-at in
-    sym (zero_not a.s.now L.at c.before.before.before.before.before.least-end.result 64 (omega arith) (sym c.before.block_zero.ensures ∙ not-true _ c.if-not-block_zero.true-raw)) ∙ L.invariant.2
+    let at_loop_at = c.before.before.before in
+    let at_least_end = at_loop_at.before.before in
+    let at_start = at_least_end.before.before in
+    let a = at_start.args in
+    let L = at_loop_at.loop-at in
+    sym (zero_not a.s.now L.at at_least_end.least-end.result 64 (omega arith) (sym c.before.block_zero.ensures ∙ not-true _ c.if-not-block_zero.true-raw)) ∙ L.invariant.2
 
 loop_again : tie.Need-loop-at-preserved invariant_loop decreases_loop
 loop_again c =
-    let a = c.before.before.before.before.before.before.before.args in
-    let L = c.before.before.before.loop-at in
-    (omega arith, L.invariant.1, sym (zero_on a.s.now L.at c.before.before.before.before.before.least-end.result 64 (omega arith) (sym c.before.block_zero.ensures ∙ not-false _ c.if-not-block_zero.false-raw)) ∙ L.invariant.2)
+    let at_loop_at = c.before.before.before in
+    let at_least_end = at_loop_at.before.before in
+    let at_start = at_least_end.before.before in
+    let a = at_start.args in
+    let L = at_loop_at.loop-at in
+    (omega arith, L.invariant.1, sym (zero_on a.s.now L.at at_least_end.least-end.result 64 (omega arith) (sym c.before.block_zero.ensures ∙ not-false _ c.if-not-block_zero.false-raw)) ∙ L.invariant.2)
 
 returns_2 : tie.Need-returns invariant_loop decreases_loop
 returns_2 c =
-    let a = c.before.before.before.before.before.before.args in
+    let at_least_end = c.before.before.before.before in
+    let at_start = at_least_end.before.before in
+    let a = at_start.args in
     let L = c.before.before.loop-at in
-    let ends : L.at + (c.before.before.before.before.least-end.result - L.at) ≡ c.before.before.before.before.least-end.result = omega arith in
+    let ends : L.at + (at_least_end.least-end.result - L.at) ≡ at_least_end.least-end.result = omega arith in
     c.block_zero-2.ensures ∙ ap (λ (n : ℕ). all_zero (slice L.at n a.s.now)) ends ∙ L.invariant.2
 
 pub all_zero_spec : {M : Type 1} → statement M

@@ -25,7 +25,8 @@ loop_holds c =
 
 loop_again : tie.Need-loop-k-preserved invariant_loop decreases_loop
 loop_again c =
-    let a = c.before.before.before.args in
+    let at_start = c.before.before.before in
+    let a = at_start.args in
     let L = c.before.before.loop-k in
     (omega arith, zero_turn a.s.now a.i L.k (a.i + a.n) L.all _ (omega arith) (omega arith) L.invariant.1)
 

@@ -22,19 +22,28 @@ returns_2 c =
 
 put_tag_requires : tie.Need-put_tag-put-requires
 put_tag_requires c κs =
-    leb-false _ _ (sym c.before.before.before.is_too_long.ensures ∙ c.before.before.if-is_too_long.false)
+    let at_is_too_long = c.before.before.before in
+    leb-false _ _ (sym at_is_too_long.is_too_long.ensures ∙ c.before.before.if-is_too_long.false)
 
 returns_3 : tie.Need-returns-in-Bytes
 returns_3 c =
-    let a = (start c.before.before.before.before.before.before.before).args in
-    let short = sym c.before.before.before.before.before.before.before.is_too_long.ensures ∙ c.before.before.before.before.before.before.if-is_too_long.false in
-    finish_done a.self a.padding a.buffer.now a.output.now short c.before.before.before.before.before.if-buffer-used.false c.before.before.before.put_tag-put.ensures c.in-Bytes.is
+    let at_put_tag_put = c.before.before.before in
+    let at_if_buffer_used = at_put_tag_put.before.before in
+    let at_if_is_too_long = at_if_buffer_used.before in
+    let at_is_too_long = at_if_is_too_long.before in
+    let a = (start at_is_too_long).args in
+    let short = sym at_is_too_long.is_too_long.ensures ∙ at_if_is_too_long.if-is_too_long.false in
+    finish_done a.self a.padding a.buffer.now a.output.now short at_if_buffer_used.if-buffer-used.false at_put_tag_put.put_tag-put.ensures c.in-Bytes.is
 
 returns_4 : tie.Need-returns-in-Refused
 returns_4 c =
-    let a = (start c.before.before.before.before.before.before.before).args in
-    let short = sym c.before.before.before.before.before.before.before.is_too_long.ensures ∙ c.before.before.before.before.before.before.if-is_too_long.false in
-    finish_full a.self a.padding a.buffer.now a.output.now short c.before.before.before.before.before.if-buffer-used.false c.before.before.before.put_tag-put.ensures c.in-Refused.is
+    let at_put_tag_put = c.before.before.before in
+    let at_if_buffer_used = at_put_tag_put.before.before in
+    let at_if_is_too_long = at_if_buffer_used.before in
+    let at_is_too_long = at_if_is_too_long.before in
+    let a = (start at_is_too_long).args in
+    let short = sym at_is_too_long.is_too_long.ensures ∙ at_if_is_too_long.if-is_too_long.false in
+    finish_full a.self a.padding a.buffer.now a.output.now short at_if_buffer_used.if-buffer-used.false at_put_tag_put.put_tag-put.ensures c.in-Refused.is
 
 pub finish_spec : {M : Type 1} → statement M
 finish_spec =

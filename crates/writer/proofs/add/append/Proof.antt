@@ -26,16 +26,20 @@ returns c =
 
 put_frame_requires : tie.Need-put_frame-used-requires
 put_frame_requires c κs =
-    let s = start c.before.before.before in
-    let h = c.before.before.before.head_len.ensures.0 in
+    let at_head_len = c.before.before.before in
+    let s = start at_head_len in
+    let h = at_head_len.head_len.ensures.0 in
     (s.requires.0, s.requires.1, s.requires.2, room s.args.writer (given s) s.args.buffer.now h s.requires.1 c.before.before.is_full.ensures c.before.if-is_full.false)
 
 returns_2 : tie.Need-returns
 returns_2 c =
-    let s = start c.before.before.before.before.before.before in
-    let h = c.before.before.before.before.before.before.head_len.ensures.0 in
+    let at_if_is_full = c.before.before.before.before in
+    let at_is_full = at_if_is_full.before in
+    let at_head_len = at_is_full.before in
+    let s = start at_head_len in
+    let h = at_head_len.head_len.ensures.0 in
     let e = c.before.before.put_frame-used.ensures in
-    put_behind s.args.writer (given s) s.args.buffer.now h s.requires.1 c.before.before.before.before.before.is_full.ensures c.before.before.before.before.if-is_full.false e.0 e.1
+    put_behind s.args.writer (given s) s.args.buffer.now h s.requires.1 at_is_full.is_full.ensures at_if_is_full.if-is_full.false e.0 e.1
 
 pub append_spec : {M : Type 1} → statement M
 append_spec =

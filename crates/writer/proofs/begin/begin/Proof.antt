@@ -17,8 +17,10 @@ returns c =
 returns_2 : tie.Need-returns
 unfolding begin_of
 returns_2 c =
-    let a = c.before.before.before.before.args in
-    let e : is_known a.version a.mode ≡ true = sym c.before.before.before.is_known.ensures ∙ not-false _ c.before.before.if-not-is_known.false-raw in
+    let at_is_known = c.before.before.before in
+    let at_start = at_is_known.before in
+    let a = at_start.args in
+    let e : is_known a.version a.mode ≡ true = sym at_is_known.is_known.ensures ∙ not-false _ c.before.before.if-not-is_known.false-raw in
     rw (e, c.before.version_of.ensures, c.mode_of.ensures)
 
 pub begin_spec : {M : Type 1} → statement M

@@ -40,17 +40,21 @@ returns_2 c =
 
 refit_requires : tie.Need-refit-requires
 refit_requires c κs =
+    let at_measure_frame_size = c.before.before.before in
     let s = start c.before.before.before.before.before in
     let v = s.args.version in
-    let exact = exact_size v _ _ c.before.before.before.measure_frame-size.ensures (sym c.before.before.size_check-j.ensures ∙ c.before.if-j-ne0.false) in
+    let exact = exact_size v _ _ at_measure_frame_size.measure_frame-size.ensures (sym c.before.before.size_check-j.ensures ∙ c.before.if-j-ne0.false) in
     (puttable v (given s) (sound c.before.before.before.before), exact.0, exact.1)
 
 returns_3 : tie.Need-returns
 returns_3 c =
+    let at_if_j_ne0 = c.before.before.before.before in
+    let at_size_check_j = at_if_j_ne0.before in
+    let at_measure_frame_size = at_size_check_j.before in
     let s = start c.before.before.before.before.before.before.before.before in
     let v = s.args.version in
-    let none = sym c.before.before.before.before.before.size_check-j.ensures ∙ c.before.before.before.before.if-j-ne0.false in
-    let size = sym (size_refusal_lem v Mode.Off (given s) _ c.before.before.before.before.before.before.measure_frame-size.ensures) ∙ none in
+    let none = sym at_size_check_j.size_check-j.ensures ∙ at_if_j_ne0.if-j-ne0.false in
+    let size = sym (size_refusal_lem v Mode.Off (given s) _ at_measure_frame_size.measure_frame-size.ensures) ∙ none in
     c.before.before.refit.ensures ∙ gap_refit v s.args.gap (given s) s.args.buffer.now (sound c.before.before.before.before.before.before.before) size
 
 pub put_between_spec : {M : Type 1} → statement M

@@ -47,8 +47,9 @@ add_if2 c =
 
 returns_2 : tie.Need-returns-then-gap-from
 returns_2 c =
+    let at_head_len = c.before.before.before in
     let s = start c.before.before.before.before.before in
-    gap_full s.args.version s.args.gap (given s) s.args.buffer.now c.before.before.before.head_len.ensures.0 s.requires.1 (in_order c.before.before.before.before) c.if-gap-from.true
+    gap_full s.args.version s.args.gap (given s) s.args.buffer.now at_head_len.head_len.ensures.0 s.requires.1 (in_order c.before.before.before.before) c.if-gap-from.true
 
 -- the place after the frame
 add_shift : tie.Need-overflow_add-from
@@ -59,17 +60,23 @@ add_shift c =
 
 put_frame_requires : tie.Need-put_frame-requires
 put_frame_requires c κs =
+    let at_shift = c.before.before.before in
+    let at_if_gap_from = at_shift.before.before in
+    let at_head_len = at_if_gap_from.before.before.before in
     let s = start c.before.before.before.before.before.before.before.before.before.before in (
       s.requires.0,
       s.requires.1,
       s.requires.2,
-      gap_fits s.args.version s.args.gap (given s) s.args.buffer.now c.before.before.before.before.before.before.before.before.head_len.ensures.0 s.requires.1 (in_order c.before.before.before.before.before.before.before.before.before) (omega (arith, c.before.before.before.before.before.if-gap-from.false)) c.before.before.before.shift.ensures,
+      gap_fits s.args.version s.args.gap (given s) s.args.buffer.now at_head_len.head_len.ensures.0 s.requires.1 (in_order c.before.before.before.before.before.before.before.before.before) (omega (arith, at_if_gap_from.if-gap-from.false)) at_shift.shift.ensures,
     )
 
 returns_3 : tie.Need-returns
 returns_3 c =
+    let at_shift = c.before.before.before.before.before.before in
+    let at_if_gap_from = at_shift.before.before in
+    let at_head_len = at_if_gap_from.before.before.before in
     let s = start c.before.before.before.before.before.before.before.before.before.before.before.before.before in
-    gap_done s.args.version s.args.gap (given s) s.args.buffer.now c.before.before.before.before.before.before.before.before.before.before.before.head_len.ensures.0 s.requires.1 (in_order c.before.before.before.before.before.before.before.before.before.before.before.before) (omega (arith, c.before.before.before.before.before.before.before.before.if-gap-from.false)) c.before.before.before.before.before.before.shift.ensures c.before.before.put_frame.ensures.1
+    gap_done s.args.version s.args.gap (given s) s.args.buffer.now at_head_len.head_len.ensures.0 s.requires.1 (in_order c.before.before.before.before.before.before.before.before.before.before.before.before) (omega (arith, at_if_gap_from.if-gap-from.false)) at_shift.shift.ensures c.before.before.put_frame.ensures.1
 
 pub refit_spec : {M : Type 1} → statement M
 refit_spec =

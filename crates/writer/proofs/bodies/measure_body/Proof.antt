@@ -16,8 +16,9 @@ start c = let at_slices = c.before in at_slices.before.before.before.before
 
 plan_of_requires : tie.Need-plan_of-plan-requires
 plan_of_requires c κs =
-    let a = c.before.before.before.before.args in
-    few_names a.name.now a.names.now a.rest.now a.deviations.now a.fields c.before.before.before.before.requires
+    let at_start = c.before.before.before.before in
+    let a = at_start.args in
+    few_names a.name.now a.names.now a.rest.now a.deviations.now a.fields at_start.requires
 
 slice_aggregate_measure_pieces : tie.Need-slice_bounds-measure_pieces-end
 slice_aggregate_measure_pieces c = sym (length-take-le _ _ c.before.plan_of-plan.ensures.name_fits)
@@ -40,8 +41,9 @@ measure_references_requires c κs =
 
 returns : tie.Need-returns
 returns c =
-    let a = (start c.before.before.before.before).args in
-    let p = c.before.before.before.before.plan_of-plan in
+    let at_plan_of_plan = c.before.before.before.before in
+    let a = (start at_plan_of_plan).args in
+    let p = at_plan_of_plan.plan_of-plan in
     let r = p.result in
     let front = take r.name a.name.now ++ (take r.len r.bytes ++ (take r.names a.names.now ++ take r.rest a.rest.now)) in
     rw (p.ensures.body a.deviations.now)

@@ -20,12 +20,14 @@ start c = c.before.before.before.before
 -- the parts of the slices, whatever the deviations
 parts : (c : tie.After-used_of-used) (ds : List ℕ) → let a = c.before.before.before.before.args in Parts a.fields a.name.now a.names.now a.rest.now ds c.used_of-used.result
 parts c ds =
-    let a = c.before.before.before.before.args in
+    let at_start = c.before.before.before.before in
+    let a = at_start.args in
     rw c.used_of-used.ensures (used_parts a.fields a.name.now a.names.now a.rest.now ds)
 
 lies : (c : tie.After-used_of-used) → let a = c.before.before.before.before.args in Lies c.used_of-used.result (length a.name.now) (length a.names.now) (length a.rest.now)
 lies c =
-    let a = c.before.before.before.before.args in
+    let at_start = c.before.before.before.before in
+    let a = at_start.args in
     rw c.used_of-used.ensures (used_lies a.fields (length a.name.now) (length a.names.now) (length a.rest.now))
 
 slice_aggregate_zeros_in : tie.Need-slice_bounds-zeros_in-end

@@ -47,22 +47,27 @@ references_left c =
 
 plan_of_requires : tie.Need-plan_of-plan-requires
 plan_of_requires c κs =
-    let a = c.before.before.before.before.before.args in
-    few_names a.name.now a.names.now a.rest.now a.deviations.now a.fields c.before.before.before.before.before.requires.0
+    let at_start = c.before.before.before.before.before in
+    let a = at_start.args in
+    few_names a.name.now a.names.now a.rest.now a.deviations.now a.fields at_start.requires.0
 
 slice_aggregate_put_pieces : tie.Need-slice_bounds-put_pieces-end
 slice_aggregate_put_pieces c = sym (length-take-le _ _ c.before.before.plan_of-plan.ensures.name_fits)
 
 slice_aggregate_put_pieces_2 : tie.Need-slice_bounds-put_pieces-end-2
-slice_aggregate_put_pieces_2 c = sym (length-take-le _ _ c.before.before.before.plan_of-plan.ensures.small_fits)
+slice_aggregate_put_pieces_2 c =
+    let at_plan_of_plan = c.before.before.before in
+    sym (length-take-le _ _ at_plan_of_plan.plan_of-plan.ensures.small_fits)
 
 slice_aggregate_put_pieces_3 : tie.Need-slice_bounds-put_pieces-end-3
 slice_aggregate_put_pieces_3 c =
-    sym (length-take-le _ _ c.before.before.before.plan_of-plan.ensures.names_fit)
+    let at_plan_of_plan = c.before.before.before in
+    sym (length-take-le _ _ at_plan_of_plan.plan_of-plan.ensures.names_fit)
 
 slice_aggregate_put_pieces_4 : tie.Need-slice_bounds-put_pieces-end-4
 slice_aggregate_put_pieces_4 c =
-    sym (length-take-le _ _ c.before.before.before.plan_of-plan.ensures.rest_fits)
+    let at_plan_of_plan = c.before.before.before in
+    sym (length-take-le _ _ at_plan_of_plan.plan_of-plan.ensures.rest_fits)
 
 put_pieces_requires : tie.Need-put_pieces-next-requires
 put_pieces_requires c κs =

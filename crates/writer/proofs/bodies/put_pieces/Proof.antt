@@ -45,7 +45,8 @@ third_put c =
 
 put_bytes_requires : tie.Need-put_bytes-first-requires
 put_bytes_requires c κs =
-    piece_lies c.before.before.before.before.before.before.args.a.now (c.before.before.before.before.before.before.args.b.now ++ (c.before.before.before.before.before.before.args.c.now ++ c.before.before.before.before.before.before.args.d.now)) (all_left c.before.before.before.before.before.before)
+    let at_start = c.before.before.before.before.before.before in
+    piece_lies at_start.args.a.now (at_start.args.b.now ++ (at_start.args.c.now ++ at_start.args.d.now)) (all_left at_start)
 
 put_bytes_requires_2 : tie.Need-put_bytes-second-requires
 put_bytes_requires_2 c κs =

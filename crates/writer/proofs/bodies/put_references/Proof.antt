@@ -8,16 +8,19 @@ use Rattle.writer.proofs.bodies.put_references.Tie as tie
 
 put_packed_requires : tie.Need-put_packed-requires
 put_packed_requires c κs =
-    rw c.before.in-Table.is at c.before.before.before.before.requires
+    let at_start = c.before.before.before.before in
+    rw c.before.in-Table.is at at_start.requires
 
 returns : tie.Need-returns-in-Table
 returns c =
-    rw c.before.before.before.before.in-Table.is c.before.before.put_packed.ensures
+    let at_in_Table = c.before.before.before.before in
+    rw at_in_Table.in-Table.is c.before.before.put_packed.ensures
 
 returns_2 : tie.Need-returns-in_default
 unfolding unsync
 returns_2 c =
-    let a = c.before.before.before.args in
+    let at_start = c.before.before.before in
+    let a = at_start.args in
     rw (no_references a.fields a.deviations.now c.in_default.in_default-own.keys2, pen_nil a.mode a.pen)
 
 pub put_references_spec : {M : Type 1} → statement M

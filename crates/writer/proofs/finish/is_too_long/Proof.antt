@@ -11,13 +11,16 @@ returns c =
 
 returns_2 : tie.Need-returns-then-used-left
 returns_2 c =
-    let a = c.before.before.before.args in
+    let at_start = c.before.before.before in
+    let a = at_start.args in
     short_frames a.version a.mode a.padding a.used a.buffer.now c.before.if-padding-ge-LIMIT.false c.if-used-left.true
 
 returns_3 : tie.Need-returns
 returns_3 c =
-    let a = c.before.before.before.before.before.args in
-    by_count a.version a.mode a.padding a.used a.buffer.now c.before.before.before.if-padding-ge-LIMIT.false c.before.whole_mode.ensures c.unsync_len.ensures
+    let at_if_padding_ge_LIMIT = c.before.before.before in
+    let at_start = at_if_padding_ge_LIMIT.before.before in
+    let a = at_start.args in
+    by_count a.version a.mode a.padding a.used a.buffer.now at_if_padding_ge_LIMIT.if-padding-ge-LIMIT.false c.before.whole_mode.ensures c.unsync_len.ensures
 
 pub is_too_long_spec : {M : Type 1} → statement M
 is_too_long_spec =

@@ -14,20 +14,25 @@ use Rattle.writer.proofs.finish.put_frames.Tie as tie
 
 returns : tie.Need-returns-then-output-padding
 returns c =
-    let a = c.before.before.before.args in
+    let at_start = c.before.before.before in
+    let a = at_start.args in
     no_padding (whole_of a.version a.mode (take a.used a.buffer.now)) a.output.now a.padding c.if-output-padding.true
 
 slice_aggregate_unsync_into : tie.Need-slice_bounds-unsync_into-end-2
 slice_aggregate_unsync_into c =
-    sym (length-take-le _ c.before.before.before.before.before.args.output.now (omega arith))
+    let at_start = c.before.before.before.before.before in
+    sym (length-take-le _ at_start.args.output.now (omega arith))
 
 returns_2 : tie.Need-returns
 returns_2 c =
-    let a = c.before.before.before.before.before.before.before.before.args in
+    let at_whole_mode_by = c.before.before.before.before in
+    let at_if_output_padding = at_whole_mode_by.before in
+    let at_start = at_if_output_padding.before.before.before in
+    let a = at_start.args in
     let frames = take a.used a.buffer.now in
-    let whole = whole_is a.version a.mode c.before.before.before.before.whole_mode-by.ensures frames in
+    let whole = whole_is a.version a.mode at_whole_mode_by.whole_mode-by.ensures frames in
     let puts = c.before.before.unsync_into.ensures ∙ ap (λ (u : List ℕ). placed_of u 10 (take (length a.output.now - a.padding) a.output.now)) whole in
-    in_front (whole_of a.version a.mode frames) a.output.now a.padding c.before.before.before.before.before.if-output-padding.false refl puts
+    in_front (whole_of a.version a.mode frames) a.output.now a.padding at_if_output_padding.if-output-padding.false refl puts
 
 pub put_frames_spec : {M : Type 1} → statement M
 put_frames_spec =

@@ -14,8 +14,9 @@ frames_put_lem : (c : tie.After-put_zeros-arg-1) →
     let a = (start c.before.before.before.before).args in
     Frames a.version a.mode a.padding (take a.used a.buffer.now) a.output.now c.before.before.before.before.put_frames-put.ensures c.before.in-Bytes.n
 frames_put_lem c =
-    let a = (start c.before.before.before.before).args in
-    tag_frames a.version a.mode a.padding (take a.used a.buffer.now) a.output.now c.before.before.before.before.put_frames-put.ensures c.before.in-Bytes.is
+    let at_put_frames_put = c.before.before.before.before in
+    let a = (start at_put_frames_put).args in
+    tag_frames a.version a.mode a.padding (take a.used a.buffer.now) a.output.now at_put_frames_put.put_frames-put.ensures c.before.in-Bytes.is
 
 add_put_zeros : tie.Need-overflow_add-n
 add_put_zeros c = omega (arith, frames_put_lem c)
@@ -42,13 +43,16 @@ add_t19 c =
 
 returns : tie.Need-returns-in-Bytes
 returns c =
-    let a = (start c.before.before.before.before.before.before.before.before.before.before.before).args in
-    tag_put a.version a.mode a.padding (take a.used a.buffer.now) a.output.now c.before.before.before.before.before.before.before.before.before.before.before.put_frames-put.ensures (frames_put_lem c.before.before.before.before.before.before.before) c.before.before.before.before.before.before.put_zeros.ensures c.before.before.put_header.ensures
+    let at_put_zeros = c.before.before.before.before.before.before in
+    let at_put_frames_put = at_put_zeros.before.before.before.before.before in
+    let a = (start at_put_frames_put).args in
+    tag_put a.version a.mode a.padding (take a.used a.buffer.now) a.output.now at_put_frames_put.put_frames-put.ensures (frames_put_lem c.before.before.before.before.before.before.before) at_put_zeros.put_zeros.ensures c.before.before.put_header.ensures
 
 returns_2 : tie.Need-returns-in-Refused
 returns_2 c =
-    let a = (start c.before.before.before).args in
-    tag_refused a.version a.mode a.padding (take a.used a.buffer.now) a.output.now c.before.before.before.put_frames-put.ensures c.in-Refused.is
+    let at_put_frames_put = c.before.before.before in
+    let a = (start at_put_frames_put).args in
+    tag_refused a.version a.mode a.padding (take a.used a.buffer.now) a.output.now at_put_frames_put.put_frames-put.ensures c.in-Refused.is
 
 pub put_tag_spec : {M : Type 1} → statement M
 put_tag_spec =

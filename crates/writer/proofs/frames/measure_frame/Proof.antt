@@ -8,7 +8,8 @@ use Rattle.writer.proofs.frames.measure_frame.Tie as tie
 
 returns : tie.Need-returns
 returns c =
-    let a = c.before.before.before.before.before.before.args in
+    let at_start = c.before.before.before.before.before.before in
+    let a = at_start.args in
     let body = body_bytes (content_of a.heading.fields a.name.now a.names.now a.rest.now a.deviations.now) in
     rw (← stored_length a.version a.mode body c.before.body_mode.ensures) c.measure_body.ensures
 

@@ -20,17 +20,20 @@ put_head_requires c κs =
 
 put_body_requires : tie.Need-put_body-end-requires
 put_body_requires c κs =
+    let at_put_head_behind = c.before.before.before.before in
     let s = start c.before.before.before.before.before in
     let a = s.args in
-    let h = c.before.before.before.before.put_head-behind in
+    let h = at_put_head_behind.put_head-behind in
     (s.requires.0, body_lies a.version a.mode (given s) a.buffer.now a.at s.requires.1 h.ensures.0 h.ensures.1 c.body_mode.ensures s.requires.3)
 
 returns : tie.Need-returns
 returns c =
+    let at_body_mode = c.before.before.before in
+    let at_put_head_behind = at_body_mode.before.before.before.before in
     let s = start c.before.before.before.before.before.before.before.before in
     let a = s.args in
-    let h = c.before.before.before.before.before.before.before.put_head-behind in
-    frame_put a.version a.mode (given s) a.buffer.now a.at s.requires.1 h.ensures.0 h.ensures.1 c.before.before.before.body_mode.ensures c.before.before.put_body-end.ensures
+    let h = at_put_head_behind.put_head-behind in
+    frame_put a.version a.mode (given s) a.buffer.now a.at s.requires.1 h.ensures.0 h.ensures.1 at_body_mode.body_mode.ensures c.before.before.put_body-end.ensures
 
 pub put_frame_spec : {M : Type 1} → statement M
 put_frame_spec =

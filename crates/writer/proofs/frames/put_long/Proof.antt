@@ -11,9 +11,12 @@ use Rattle.writer.proofs.frames.put_long.Tie as tie
 
 returns : tie.Need-returns
 returns c =
-    let a = c.before.before.before.before.before.before.before.before.before.before.before.before.before.args in
-    bytes_put a.buffer.now a.at 4 a.id (bytes_of 4 a.size ++ bytes_of 2 a.flags) c.before.before.before.before.before.before.before.before.before.before.put_digits.ensures
-    (bytes_put _ (a.at + 4) 4 a.size (bytes_of 2 a.flags) c.before.before.before.before.before.before.put_digits-2.ensures c.before.before.put_digits-3.ensures (omega arith))
+    let at_put_digits_2 = c.before.before.before.before.before.before in
+    let at_put_digits = at_put_digits_2.before.before.before.before in
+    let at_start = at_put_digits.before.before.before in
+    let a = at_start.args in
+    bytes_put a.buffer.now a.at 4 a.id (bytes_of 4 a.size ++ bytes_of 2 a.flags) at_put_digits.put_digits.ensures
+    (bytes_put _ (a.at + 4) 4 a.size (bytes_of 2 a.flags) at_put_digits_2.put_digits-2.ensures c.before.before.put_digits-3.ensures (omega arith))
     refl
 
 pub put_long_spec : {M : Type 1} → statement M

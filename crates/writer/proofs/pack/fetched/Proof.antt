@@ -21,20 +21,24 @@ loop_holds c = (c.before.requires.0, refl)
 
 returns : tie.Need-returns-then-ds-i invariant_loop decreases_loop
 returns c =
+    let at_start = c.before.before.before.before in
     let L = c.before.before.loop-have in
     let none = c.if-ds-i.true in
     let few = c.before.loop-have-test.true in (
-      filled_ready c.before.before.before.before.args.ds.now L.acc L.have L.i L.a L.b none few L.invariant.0,
+      filled_ready at_start.args.ds.now L.acc L.have L.i L.a L.b none few L.invariant.0,
       omega arith,
-      filled_left c.before.before.before.before.args.ds.now L.acc L.have L.i L.a L.b none few L.invariant.0 (rw L.invariant.1 c.before.before.before.before.requires.1) ∙ L.invariant.1,
+      filled_left at_start.args.ds.now L.acc L.have L.i L.a L.b none few L.invariant.0 (rw L.invariant.1 at_start.requires.1) ∙ L.invariant.1,
     )
 
 loop_again : tie.Need-loop-have-preserved invariant_loop decreases_loop
 loop_again c =
-    let ds = c.before.before.before.before.before.before.args.ds.now in
-    let L = c.before.before.before.before.loop-have in
+    let at_loop_have_test = c.before.before.before in
+    let at_loop_have = at_loop_have_test.before in
+    let at_start = at_loop_have.before.before in
+    let ds = at_start.args.ds.now in
+    let L = at_loop_have.loop-have in
     let there = c.before.before.if-ds-i.false in
-    let few = c.before.before.before.loop-have-test.true in (
+    let few = at_loop_have_test.loop-have-test.true in (
       taken_ready ds L.acc L.have L.i L.a L.b c.half.result there c.half.ensures.0 few L.invariant.0,
       taken_left ds L.acc L.have L.i L.a L.b c.half.result there c.half.ensures.0 few L.invariant.0 ∙ L.invariant.1,
     )

@@ -13,7 +13,8 @@ use Rattle.writer.proofs.pack.measure_packed.Tie as tie
 
 returns : tie.Need-returns-then-n-ge-LIMIT
 returns c =
-    let a = c.before.before.before.args in
+    let at_start = c.before.before.before in
+    let a = at_start.args in
     inr (omega (arith, c.before.packed_len-n.ensures, unsync_longer (guards a.mode) a.pen.prev (pack a.v a.w a.ds.now)))
 
 returns_2 : tie.Need-returns-then-at-ge-LIMIT
@@ -21,8 +22,10 @@ returns_2 c = inr (omega arith)
 
 returns_3 : tie.Need-returns-in-Off
 returns_3 c =
-    let a = c.before.before.before.before.before.args in
-    inl (omega (arith, c.before.before.before.packed_len-n.ensures, ap length (off_bytes c.in-Off.is a.pen.prev (pack a.v a.w a.ds.now))))
+    let at_packed_len_n = c.before.before.before in
+    let at_start = at_packed_len_n.before.before in
+    let a = at_start.args in
+    inl (omega (arith, at_packed_len_n.packed_len-n.ensures, ap length (off_bytes c.in-Off.is a.pen.prev (pack a.v a.w a.ds.now))))
 
 returns_4 : tie.Need-returns-in-Crate
 returns_4 c = paced_sized c.pace_packed.ensures

@@ -9,7 +9,8 @@ use Rattle.writer.proofs.pack.next_byte.Tie as tie
 
 returns : tie.Need-returns
 returns c =
-    let ds = c.before.before.before.before.args.ds.now in
+    let at_start = c.before.before.before.before in
+    let ds = at_start.args.ds.now in
     let f = c.before.before.fetched-full in
     let full = f.result in
     let e = f.ensures in

@@ -33,8 +33,10 @@ next_byte_requires c κs = (c.before.loop-k.invariant.0, omega (arith, c.before.
 
 loop_again : tie.Need-loop-k-preserved invariant_loop decreases_loop
 loop_again c =
-    let a = c.before.before.before.before.before.before.args in
-    let L = c.before.before.before.before.loop-k in
+    let at_loop_k = c.before.before.before.before in
+    let at_start = at_loop_k.before.before in
+    let a = at_start.args in
+    let L = at_loop_k.loop-k in
     let n = c.before.before.next_byte-step in
     let e = n.ensures in (
       e.0,
@@ -46,7 +48,8 @@ loop_again c =
 
 returns : tie.Need-returns invariant_loop decreases_loop
 returns c =
-    let a = c.before.before.before.args in
+    let at_start = c.before.before.before in
+    let a = at_start.args in
     let L = c.before.loop-k in
     let e = drop_none (left L.bits a.ds.now) 0 (omega (arith, L.invariant.1)) in
     measured_all a.mode a.pen (pack a.v a.w a.ds.now) L.next (rw e at L.invariant.2)

@@ -21,32 +21,39 @@ decreases_loop buffer₀ mode ds v w n bits₀ next₀ k₀ buffer bits next k =
 
 loop_holds : tie.Need-loop-k-init invariant_loop decreases_loop
 loop_holds c =
-    let a = c.before.before.before.args in
+    let at_start = c.before.before.before in
+    let a = at_start.args in
     let e = start_left a.v a.w a.ds.now in (
-      start_ready a.v a.w a.ds.now c.before.before.before.requires.0,
+      start_ready a.v a.w a.ds.now at_start.requires.0,
       omega (arith, ap length e, c.packed_len-n.ensures),
-      same_list (sym e) (begin a.mode a.pen (pack a.v a.w a.ds.now) a.buffer.now c.before.before.before.requires.1),
+      same_list (sym e) (begin a.mode a.pen (pack a.v a.w a.ds.now) a.buffer.now at_start.requires.1),
     )
 
 next_byte_requires : tie.Need-next_byte-step-requires invariant_loop decreases_loop
 next_byte_requires c κs = (c.before.loop-k.invariant.0, omega (arith, c.before.loop-k.invariant.1))
 
 put_byte_requires : tie.Need-put_byte-next-requires invariant_loop decreases_loop
-put_byte_requires c κs = lies (same_list c.before.next_byte-step.ensures.1 c.before.before.before.loop-k.invariant.2)
+put_byte_requires c κs =
+    let at_loop_k = c.before.before.before in
+    lies (same_list c.before.next_byte-step.ensures.1 at_loop_k.loop-k.invariant.2)
 
 loop_again : tie.Need-loop-k-preserved invariant_loop decreases_loop
 loop_again c =
-    let L = c.before.before.before.before.before.before.before.loop-k in
-    let e = c.before.before.before.before.before.next_byte-step.ensures in
-    (e.0, omega (arith, L.invariant.1, ap length e.1), put (same_list e.1 L.invariant.2) c.before.before.before.put_byte-next.ensures)
+    let at_put_byte_next = c.before.before.before in
+    let at_next_byte_step = at_put_byte_next.before.before in
+    let at_loop_k = at_next_byte_step.before.before in
+    let L = at_loop_k.loop-k in
+    let e = at_next_byte_step.next_byte-step.ensures in
+    (e.0, omega (arith, L.invariant.1, ap length e.1), put (same_list e.1 L.invariant.2) at_put_byte_next.put_byte-next.ensures)
 
 same_length : tie.Need-shape_of-buffer invariant_loop decreases_loop
 same_length c = c.before.loop-k.invariant.2.long
 
 returns : tie.Need-returns invariant_loop decreases_loop
 returns c =
+    let at_start = c.before.before.before.before.before in
     let L = c.before.loop-k in
-    done (same_list (drop_none (left L.bits c.before.before.before.before.before.args.ds.now) 0 (omega (arith, L.invariant.1))) L.invariant.2)
+    done (same_list (drop_none (left L.bits at_start.args.ds.now) 0 (omega (arith, L.invariant.1))) L.invariant.2)
 
 pub put_packed_spec : {M : Type 1} → statement M
 put_packed_spec =

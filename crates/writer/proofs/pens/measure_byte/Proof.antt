@@ -13,12 +13,14 @@ returns c = inr (omega arith)
 
 returns_2 : tie.Need-returns-then-is_guarded
 returns_2 c =
-    let a = c.before.before.before.args in
+    let at_start = c.before.before.before in
+    let a = at_start.args in
     inl (sym (byte_pen a.mode a.pen a.b true (sym c.if-is_guarded.true ∙ c.before.is_guarded.ensures)))
 
 returns_3 : tie.Need-returns-else-is_guarded
 returns_3 c =
-    let a = c.before.before.before.args in
+    let at_start = c.before.before.before in
+    let a = at_start.args in
     inl (sym (byte_pen a.mode a.pen a.b false (sym c.if-is_guarded.false ∙ c.before.is_guarded.ensures)))
 
 pub measure_byte_spec : {M : Type 1} → statement M

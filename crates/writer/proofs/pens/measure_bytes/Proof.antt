@@ -15,17 +15,20 @@ returns c = inr (omega arith)
 
 returns_2 : tie.Need-returns-then-n-ge-LIMIT
 returns_2 c =
-    let a = c.before.before.before.args in
+    let at_start = c.before.before.before in
+    let a = at_start.args in
     inr (omega (arith, unsync_longer (guards a.mode) a.pen.prev a.s.now))
 
 add_t9 : tie.Need-overflow_add-result
 add_t9 c =
-    let a = c.before.before.before.before.args in
+    let at_start = c.before.before.before.before in
+    let a = at_start.args in
     omega (arith, (count_all a.mode a.pen.prev a.s.now c.unsync_len.ensures).1)
 
 returns_3 : tie.Need-returns
 returns_3 c =
-    let a = c.before.before.before.before.before.args in
+    let at_start = c.before.before.before.before.before in
+    let a = at_start.args in
     inl (pen_is (ap (λ (n : ℕ). a.pen.at + n) (count_all a.mode a.pen.prev a.s.now c.before.unsync_len.ensures).0) c.ends_ff.ensures)
 
 pub measure_bytes_spec : {M : Type 1} → statement M

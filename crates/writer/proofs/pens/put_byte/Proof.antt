@@ -17,13 +17,15 @@ Left s l = let a = s.args in Storing a.buffer.now a.pen.at (unsync (guards a.mod
 -- a 00 and the byte, or the byte alone
 guarded : (c : tie.Then-is_guarded) → let s = c.before.before.before in Left s (0 ∷ c.before.before.before.args.b ∷ [])
 guarded c =
-    let a = c.before.before.before.args in
-    same_list (byte_bytes a.mode a.pen a.b true (sym c.if-is_guarded.true ∙ c.before.is_guarded.ensures)) (begin _ _ _ c.before.before.before.requires)
+    let at_start = c.before.before.before in
+    let a = at_start.args in
+    same_list (byte_bytes a.mode a.pen a.b true (sym c.if-is_guarded.true ∙ c.before.is_guarded.ensures)) (begin _ _ _ at_start.requires)
 
 plain : (c : tie.Else-is_guarded) → let s = c.before.before.before in Left s (c.before.before.before.args.b ∷ [])
 plain c =
-    let a = c.before.before.before.args in
-    same_list (byte_bytes a.mode a.pen a.b false (sym c.if-is_guarded.false ∙ c.before.is_guarded.ensures)) (begin _ _ _ c.before.before.before.requires)
+    let at_start = c.before.before.before in
+    let a = at_start.args in
+    same_list (byte_bytes a.mode a.pen a.b false (sym c.if-is_guarded.false ∙ c.before.is_guarded.ensures)) (begin _ _ _ at_start.requires)
 
 slice_write_buffer : tie.Need-bounds-buffer-at
 slice_write_buffer c = next_lies (guarded c)
@@ -34,7 +36,8 @@ slice_write_buffer_2 c = next_lies (put (guarded c))
 returns : tie.Need-returns-then-is_guarded
 unfolding ends_ff
 returns c =
-    let a = c.before.before.before.args in
+    let at_start = c.before.before.before in
+    let a = at_start.args in
     pen_put a.mode a.pen (a.b ∷ []) a.buffer.now (done refl (put (put (guarded c)))) refl
 
 slice_write_buffer_3 : tie.Need-bounds-buffer-at-2
@@ -43,7 +46,8 @@ slice_write_buffer_3 c = next_lies (plain c)
 returns_2 : tie.Need-returns
 unfolding ends_ff
 returns_2 c =
-    let a = c.before.before.before.args in
+    let at_start = c.before.before.before in
+    let a = at_start.args in
     pen_put a.mode a.pen (a.b ∷ []) a.buffer.now (done refl (put (plain c))) refl
 
 pub put_byte_spec : {M : Type 1} → statement M

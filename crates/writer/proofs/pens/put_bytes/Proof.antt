@@ -7,18 +7,24 @@ use Rattle.writer.proofs.pens.put_bytes.Tie as tie
 
 add_t13 : tie.Need-overflow_add-result
 add_t13 c =
-    let a = c.before.before.before.before.before.before.before.args in
-    omega (arith, count_put a.mode a.pen a.s.now a.buffer.now c.before.before.before.before.before.before.before.requires c.before.before.before.unsync_into-put.ensures c.in-Bytes.is, c.before.before.before.before.before.before.before.requires)
+    let at_unsync_into_put = c.before.before.before in
+    let at_start = at_unsync_into_put.before.before.before.before in
+    let a = at_start.args in
+    omega (arith, count_put a.mode a.pen a.s.now a.buffer.now at_start.requires at_unsync_into_put.unsync_into-put.ensures c.in-Bytes.is, at_start.requires)
 
 returns : tie.Need-returns-in-Bytes
 returns c =
-    let a = c.before.before.before.before.before.before.before.before.args in
-    bytes_put a.mode a.pen a.s.now a.buffer.now c.before.before.before.before.before.before.before.before.requires c.before.before.before.before.unsync_into-put.ensures c.before.in-Bytes.is c.ends_ff.ensures
+    let at_unsync_into_put = c.before.before.before.before in
+    let at_start = at_unsync_into_put.before.before.before.before in
+    let a = at_start.args in
+    bytes_put a.mode a.pen a.s.now a.buffer.now at_start.requires at_unsync_into_put.unsync_into-put.ensures c.before.in-Bytes.is c.ends_ff.ensures
 
 returns_2 : tie.Need-returns-in-Refused
 returns_2 c =
-    let a = c.before.before.before.before.before.before.before.args in
-    absurd (not_refused a.mode a.pen a.s.now a.buffer.now c.before.before.before.before.before.before.before.requires c.before.before.before.unsync_into-put.ensures c.in-Refused.is)
+    let at_unsync_into_put = c.before.before.before in
+    let at_start = at_unsync_into_put.before.before.before.before in
+    let a = at_start.args in
+    absurd (not_refused a.mode a.pen a.s.now a.buffer.now at_start.requires at_unsync_into_put.unsync_into-put.ensures c.in-Refused.is)
 
 pub put_bytes_spec : {M : Type 1} → statement M
 put_bytes_spec =

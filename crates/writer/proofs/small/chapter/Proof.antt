@@ -9,7 +9,10 @@ use Rattle.writer.proofs.small.chapter.Tie as tie
 returns : tie.Need-returns
 unfolding digits
 returns c =
-    rw (c.before.put_digits-4.ensures, c.before.before.before.before.put_digits-3.ensures, c.before.before.before.before.before.before.before.put_digits-2.ensures, c.before.before.before.before.before.before.before.before.before.before.put_digits.ensures) (record { is = refl; fits = omega arith })
+    let at_put_digits_3 = c.before.before.before.before in
+    let at_put_digits_2 = at_put_digits_3.before.before.before in
+    let at_put_digits = at_put_digits_2.before.before.before in
+    rw (c.before.put_digits-4.ensures, at_put_digits_3.put_digits-3.ensures, at_put_digits_2.put_digits-2.ensures, at_put_digits.put_digits.ensures) (record { is = refl; fits = omega arith })
 
 pub chapter_spec : {M : Type 1} → statement M
 chapter_spec =

@@ -10,13 +10,15 @@ use Rattle.writer.proofs.small.popularimeter.Tie as tie
 
 add_t10 : tie.Need-overflow_add-result
 add_t10 c =
-    omega (arith, c.before.put_counter-count.ensures.0, counter_small c.before.before.before.args.counter c.before.before.before.ranges.counter.fits)
+    let at_start = c.before.before.before in
+    omega (arith, c.before.put_counter-count.ensures.0, counter_small at_start.args.counter at_start.ranges.counter.fits)
 
 returns : tie.Need-returns
 returns c =
+    let at_start = c.before.before.before in
     let e = c.before.put_counter-count.ensures in
-    let h = counter_small c.before.before.before.args.counter c.before.before.before.ranges.counter.fits in
-    holds (0 ∷ c.before.before.before.args.rating ∷ counter_bytes c.before.before.before.args.counter) e.1 (omega (arith, e.0)) (omega arith)
+    let h = counter_small at_start.args.counter at_start.ranges.counter.fits in
+    holds (0 ∷ at_start.args.rating ∷ counter_bytes at_start.args.counter) e.1 (omega (arith, e.0)) (omega arith)
 
 pub popularimeter_spec : {M : Type 1} → statement M
 popularimeter_spec =
