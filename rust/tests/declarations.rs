@@ -185,7 +185,8 @@ fn constants_in_c(header: &str) -> Constants {
     with_number.collect()
 }
 
-/// `/// text` and in the next line `pub const SV_X: u32 = 1;`, or `// text` and `pub const X: u8 = 1;`
+/// `/// text` and in the next line `pub const SV_X: u32 = 1;`, or `// text` and `pub const X: u64 = 1;` or
+/// `pub const X: Refusal = Refusal { number: 1 };`
 fn constants_after(text: &str, prefix: &str, comment: &str) -> Constants {
     let mut constants = Constants::new();
     let mut above = "";
@@ -193,7 +194,8 @@ fn constants_after(text: &str, prefix: &str, comment: &str) -> Constants {
         if let Some(item) = line.strip_prefix(prefix) {
             let (name, rest) = item.split_once(':').unwrap();
             let (_, number) = rest.split_once('=').unwrap();
-            if let Ok(number) = number.trim().trim_end_matches(';').parse() {
+            let number = number.trim().trim_start_matches("Refusal { number: ").trim_end_matches(';');
+            if let Ok(number) = number.trim_end_matches(" }").parse() {
                 constants.insert(name.to_string(), (number, above.to_string()));
             }
         }

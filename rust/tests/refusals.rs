@@ -40,12 +40,12 @@ fn in_c() -> Named {
     named.collect()
 }
 
-/// `pub const NAME: u8 = 1;`
+/// `pub const NAME: Refusal = Refusal { number: 1 };`
 fn in_the_library() -> BTreeMap<String, u32> {
     let source = text("crates/format/src/refusals.rt");
     let lines = source.lines().filter_map(|line| line.strip_prefix("pub const "));
     let named = lines.map(|line| {
-        let (name, number) = line.strip_suffix(';').unwrap().split_once(": u8 = ").unwrap();
+        let (name, number) = line.strip_suffix(" };").unwrap().split_once(": Refusal = Refusal { number: ").unwrap();
         (name.to_string(), number.parse().unwrap())
     });
     named.collect()

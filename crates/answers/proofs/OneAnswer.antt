@@ -28,23 +28,8 @@ alike p q f = ap f (p ∙ sym q)
 pub class_one : OneAnswer format.specs.contracts.classes.class.ended format.proofs.classes.class.Reads.Learnt
 class_one κs a x y v w p q = alike p q λ o. (o, v)
 
-pub least_one : OneAnswer format.specs.contracts.small.least.ended format.proofs.small.least.Reads.Learnt
-least_one κs a x y v w p q = alike p q λ o. (o, v)
-
-pub beyond_one : OneAnswer format.specs.contracts.small.beyond.ended format.proofs.small.beyond.Reads.Learnt
-beyond_one κs a x y v w p q = alike p q λ o. (o, v)
-
 pub has_one : OneAnswer format.specs.contracts.small.has.ended format.proofs.small.has.Reads.Learnt
 has_one κs a x y v w p q = alike p q λ o. (o, v)
-
-pub wide_one : OneAnswer format.specs.contracts.small.wide.ended format.proofs.small.wide.Reads.Learnt
-wide_one κs a x y v w p q = alike p.0 q.0 λ o. (o, v)
-
-pub wide64_one : OneAnswer format.specs.contracts.small.wide64.ended format.proofs.small.wide64.Reads.Learnt
-wide64_one κs a x y v w p q = alike p.0 q.0 λ o. (o, v)
-
-pub half_one : OneAnswer format.specs.contracts.small.half.ended format.proofs.small.half.Reads.Learnt
-half_one κs a x y v w p q = alike p.0 q.0 λ o. (o, v)
 
 pub zeros_in_one : OneAnswer format.specs.contracts.small.zeros_in.ended format.proofs.small.zeros_in.Reads.Learnt
 zeros_in_one κs a x y v w p q = alike p q λ o. (o, v)
@@ -55,20 +40,20 @@ version_of_one κs a x y v w p q = alike p q λ o. (o, v)
 pub is_version_one : OneAnswer format.specs.contracts.numbered.is_version.ended format.proofs.numbered.is_version.Reads.Learnt
 is_version_one κs a x y v w p q = alike p q λ o. (o, v)
 
-pub version_number_one : OneAnswer format.specs.contracts.numbered.version_number.ended format.proofs.numbered.version_number.Reads.Learnt
-version_number_one κs a x y v w p q = alike p q λ o. (o, v)
-
 pub head_len_one : OneAnswer format.specs.contracts.numbered.head_len.ended format.proofs.numbered.head_len.Reads.Learnt
 head_len_one κs a x y v w p q = alike p.0 q.0 λ o. (o, v)
 
-pub mode_of_one : OneAnswer format.specs.contracts.numbered.mode_of.ended format.proofs.numbered.mode_of.Reads.Learnt
-mode_of_one κs a x y v w p q = alike p q λ o. (o, v)
+pub version_try_from_one : OneAnswer format.specs.contracts.numbered.VersionTryFromU64.try_from.ended format.proofs.numbered.VersionTryFromU64.try_from.Reads.Learnt
+version_try_from_one κs a x y v w p q = alike p q λ o. (o, v)
 
-pub is_mode_one : OneAnswer format.specs.contracts.numbered.is_mode.ended format.proofs.numbered.is_mode.Reads.Learnt
-is_mode_one κs a x y v w p q = alike p q λ o. (o, v)
+pub version_u8_from_one : OneAnswer format.specs.contracts.numbered.U8FromVersion.from.ended format.proofs.numbered.U8FromVersion.from.Reads.Learnt
+version_u8_from_one κs a x y v w p q = alike p q λ o. (o, v)
 
-pub mode_number_one : OneAnswer format.specs.contracts.numbered.mode_number.ended format.proofs.numbered.mode_number.Reads.Learnt
-mode_number_one κs a x y v w p q = alike p q λ o. (o, v)
+pub mode_try_from_one : OneAnswer format.specs.contracts.numbered.ModeTryFromU64.try_from.ended format.proofs.numbered.ModeTryFromU64.try_from.Reads.Learnt
+mode_try_from_one κs a x y v w p q = alike p q λ o. (o, v)
+
+pub mode_u8_from_one : OneAnswer format.specs.contracts.numbered.U8FromMode.from.ended format.proofs.numbered.U8FromMode.from.Reads.Learnt
+mode_u8_from_one κs a x y v w p q = alike p q λ o. (o, v)
 
 -- ---- loads
 
@@ -190,7 +175,7 @@ pub open_one : OneAnswer reader.specs.contracts.opening.open.ended reader.proofs
 open_one κs a x y v w p q = alike p q λ o. (o.0, (o.1, v.1))
 
 pub step_one : OneAnswer reader.specs.contracts.Reader.step.ended reader.proofs.Reader.step.Reads.Learnt
-step_one κs a x y v w p q = alike p q λ o. (o.0, (v.0, (o.1, v.1.1)))
+step_one κs a x y v w p q = alike p q λ o. (o.0.0, (o.0.1, (o.1, v.1.1)))
 
 -- ---- meter
 
@@ -198,7 +183,7 @@ pub meter_open_one : OneAnswer meter.specs.contracts.opening.open.ended meter.pr
 meter_open_one κs a x y v w p q = alike p q λ o. (o.0, (o.1, v.1))
 
 pub next_one : OneAnswer meter.specs.contracts.Meter.next.ended meter.proofs.Meter.next.Reads.Learnt
-next_one κs a x y v w p q = alike p q λ o. (o.0, (v.0, (o.1, v.1.1)))
+next_one κs a x y v w p q = alike p q λ o. (o.0.0, (o.0.1, (o.1, v.1.1)))
 
 -- ---- checks
 
@@ -220,7 +205,7 @@ pub begin_plain_one : OneAnswer writer.specs.contracts.begin.begin_plain.ended w
 begin_plain_one κs a x y v w p q = alike p q λ o. (o, v)
 
 pub add_one : OneAnswer writer.specs.contracts.Writer.add.ended writer.proofs.Writer.add.Reads.Learnt
-add_one κs a x y v w p q = alike p.0 q.0 λ o. (o.0, (v.0, (o.1, v.1.1)))
+add_one κs a x y v w p q = alike p.0 q.0 λ o. (o.0.0, (o.0.1, (o.1, v.1.1)))
 
 pub finish_one : OneAnswer writer.specs.contracts.Writer.finish.ended writer.proofs.Writer.finish.Reads.Learnt
 finish_one κs a x y v w p q = alike p q λ o. (o.0, (v.0, (o.1, v.1.1)))

@@ -1,42 +1,11 @@
 // Writing a tag of one record.
 ghost use Rattle.std.specs.Prelude.{◌≡◌};
-ghost use Rattle.format.specs.Record.{rec_of};
-ghost use Rattle.writer.specs.Writer.{add_of};
-ghost use Rattle.back.specs.Trips.{on_added, write_of, FitsIn};
+ghost use Rattle.format.specs.Record.{given_rec};
+ghost use Rattle.back.specs.Trips.{write_of, FitsIn};
 
-use crate::Wrote;
-use format::Heading;
+use format::refusals::Refusal;
+use format::{Given, Heading};
 use writer::begin::begin;
-use writer::{Added, Begun, Finished, Writer};
-
-// Adds the record to a writer and finishes.
-fn add_one(
-    buffer: &mut [u8],
-    output: &mut [u8],
-    writer: Writer,
-    padding: usize,
-    heading: Heading,
-    name: &[u8],
-    names: &[u8],
-    rest: &[u8],
-    deviations: &[u32],
-) -> Wrote
-    ensures output_after { let o = add_of writer (rec_of heading name.now names.now rest.now deviations.now) buffer.old in
-        (result, (buffer.new, output.new)) ≡ on_added padding output.old o.0 o.1 }
-    ensures fits_in { FitsIn result (rec_of heading name.now names.now rest.now deviations.now) }
-{
-    let added = writer.add(buffer, heading, name, names, rest, deviations);
-    match added {
-        Added::Accepted(_, next) => {
-            let finished = next.finish(output, &buffer[..], padding);
-            match finished {
-                Finished::Done(n, _) => Wrote::Tag(n),
-                Finished::Refused(k, _) => Wrote::Refused(k),
-            }
-        }
-        Added::Refused(k, _) => Wrote::Refused(k),
-    }
-}
 
 // Begins a writer with the altered mark off, adds the record and finishes.
 pub(crate) fn write_one(
@@ -46,20 +15,13 @@ pub(crate) fn write_one(
     mode: u8,
     padding: usize,
     heading: Heading,
-    name: &[u8],
-    names: &[u8],
-    rest: &[u8],
-    deviations: &[u32],
-) -> Wrote
-    ensures output_after { let r = rec_of heading name.now names.now rest.now deviations.now in
+    given: &Given<'_>,
+) -> Result<usize, Refusal>
+    ensures output_after { let r = given_rec heading given.now in
         (result, (buffer.new, output.new)) ≡ write_of version mode padding r buffer.old output.old }
-    ensures fits_in { FitsIn result (rec_of heading name.now names.now rest.now deviations.now) }
+    ensures fits_in { FitsIn result (given_rec heading given.now) }
 {
-    let begun = begin(version, mode, false);
-    match begun {
-        Begun::Ready(writer) => add_one(
-            buffer, output, writer, padding, heading, name, names, rest, deviations,
-        ),
-        Begun::Refused(k) => Wrote::Refused(k),
-    }
+    let mut writer = begin(version, mode, false)?;
+    writer.add(buffer, heading, given)?;
+    writer.finish(output, &buffer[..], padding)
 }

@@ -21,6 +21,9 @@ use Rattle.blocks.proofs.Reading.{room_of, work_then, go_on, first_read, end_rea
 use Rattle.blocks.proofs.Regions.{source_then, steps_all, tag_read}
 use Rattle.blocks.proofs.Opens.{opened}
 use Rattle.blocks.proofs.CutUp.{any_read, any_tail}
+use Rattle.std.specs.Prelude.{Result, Option, Ok, Err, Some, None}
+use Rattle.format.specs.declared.refusals.Refusal.{Refusal}
+use Rattle.format.specs.Refusals.{refusal}
 
 -- ---- two readers with the same bytes before them and the same room
 
@@ -47,14 +50,14 @@ module _ (v : Version) (w : Bool) (tag tag' : List ℕ) (begin end begin' end' :
         ∙ sym (slice_drop at' k end' (source w tag' work'))
         ∙ ap (slice (at' + k) end') (sym (source_then w tag' work' left))
 
-    by_head : (x : Head) → head_of v 1 s ≡ x
+    by_head : (x : Result (Option Head) Refusal) → head_of v 1 s ≡ x
         → read_from (suc n) tag (reader v w begin at end) work ≡ read_from (suc n) tag' (reader v w begin' at' end') work'
-    by_head Head.Nothing e =
+    by_head (Ok None) e =
         end_read v n begin at end tag work w e ∙ sym (end_read v n begin' at' end' tag' work' w (sym (ap (head_of v 1) bytes) ∙ e))
-    by_head (Head.Refused k) e =
+    by_head (Err k) e =
         refused_read v n begin at end tag work w e ∙ sym (refused_read v n begin' at' end' tag' work' w (sym (ap (head_of v 1) bytes) ∙ e))
-    by_head (Head.Found id c f short start len) e =
-        let k = start + len in
+    by_head (Ok (Some h)) e =
+        let k = h.start + h.len in
         let x = sight_of v s (room_of w work) in
         let g = go_on n tag (reader v w begin (at + k) end) work in
         let g' = go_on n tag' (reader v w begin' (at' + k) end') work' in
@@ -98,10 +101,10 @@ any_reads tag work o =
           ∙ ap (read_blocks v bs after) p.kept),
     )
 
-head_refused : (x : Head) (k : ℕ) → head_number x ≡ suc k → x ≡ Head.Refused (suc k)
-head_refused Head.Nothing k e = absurd (omega arith)
-head_refused (Head.Refused j) k e = ap Head.Refused e
-head_refused (Head.Found id c f short start len) k e = absurd (omega arith)
+head_refused : (x : Result (Option Head) Refusal) (k : ℕ) → head_number x ≡ suc k → x ≡ Err (refusal (suc k))
+head_refused (Ok None) k e = absurd (omega arith)
+head_refused (Err j) k e = ap {B = Result (Option Head) Refusal} (λ (n : ℕ). Err (refusal n)) e
+head_refused (Ok (Some h)) k e = absurd (omega arith)
 
 pub stops_at : StopsAt
 stops_at tag work bs rest k o whole is number =

@@ -19,7 +19,6 @@ use Rattle.format.proofs.Checks.{of_picked, none_of, first_stops}
 use Rattle.format.proofs.Fronts.{front_take}
 use Rattle.format.proofs.Tags.{tag_headed}
 use Rattle.reader.specs.Reader.{reader_at, open_whole, open_of}
-use Rattle.reader.specs.declared.Opened.{Opened}
 use Rattle.promises.specs.Reading.{unfinished, read_from, on_open, read_for, read_all}
 use Rattle.promises.specs.Written.{kept_of}
 use Rattle.promises.specs.Promises.{frames_of}
@@ -32,19 +31,23 @@ use Rattle.blocks.specs.Promises.{Followed, WrittenFollowed}
 use Rattle.blocks.proofs.Headers.{same_edition, same_flags, same_version, same_whole, same_size, same_extended}
 use Rattle.blocks.proofs.Regions.{more_steps}
 use Rattle.blocks.proofs.Anywhere.{same_read}
+use Rattle.std.specs.Prelude.{Result, Ok, Err}
+use Rattle.format.specs.declared.refusals.Refusal.{Refusal}
+use Rattle.format.specs.Refusals.{refusal}
+use Rattle.reader.specs.declared.Reader.{Reader}
 
 -- opening by what the header says
-abbrev open_by : ℕ → Bool → Version → ℕ → ℕ → List ℕ → List ℕ → Opened × List ℕ
+abbrev open_by : ℕ → Bool → Version → ℕ → ℕ → List ℕ → List ℕ → Result Reader Refusal × List ℕ
 open_by k whole v start end region work =
-    pick (not (eqb k 0)) (Opened.Refused k, work)
-    (pick whole (open_whole v (resynchronised region) work) (Opened.Ready (reader_at v false start end), work))
+    pick (not (eqb k 0)) (Err (refusal k), work)
+    (pick whole (open_whole v (resynchronised region) work) (Ok (reader_at v false start end), work))
 
 -- a header that is refused
-opens_not : (tag work : List ℕ) → (header_refusal tag ≡ 0 → ⊥) → open_of tag work ≡ (Opened.Refused (header_refusal tag), work)
+opens_not : (tag work : List ℕ) → (header_refusal tag ≡ 0 → ⊥) → open_of tag work ≡ (Err (refusal (header_refusal tag)), work)
 unfolding open_of
 opens_not tag work ne = by_header _ (eqb (header_refusal tag) 0) refl
   where
-    by_header : (o : Opened × List ℕ) (t : Bool) → eqb (header_refusal tag) 0 ≡ t → pick (not t) (Opened.Refused (header_refusal tag), work) o ≡ (Opened.Refused (header_refusal tag), work)
+    by_header : (o : Result Reader Refusal × List ℕ) (t : Bool) → eqb (header_refusal tag) 0 ≡ t → pick (not t) (Err (refusal (header_refusal tag)), work) o ≡ (Err (refusal (header_refusal tag)), work)
     by_header o true e = absurd (ne (eqb-true (header_refusal tag) 0 e))
     by_header o false e = refl
 
@@ -142,7 +145,7 @@ module _ (tag more work : List ℕ) (there : 10 + size_of tag ≤ length tag) wh
     refused_open : open_of longer work ≡ open_of tag work
     refused_open =
         opens_not longer work (λ z. five_stop (sym longer_stops ∙ z))
-        ∙ ap {B = Opened × List ℕ} (λ (k : ℕ). (Opened.Refused k, work)) (longer_stops ∙ sym tag_stops)
+        ∙ ap {B = Result Reader Refusal × List ℕ} (λ (k : ℕ). (Err (refusal k), work)) (longer_stops ∙ sym tag_stops)
         ∙ sym (opens_not tag work (λ z. five_stop (sym tag_stops ∙ z)))
 
   -- Both are opened alike.
@@ -162,11 +165,11 @@ module _ (tag more work : List ℕ) (there : 10 + size_of tag ≤ length tag) wh
   -- ---- reading
 
   -- what was opened reads the same in both
-  abbrev Follows : Opened × List ℕ → Type 0
+  abbrev Follows : Result Reader Refusal × List ℕ → Type 0
   Follows o = ((on_open (length tag) tag o.0 o.1).1 ≡ unfinished → ⊥) → on_open (length longer) longer o.0 o.1 ≡ on_open (length tag) tag o.0 o.1
 
   ready_follows : (v : Version) (w : Bool) (begin end : ℕ) (left : List ℕ) → slice begin end (source w longer left) ≡ slice begin end (source w tag left)
-      → Follows (Opened.Ready (reader_at v w begin end), left)
+      → Follows (Ok (reader_at v w begin end), left)
   ready_follows v w begin end left e finishing =
       ap (λ (k : ℕ). read_from k longer (reader v w begin begin end) left) (length-append tag more)
       ∙ same_read v w longer tag begin end begin end (length tag + length more) begin begin left left e refl
@@ -184,7 +187,7 @@ module _ (tag more work : List ℕ) (there : 10 + size_of tag ≤ length tag) wh
 
   reads_same : read_all longer work ≡ read_all tag work
   unfolding read_for
-  reads_same = ap (λ (o : Opened × List ℕ). on_open (length longer) longer o.0 o.1) same_open ∙ open_follows (finishes tag work)
+  reads_same = ap (λ (o : Result Reader Refusal × List ℕ). on_open (length longer) longer o.0 o.1) same_open ∙ open_follows (finishes tag work)
 
 -- ---- the promises
 

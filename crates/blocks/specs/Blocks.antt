@@ -1,15 +1,15 @@
 -- The frames of a region as blocks of bytes, one after the other, and what follows them. Assumes nothing.
-use Rattle.std.specs.Prelude.{◌≡◌, ℕ, zero, suc, ◌+◌, ◌-◌, ◌≤◌, Bool, true, false, List, [], ◌∷◌, ◌++◌, length, take, drop, eqb}
+use Rattle.std.specs.Prelude.{◌≡◌, ℕ, zero, suc, ◌+◌, ◌-◌, ◌≤◌, Bool, true, false, List, [], ◌∷◌, ◌++◌, length, take, drop, eqb, Result, Option, Ok, Err, Some, None}
 use Rattle.format.specs.Bytes.{pick, zeros}
 use Rattle.format.specs.Header.{edition_of, version_of, size_of, is_whole, is_extended, header_refusal}
-use Rattle.format.specs.Frame.{head_of, is_end}
+use Rattle.format.specs.Frame.{head_of, is_end, head}
 use Rattle.format.specs.Record.{Rec, run_of}
-use Rattle.format.specs.Walk.{is_resynced, shown_kind, frame_of}
+use Rattle.format.specs.Walk.{is_resynced, shown_kind, frame_of, Shown}
 use Rattle.format.specs.Answers.{shown_number, shown_view}
 use Rattle.format.specs.declared.Version.{Version}
 use Rattle.format.specs.declared.Head.{Head}
-use Rattle.format.specs.declared.Shown.{Shown}
 use Rattle.promises.specs.Reading.{Reading, and_record, ended, refused}
+use Rattle.format.specs.declared.refusals.Refusal.{Refusal}
 
 -- ---- a block
 
@@ -20,15 +20,14 @@ pub record Block (v : Version) (b : List ℕ) : Type 0 where
   pub flagged : Bool
   pub start : ℕ
   pub len : ℕ
-  pub head : head_of v 1 b ≡ Head.Found id compressed flagged false start len
+  pub head : head_of v 1 b ≡ Ok (Some (head id compressed flagged false start len))
   pub ends : start + len ≡ length b
 
 -- How many bytes the frame takes that a header found, if it is there whole; 0 where there is none.
-abbrev pub block_len : Head → ℕ
-block_len Head.Nothing = 0
-block_len (Head.Refused k) = 0
-block_len (Head.Found id compressed flagged true start len) = 0
-block_len (Head.Found id compressed flagged false start len) = start + len
+abbrev pub block_len : Result (Option Head) Refusal → ℕ
+block_len (Ok None) = 0
+block_len (Err k) = 0
+block_len (Ok (Some h)) = pick h.short 0 (h.start + h.len)
 
 -- No whole frame begins here: the end, a refusal, or a short frame, which takes all that is left.
 abbrev pub NoBlock : Version → List ℕ → Type 0
@@ -104,9 +103,9 @@ Shows v n b r = (room : List ℕ) → n ≤ length room → ((sight_of v b room)
 
 -- No frame of these bytes, and none in the runs inside them, is resynchronised by itself.
 pub data Unresynced (v : Version) : ℕ → List ℕ → Type 0 where
-  ends : {depth : ℕ} {s : List ℕ} → head_of v depth s ≡ Head.Nothing → Unresynced v depth s
-  stops : {depth k : ℕ} {s : List ℕ} → head_of v depth s ≡ Head.Refused k → Unresynced v depth s
-  frame : {depth id start len : ℕ} {compressed flagged short : Bool} {s : List ℕ} → head_of v depth s ≡ Head.Found id compressed flagged short start len
+  ends : {depth : ℕ} {s : List ℕ} → head_of v depth s ≡ Ok None → Unresynced v depth s
+  stops : {depth : ℕ} {k : Refusal} {s : List ℕ} → head_of v depth s ≡ Err k → Unresynced v depth s
+  frame : {depth id start len : ℕ} {compressed flagged short : Bool} {s : List ℕ} → head_of v depth s ≡ Ok (Some (head id compressed flagged short start len))
       → is_resynced compressed flagged ≡ false → Unresynced v (depth + 1) (run_of (shown_kind v id compressed) (take len (drop start s)))
       → Unresynced v depth (drop (start + len) s) → Unresynced v depth s
 

@@ -22,12 +22,9 @@ use Rattle.reader.specs.declared.Reader.{Reader}
 use Rattle.meter.specs.declared.Meter.{Meter}
 use Rattle.meter.specs.declared.Metered.{Metered}
 use Rattle.writer.specs.declared.Writer.{Writer}
-use Rattle.capi.specs.declared.words.GivenReader.{GivenReader}
-use Rattle.capi.specs.declared.words.GivenWriter.{GivenWriter}
-use Rattle.capi.specs.declared.records.GivenFields.{GivenFields}
-use Rattle.capi.specs.declared.records.GivenHeading.{GivenHeading}
 use Rattle.capi.specs.Words.{word, flag, is_flag, stop_number, failure, is_stop, stop_of, reader_list, reader_words, reader_of, header_words, writer_list, writer_words, writer_of, numbers_of, heading_list, place_list, record_words, cap8, cap32, fields_of, is_mark, heading_of, StopFits, FieldsFit, HeadingFits}
 use Rattle.capi.specs.Meters.{meter_list, meter_words, meter_of, metered_words}
+use Rattle.std.specs.Prelude.{Some}
 
 -- ---- words
 
@@ -80,7 +77,7 @@ mode_back Mode.Standard = refl
 stop_known : (s : Stop) → StopFits s → is_stop (stop_number s) (failure s) ≡ true
 stop_known Stop.Running fits = refl
 stop_known Stop.Ended fits = refl
-stop_known (Stop.Failed k) fits = rw (le-leb 1 k fits.0, le-leb k 255 fits.1)
+stop_known (Stop.Failed k) fits = rw (le-leb 1 k.number fits.0, le-leb k.number 255 fits.1)
 
 stop_back : (s : Stop) → stop_of (stop_number s) (failure s) ≡ s
 stop_back Stop.Running = refl
@@ -93,7 +90,7 @@ fits_8 n h = min-eq_left (omega arith)
 fits_32 : (n : ℕ) → n < 2 ^ 32 → cap32 n ≡ n
 fits_32 n h = min-eq_left (omega arith)
 
-fields_back : (f : Fields) → FieldsFit f → fields_of (numbers_of f).kind (numbers_of f).a (numbers_of f).b (numbers_of f).c (numbers_of f).d (numbers_of f).e ≡ GivenFields.Good f
+fields_back : (f : Fields) → FieldsFit f → fields_of (numbers_of f).kind (numbers_of f).a (numbers_of f).b (numbers_of f).c (numbers_of f).d (numbers_of f).e ≡ Some f
 unfolding fields_of
 fields_back (Fields.Text e) fits = rw (fits_8 e fits)
 fields_back (Fields.Popularimeter r c) fits = rw (lt-ltb r 256 fits)
@@ -104,7 +101,7 @@ fields_back Fields.Raw fits = refl
 
 -- ---- readers, meters, writers and headings
 
-pub reader_back : (r : Reader) (words : List ℕ) → 7 ≤ length words → StopFits r.stop → reader_of (reader_words r words) ≡ GivenReader.Good r
+pub reader_back : (r : Reader) (words : List ℕ) → 7 ≤ length words → StopFits r.stop → reader_of (reader_words r words) ≡ Some r
 unfolding reader_of reader_words
 reader_back r words h fits =
     let word_at : (i : ℕ) → i < 7 → word i (sets words 0 (reader_list r)) ≡ get_or (reader_list r) i 0 = λ i k. stored words (reader_list r) i k h in
@@ -154,7 +151,7 @@ meter_back m words h fits =
       flag_back m.missing,
     )
 
-pub writer_back : (w : Writer) (words : List ℕ) → 4 ≤ length words → writer_of (writer_words w words) ≡ GivenWriter.Good w
+pub writer_back : (w : Writer) (words : List ℕ) → 4 ≤ length words → writer_of (writer_words w words) ≡ Some w
 unfolding writer_of writer_words
 writer_back w words h =
     let word_at : (i : ℕ) → i < 4 → word i (sets words 0 (writer_list w)) ≡ get_or (writer_list w) i 0 = λ i k. stored words (writer_list w) i k h in
@@ -172,7 +169,7 @@ writer_back w words h =
     )
 
 -- what a step stores as a record, adding takes for the same heading
-pub heading_back : (r : Record) (words : List ℕ) → 19 ≤ length words → HeadingFits r.heading → heading_of (record_words r words) ≡ GivenHeading.Good r.heading
+pub heading_back : (r : Record) (words : List ℕ) → 19 ≤ length words → HeadingFits r.heading → heading_of (record_words r words) ≡ Some r.heading
 unfolding heading_of record_words
 heading_back r words h fits =
     let l = heading_list r.heading ++ place_list r in

@@ -7,50 +7,50 @@ use mathlib.Core.List.{List, [], ◌∷◌}
 use lib.ListN.{length, set, drop}
 use lib.Seq.{sets, drop-cons}
 use lib.Dec.{leb, ltb, eqb}
-use borrow.Author.Tests.{le-ltb, lt-ltb, leb-true, eqb-true, eqb-false, ne_eqb, lt-leb}
+use borrow.Author.Tests.{le-ltb, leb-true, eqb-true, eqb-false, ne_eqb, lt-leb}
 use Rattle.laws.proofs.Bools.{and_true, false_not_true}
+use Rattle.laws.proofs.Results.{ok_same, ok_not_err, err_not_ok}
 use Rattle.format.proofs.Checks.{of_picked}
 use Rattle.format.specs.Bytes.{pick}
 use Rattle.format.specs.Unsynch.{resynchronised}
 use Rattle.format.specs.Header.{version_of, is_whole, header_refusal, region_of}
-use Rattle.format.specs.Numbered.{is_version, version_number}
+use Rattle.format.specs.Numbered.{is_version, version_number, version_said}
 use Rattle.format.specs.declared.Version.{Version}
 use Rattle.reader.specs.Reader.{stopped_as, open_whole, open_of}
 use Rattle.reader.specs.declared.Stop.{Stop}
-use Rattle.reader.specs.declared.Opened.{Opened}
-use Rattle.meter.specs.Meter.{is_missing, meter_at, opened_as, meter_open_of, Nexted, next_of}
+use Rattle.meter.specs.Meter.{is_missing, meter_at, opened_as, meter_open_of, Nexted, next_of, Next}
 use Rattle.meter.specs.Meets.{moved_as}
 use Rattle.meter.specs.declared.Meter.{Meter}
-use Rattle.meter.specs.declared.MeterOpened.{MeterOpened}
-use Rattle.meter.specs.declared.Next.{Next}
 use Rattle.meter.proofs.Meets.{next_ended, next_failed}
 use Rattle.meter.proofs.Keeps.{Goes, next_goes}
-use Rattle.capi.specs.declared.meters.GivenVersion.{GivenVersion}
 use Rattle.capi.specs.Words.{word, is_flag, stop_number, failure, is_stop, stop_of, is_reader}
 use Rattle.capi.specs.Calls.{short, Left2, Left3}
 use Rattle.capi.specs.Meters.{meter_words, is_meter, meter_with, meter_of, sv_meter_open, after_next, next_with, sv_meter_next}
-use Rattle.capi.proofs.Loads.{number_small}
 use Rattle.capi.proofs.Left.{enough2}
 use Rattle.capi.proofs.Backs.{flag_same}
-use Rattle.capi.specs.Metering.{opened_words, is_running, version_in, stopped_of, moved_words, answered_of}
+use Rattle.capi.specs.Metering.{opened_words, is_running, stopped_of, moved_words, answered_of}
+use Rattle.std.specs.Prelude.{Result, Ok, Err, Some, None}
+use Rattle.format.specs.declared.refusals.Refusal.{Refusal}
+use Rattle.format.specs.Refusals.{refusal}
+use Rattle.reader.specs.declared.Reader.{Reader}
 
 -- ---- single words say what they are
 
 -- the edition that a number says
 
-pub bad_version : (n : ℕ) → version_in n ≡ GivenVersion.Bad → is_version n ≡ false
-bad_version n e = false_where_bad (is_version n) e
+bad_version : (n : ℕ) {k : Refusal} → version_said n ≡ Err k → is_version n ≡ false
+bad_version n {k} e = false_where_bad (is_version n) e
   where
-    false_where_bad : (t : Bool) → pick t (GivenVersion.Good (version_of n)) GivenVersion.Bad ≡ GivenVersion.Bad → t ≡ false
-    false_where_bad true k = absurd (let z : ◌≡◌ {A = ℕ} 0 1 = cc in omega arith)
-    false_where_bad false k = refl
+    false_where_bad : (t : Bool) → pick t (Ok (version_of n)) (Err (refusal 2)) ≡ Err k → t ≡ false
+    false_where_bad true h = ok_not_err h
+    false_where_bad false h = refl
 
-pub good_version : (n : ℕ) {v : Version} → version_in n ≡ GivenVersion.Good v → (is_version n ≡ true) × (v ≡ version_of n)
+good_version : (n : ℕ) {v : Version} → version_said n ≡ Ok v → (is_version n ≡ true) × (v ≡ version_of n)
 good_version n {v} e = true_where_good (is_version n) e
   where
-    true_where_good : (t : Bool) → pick t (GivenVersion.Good (version_of n)) GivenVersion.Bad ≡ GivenVersion.Good v → (t ≡ true) × (v ≡ version_of n)
-    true_where_good true k = (refl, cc)
-    true_where_good false k = absurd (let z : ◌≡◌ {A = ℕ} 0 1 = cc in omega arith)
+    true_where_good : (t : Bool) → pick t (Ok (version_of n)) (Err (refusal 2)) ≡ Ok v → (t ≡ true) × (v ≡ version_of n)
+    true_where_good true h = (refl, sym (ok_same h))
+    true_where_good false h = err_not_ok h
 
 version_same : (n : ℕ) → is_version n ≡ true → version_number (version_of n) ≡ n
 version_same n e = same_by_tests (eqb n 2) (eqb n 3) refl refl
@@ -122,11 +122,6 @@ says_meter words e =
     let f = and_true (is_flag (word 9 words)) (is_flag (word 10 words)) d.1 in
     record { version = b.0; in_work = c.0; stop = c.1; short = d.0; compressed = f.0; missing = f.1 }
 
-pub number_fits : (words : List ℕ) → is_meter words ≡ true → word 6 words ≤ 255
-number_fits words e =
-    number_small (word 0 words) (word 1 words) (word 5 words) (word 6 words)
-    (and_true (is_reader (word 0 words) (word 1 words) (word 5 words) (word 6 words)) (is_flag (word 8 words) && (is_flag (word 9 words) && is_flag (word 10 words))) e).0
-
 abbrev meter_said : List ℕ → Meter
 meter_said words = meter_with (version_of (word 0 words)) (stop_of (word 5 words) (word 6 words)) words
 
@@ -197,10 +192,10 @@ module _ (at frames : ℕ) (short compressed : Bool) where
       (λ a b c d e f g h i j k rest r. rw (version_same a r.version, flag_same b r.in_work, flag_same k r.missing, r.number))
 
   failed_words : (n : ℕ) (words : List ℕ) → 11 ≤ length words → Runs words
-      → sets (moved_words (moved (Stop.Failed n) words) words) 5 (2 ∷ n ∷ []) ≡ meter_words (moved (Stop.Failed n) words) words
+      → sets (moved_words (moved (Stop.Failed (refusal n)) words) words) 5 (2 ∷ n ∷ []) ≡ meter_words (moved (Stop.Failed (refusal n)) words) words
   unfolding meter_words moved_words
   failed_words n =
-      of_eleven (λ words. Runs words → sets (moved_words (moved (Stop.Failed n) words) words) 5 (2 ∷ n ∷ []) ≡ meter_words (moved (Stop.Failed n) words) words)
+      of_eleven (λ words. Runs words → sets (moved_words (moved (Stop.Failed (refusal n)) words) words) 5 (2 ∷ n ∷ []) ≡ meter_words (moved (Stop.Failed (refusal n)) words) words)
       (λ a b c d e f g h i j k rest r. rw (version_same a r.version, flag_same b r.in_work, flag_same k r.missing))
 
 abbrev with_work : List ℕ → Left2 → Left3
@@ -208,41 +203,32 @@ with_work work o = (o.0, work, o.1, o.2)
 
 answered_words : (x : Next) (work meter metered : List ℕ) → 11 ≤ length meter → Runs meter → Goes (meter_running meter) x
     → with_work work (answered_of x meter metered) ≡ after_next (x, work) meter metered
-answered_words (Next.Found p m) work meter metered h r o = rw (o.same, found_words o.at o.frames o.short o.compressed meter h r)
-answered_words (Next.End m) work meter metered h r o = rw (o.same, ended_words o.at o.frames o.short o.compressed meter h r)
-answered_words (Next.Refused k m) work meter metered h r o = rw (o.same, failed_words o.at o.frames o.short o.compressed k meter h r)
+answered_words (Ok (Some p), m) work meter metered h r o = rw (o.same, found_words o.at o.frames o.short o.compressed meter h r)
+answered_words (Ok None, m) work meter metered h r o = rw (o.same, ended_words o.at o.frames o.short o.compressed meter h r)
+answered_words (Err k, m) work meter metered h r o = rw (o.same, failed_words o.at o.frames o.short o.compressed k.number meter h r)
 
 -- ---- sv_meter_open
 
 -- a meter that was opened runs, and has passed nothing
-abbrev Fresh : MeterOpened → Type 0
-Fresh (MeterOpened.Ready m) = m ≡ meter_at m.missing (stopped_as Stop.Running m.reader)
-Fresh (MeterOpened.Refused k) = Unit {0}
+abbrev Fresh : Result Meter Refusal → Type 0
+Fresh (Ok m) = m ≡ meter_at m.missing (stopped_as Stop.Running m.reader)
+Fresh (Err k) = Unit {0}
 
 fresh : (tag work : List ℕ) → Fresh (meter_open_of tag work).0
 unfolding meter_open_of open_of open_whole
 fresh tag work =
-    let P : Opened × List ℕ → Type 0 = λ o. Fresh (opened_as (is_missing tag) o.0) in
+    let P : Result Reader Refusal × List ℕ → Type 0 = λ o. Fresh (opened_as (is_missing tag) o.0) in
     let u = resynchronised (region_of tag) in
     of_picked P (not (eqb (header_refusal tag) 0)) (λ a. tt)
     (λ a. of_picked P (is_whole tag) (λ b. of_picked P (ltb (length work) (length u)) (λ d. tt) (λ d. refl)) (λ b. refl))
 
-module _ (tag work meter : List ℕ) where
-  pub open_short : length meter < 11 → sv_meter_open tag work meter ≡ (20, work, meter)
-  unfolding sv_meter_open
-  open_short h = rw (lt-ltb _ _ h)
-
-  module _ (h : 11 ≤ length meter) {answer : MeterOpened} {left : List ℕ} (e : (answer, left) ≡ meter_open_of tag work) where
-    pub open_refused : {k : ℕ} → answer ≡ MeterOpened.Refused k → sv_meter_open tag work meter ≡ (k, left, meter)
-    unfolding sv_meter_open
-    open_refused f = rw (le-ltb _ _ h, ← e, f)
-
-    pub open_ready : {m : Meter} → answer ≡ MeterOpened.Ready m → sv_meter_open tag work meter ≡ (0, left, opened_words m meter)
-    unfolding sv_meter_open meter_words opened_words
-    open_ready {m} f =
-        let g : Fresh (MeterOpened.Ready m) = subst Fresh (ap (λ (o : MeterOpened × List ℕ). o.0) (sym e) ∙ f) (fresh tag work) in
-        let w : meter_words m meter ≡ opened_words m meter = ap (λ (z : Meter). meter_words z meter) g in
-        rw (le-ltb _ _ h, ← e, f, w)
+pub open_ready : (tag work meter : List ℕ) {answer : Result Meter Refusal} {left : List ℕ} {m : Meter} → 11 ≤ length meter → (answer, left) ≡ meter_open_of tag work
+    → answer ≡ Ok m → sv_meter_open tag work meter ≡ (0, left, opened_words m meter)
+unfolding sv_meter_open meter_words opened_words
+open_ready tag work meter {m} h e is =
+    let g : Fresh (Ok m) = subst Fresh (ap (λ (o : Result Meter Refusal × List ℕ). o.0) (sym e) ∙ is) (fresh tag work) in
+    let w : meter_words m meter ≡ opened_words m meter = ap (λ (z : Meter). meter_words z meter) g in
+    rw (le-ltb _ _ h, ← e, is, w)
 
 -- ---- words that say no running meter stay as they are
 
@@ -266,7 +252,7 @@ module _ (tag work meter metered : List ℕ) (h : 11 ≤ length meter) where
   says_stopped is s false eo =
       let n = word 6 meter in
       let z : eqb (word 5 meter) 0 ≡ false = ne_eqb (word 5 meter) 0 (stopped_of_lem meter s is) in
-      stays_as (Stop.Failed n) (rw (z, eo)) s n (next_failed (meter_with (version_of (word 0 meter)) (Stop.Failed n) meter) tag work refl) refl
+      stays_as (Stop.Failed (refusal n)) (rw (z, eo)) s n (next_failed (meter_with (version_of (word 0 meter)) (Stop.Failed (refusal n)) meter) tag work refl) refl
 
   stays : is_running meter ≡ false → (t : Bool) → is_meter meter ≡ t
       → next_with (meter_of meter) tag work meter metered ≡ (pick t (pick (eqb (word 5 meter) 1) 256 (word 6 meter)) 2, work, meter, metered)
@@ -282,20 +268,23 @@ module _ (tag work meter metered : List ℕ) where
   next_short e = rw e
 
   module _ (e : (short 11 meter || short 6 metered) ≡ false) where
-    pub next_unknown : is_version (word 0 meter) ≡ false → sv_meter_next tag work meter metered ≡ (2, work, meter, metered)
+    pub next_unknown : {k : Refusal} → version_said (word 0 meter) ≡ Err k → sv_meter_next tag work meter metered ≡ (2, work, meter, metered)
     unfolding sv_meter_next meter_of
-    next_unknown v = rw (e, v)
+    next_unknown v = rw (e, bad_version (word 0 meter) v)
 
     -- a stopped meter stays stopped
     pub next_stopped : is_running meter ≡ false → sv_meter_next tag work meter metered ≡ (stopped_of meter, work, meter, metered)
     unfolding sv_meter_next
     next_stopped is = rw e (stays tag work meter metered (enough2 11 6 meter metered e).0 is (is_meter meter) refl)
 
-    pub next_then : is_version (word 0 meter) ≡ true → is_running meter ≡ true → {answer : Next} {left : List ℕ} {o : Left2} → (answer, left) ≡ next_of (meter_running meter) tag work
-        → o ≡ answered_of answer meter metered → with_work left o ≡ sv_meter_next tag work meter metered
+    pub next_then : {v : Version} → version_said (word 0 meter) ≡ Ok v → is_running meter ≡ true → {m : Meter} → m ≡ meter_with v Stop.Running meter
+        → {answer : Next} {left : List ℕ} {o : Left2} → (answer, left) ≡ next_of m tag work → o ≡ answered_of answer meter metered
+        → with_work left o ≡ sv_meter_next tag work meter metered
     unfolding sv_meter_next
-    next_then v is {answer} {left} {o} en eo =
-        let r = says_running meter v is in
+    next_then v is {m} em {answer} {left} {o} en eo =
+        let k = good_version (word 0 meter) v in
+        let r = says_running meter k.0 is in
         let h = (enough2 11 6 meter metered e).0 in
-        let g : Goes (meter_running meter) answer = subst (λ (x : Nexted). Goes (meter_running meter) x.0) (sym en) (next_goes (meter_running meter) tag work refl) in
-        ap (with_work left) eo ∙ answered_words answer left meter metered h r g ∙ rw (e, running_of meter r, ← en)
+        let en2 : ◌≡◌ {A = Nexted} (answer, left) (next_of (meter_running meter) tag work) = en ∙ ap (λ (z : Meter). next_of z tag work) (em ∙ ap (λ (z : Version). meter_with z Stop.Running meter) k.1) in
+        let g : Goes (meter_running meter) answer = subst (λ (x : Nexted). Goes (meter_running meter) x.0) (sym en2) (next_goes (meter_running meter) tag work refl) in
+        ap (with_work left) eo ∙ answered_words answer left meter metered h r g ∙ rw (e, running_of meter r, ← en2)

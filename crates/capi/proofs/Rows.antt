@@ -22,15 +22,12 @@ use Rattle.format.specs.declared.Version.TheVariants.{Id3v22, Id3v23, Id3v24}
 use Rattle.format.specs.declared.Fields.{Fields}
 use Rattle.format.specs.declared.Heading.{Heading}
 use Rattle.frame.specs.References.{unpack_of}
-use Rattle.frame.specs.declared.table.Unpacked.{Unpacked}
-use Rattle.writer.specs.Writer.{add_of}
+use Rattle.writer.specs.Writer.{add_of, Added}
 use Rattle.writer.specs.declared.Writer.{Writer}
-use Rattle.writer.specs.declared.Added.{Added}
-use Rattle.capi.specs.declared.words.GivenWriter.{GivenWriter}
-use Rattle.capi.specs.declared.records.GivenFields.{GivenFields}
-use Rattle.capi.specs.declared.records.GivenHeading.{GivenHeading}
 use Rattle.capi.specs.Words.{word, is_flag, cap8, cap32, text_if, popularimeter_if, table_if, chapter_if, contents_if, fields_of, is_mark, heading_with, heading_of, writer_of}
 use Rattle.capi.specs.Calls.{counted, after_add, sv_add, after_unpack, references_of, sv_references}
+use Rattle.std.specs.Prelude.{Result, Some, None}
+use Rattle.format.specs.declared.refusals.Refusal.{Refusal}
 
 -- ---- a record's words as they are
 
@@ -212,10 +209,10 @@ module _ (x : Writer) (id : ℕ) (is_short is_compressed : Bool) (buffer : List 
 -- ---- what the words load as
 
 fields_by : (t0 t1 t2 t3 t4 t5 : Bool) (a b c d e : ℕ)
-    → pick t0 (text_if a) (pick t1 (popularimeter_if a b) (pick t2 (table_if a b c d e) (pick t3 (chapter_if a b c d) (pick t4 (contents_if a b) (pick t5 (GivenFields.Good Fields.Raw) GivenFields.Bad)))))
+    → pick t0 (text_if a) (pick t1 (popularimeter_if a b) (pick t2 (table_if a b c d e) (pick t3 (chapter_if a b c d) (pick t4 (contents_if a b) (pick t5 (Some Fields.Raw) None)))))
     ≡ pick (pick t0 true (pick t1 (ltb a (2 ^ 8)) (pick t2 (ltb a (2 ^ 16)) (pick t3 (ltb a (2 ^ 32) && (ltb b (2 ^ 32) && (ltb c (2 ^ 32) && ltb d (2 ^ 32)))) (pick t4 (is_flag a && is_flag b) t5)))))
-    (GivenFields.Good (capped_fields (pick t0 (Fields.Text a) (pick t1 (Fields.Popularimeter a b) (pick t2 (Fields.Table a b c d e) (pick t3 (Fields.Chapter a b c d) (pick t4 (Fields.Contents (eqb a 1) (eqb b 1)) Fields.Raw)))))))
-    GivenFields.Bad
+    (Some (capped_fields (pick t0 (Fields.Text a) (pick t1 (Fields.Popularimeter a b) (pick t2 (Fields.Table a b c d e) (pick t3 (Fields.Chapter a b c d) (pick t4 (Fields.Contents (eqb a 1) (eqb b 1)) Fields.Raw)))))))
+    None
 fields_by true t1 t2 t3 t4 t5 a b c d e = refl
 fields_by false true t2 t3 t4 t5 a b c d e = refl
 fields_by false false true t3 t4 t5 a b c d e = refl
@@ -223,7 +220,7 @@ fields_by false false false true t4 t5 a b c d e = refl
 fields_by false false false false true t5 a b c d e = refl
 fields_by false false false false false t5 a b c d e = refl
 
-fields_load : (kind a b c d e : ℕ) → fields_of kind a b c d e ≡ pick (is_fields kind a b c d) (GivenFields.Good (capped_fields (plain_fields kind a b c d e))) GivenFields.Bad
+fields_load : (kind a b c d e : ℕ) → fields_of kind a b c d e ≡ pick (is_fields kind a b c d) (Some (capped_fields (plain_fields kind a b c d e))) None
 unfolding fields_of
 fields_load kind a b c d e = fields_by (eqb kind 0) (eqb kind 1) (eqb kind 2) (eqb kind 3) (eqb kind 4) (eqb kind 5) a b c d e
 
@@ -231,13 +228,13 @@ abbrev capped_heading : Heading → Heading
 capped_heading h = record { id = h.id; short = h.short; compressed = h.compressed; fields = capped_fields h.fields }
 
 heading_by : (fits is : Bool) (id : ℕ) (is_short is_compressed : Bool) (f : Fields)
-    → pick fits (heading_with id is_short is_compressed (pick is (GivenFields.Good f) GivenFields.Bad)) GivenHeading.Bad
-    ≡ pick (fits && is) (GivenHeading.Good (record { id = id; short = is_short; compressed = is_compressed; fields = f })) GivenHeading.Bad
+    → pick fits (heading_with id is_short is_compressed (pick is (Some f) None)) None
+    ≡ pick (fits && is) (Some (record { id = id; short = is_short; compressed = is_compressed; fields = f })) None
 heading_by true true id is_short is_compressed f = refl
 heading_by true false id is_short is_compressed f = refl
 heading_by false is id is_short is_compressed f = refl
 
-pub heading_load : (words : List ℕ) → heading_of words ≡ pick (is_record words) (GivenHeading.Good (capped_heading (plain_heading words))) GivenHeading.Bad
+pub heading_load : (words : List ℕ) → heading_of words ≡ pick (is_record words) (Some (capped_heading (plain_heading words))) None
 unfolding heading_of
 heading_load words =
     let h = plain_heading words in
@@ -249,7 +246,7 @@ heading_load words =
 abbrev pub plain_rec : List ℕ → List ℕ → List ℕ → List ℕ → List ℕ → Rec
 plain_rec words name names rest deviations = rec_of (plain_heading words) name names rest deviations
 
-module _ (words name names rest deviations buffer writer count : List ℕ) (a : 19 ≤ length words) (b : 4 ≤ length writer) (c : 1 ≤ length count) {w : Writer} (f : writer_of writer ≡ GivenWriter.Good w) where
+module _ (words name names rest deviations buffer writer count : List ℕ) (a : 19 ≤ length words) (b : 4 ≤ length writer) (c : 1 ≤ length count) {w : Writer} (f : writer_of writer ≡ Some w) where
   rows_by : (is : Bool) → is_record words ≡ is
       → sv_add words name names rest deviations buffer writer count
       ≡ pick is (after_add (add_of w (plain_rec words name names rest deviations) buffer) writer count) (21, buffer, writer, counted 0 count)
@@ -306,7 +303,7 @@ module _ (words rest deviations count : List ℕ) (a : 19 ≤ length words) (c :
   unfolding sv_references
   references_by true e =
       rw (le-ltb _ _ a, le-ltb _ _ c, heading_load words, e)
-      (ap (λ (z : Unpacked × List ℕ). after_unpack z count) (sym (references_capped (plain_heading words).fields rest deviations)))
+      (ap (λ (z : Result ℕ Refusal × List ℕ). after_unpack z count) (sym (references_capped (plain_heading words).fields rest deviations)))
   references_by false e = rw (le-ltb _ _ a, le-ltb _ _ c, heading_load words, e)
 
   pub references_rows : sv_references words rest deviations count

@@ -1,17 +1,17 @@
 -- What the exported functions that edit a tag in place answer and leave, as in Calls. Assumes nothing.
-use Rattle.std.specs.Prelude.{ℕ, List}
+use Rattle.std.specs.Prelude.{ℕ, List, Result, Ok, Err}
 use Rattle.format.specs.Bytes.{pick}
 use Rattle.format.specs.Record.{Rec, rec_of}
-use Rattle.writer.specs.declared.Edited.{Edited}
 use Rattle.edit.specs.Edit.{Edit, replaced_of, removed_of, appended_of}
 use Rattle.edit.specs.Lift.{lifted_of}
 use Rattle.capi.specs.Words.{heading_in}
 use Rattle.capi.specs.Calls.{short, Left1, Left2}
 use Rattle.capi.specs.Raises.{after_raise}
+use Rattle.format.specs.declared.refusals.Refusal.{Refusal}
 
-abbrev pub edit_number : Edited → ℕ
-edit_number Edited.Done = 0
-edit_number (Edited.Refused k) = k
+abbrev pub edit_number : Result Unit Refusal → ℕ
+edit_number (Ok tt) = 0
+edit_number (Err k) = k.number
 
 -- the number, and the tag
 abbrev pub after_edit : Edit → Left1

@@ -1,13 +1,11 @@
 -- How the calls over meters come to what Meters says: words that say a running meter are told from all others, and only the words that
 -- change are stored. Assumes nothing.
-use Rattle.std.specs.Prelude.{ℕ, Bool, ◌&&◌, List, [], ◌∷◌, set, eqb}
+use Rattle.std.specs.Prelude.{ℕ, Bool, ◌&&◌, List, [], ◌∷◌, set, eqb, Ok, Err, Some, None}
 use Rattle.std.proofs.lemmas.List.Edits.{sets}
 use Rattle.format.specs.Bytes.{pick}
-use Rattle.format.specs.Header.{version_of}
-use Rattle.format.specs.Numbered.{is_version, version_number}
+use Rattle.format.specs.Numbered.{version_number}
 use Rattle.meter.specs.declared.Meter.{Meter}
-use Rattle.meter.specs.declared.Next.{Next}
-use Rattle.capi.specs.declared.meters.GivenVersion.{GivenVersion}
+use Rattle.meter.specs.Meter.{Next}
 use Rattle.capi.specs.Words.{word, flag, is_flag}
 use Rattle.capi.specs.Calls.{Left2}
 use Rattle.capi.specs.Meters.{is_meter, metered_words}
@@ -28,9 +26,6 @@ is_running words =
     (eqb (word 5 words) 0 && eqb (word 6 words) 0)
     && (is_flag (word 1 words) && (is_flag (word 8 words) && (is_flag (word 9 words) && is_flag (word 10 words))))
 
-abbrev pub version_in : ℕ → GivenVersion
-version_in n = pick (is_version n) (GivenVersion.Good (version_of n)) GivenVersion.Bad
-
 -- of words that say no running meter
 abbrev pub stopped_of : List ℕ → ℕ
 stopped_of words = pick (is_meter words) (pick (eqb (word 5 words) 1) 256 (word 6 words)) 2
@@ -41,6 +36,6 @@ moved_words m words = sets (set words 3 m.reader.at) 7 (m.frames ∷ flag m.shor
 
 -- meter, metered
 abbrev pub answered_of : Next → List ℕ → List ℕ → Left2
-answered_of (Next.Found p m) meter metered = (0, moved_words m meter, metered_words p metered)
-answered_of (Next.End m) meter metered = (256, set (moved_words m meter) 5 1, metered)
-answered_of (Next.Refused k m) meter metered = (k, sets (moved_words m meter) 5 (2 ∷ k ∷ []), metered)
+answered_of (Ok (Some p), m) meter metered = (0, moved_words m meter, metered_words p metered)
+answered_of (Ok None, m) meter metered = (256, set (moved_words m meter) 5 1, metered)
+answered_of (Err k, m) meter metered = (k.number, sets (moved_words m meter) 5 (2 ∷ k.number ∷ []), metered)

@@ -1,6 +1,6 @@
 -- Meters and metered popularimeters as words, in the places that include/streamvault.h names, and what the exported functions over them
 -- answer and leave, as in Calls. Assumes nothing.
-use Rattle.std.specs.Prelude.{ℕ, Bool, ◌&&◌, ◌||◌, List, [], ◌∷◌, ◌++◌, eqb}
+use Rattle.std.specs.Prelude.{ℕ, Bool, ◌&&◌, ◌||◌, List, [], ◌∷◌, ◌++◌, eqb, Result, Ok, Err, Some, None}
 use Rattle.std.proofs.lemmas.List.Edits.{sets}
 use Rattle.format.specs.Bytes.{pick}
 use Rattle.format.specs.Header.{version_of}
@@ -9,10 +9,9 @@ use Rattle.reader.specs.declared.Stop.{Stop}
 use Rattle.meter.specs.Meter.{Nexted, meter_open_of, next_of}
 use Rattle.meter.specs.declared.Meter.{Meter}
 use Rattle.meter.specs.declared.Metered.{Metered}
-use Rattle.meter.specs.declared.MeterOpened.{MeterOpened}
-use Rattle.meter.specs.declared.Next.{Next}
 use Rattle.capi.specs.Words.{word, flag, is_flag, stop_of, reader_list, is_reader}
 use Rattle.capi.specs.Calls.{short, Left2, Left3}
+use Rattle.format.specs.declared.refusals.Refusal.{Refusal}
 
 -- ---- a meter, eleven words: a reader's, and what it passed
 
@@ -55,9 +54,9 @@ metered_words p words = sets words 0 (flag p.in_work ∷ p.user.start ∷ p.user
 
 -- ---- sv_meter_open: work, meter
 
-abbrev pub after_meter_open : MeterOpened × List ℕ → List ℕ → Left2
-after_meter_open (MeterOpened.Ready m, work) meter = (0, work, meter_words m meter)
-after_meter_open (MeterOpened.Refused k, work) meter = (k, work, meter)
+abbrev pub after_meter_open : Result Meter Refusal × List ℕ → List ℕ → Left2
+after_meter_open (Ok m, work) meter = (0, work, meter_words m meter)
+after_meter_open (Err k, work) meter = (k.number, work, meter)
 
 unfoldable pub sv_meter_open : List ℕ → List ℕ → List ℕ → Left2
 sv_meter_open tag work meter = pick (short 11 meter) (20, work, meter) (after_meter_open (meter_open_of tag work) meter)
@@ -65,9 +64,9 @@ sv_meter_open tag work meter = pick (short 11 meter) (20, work, meter) (after_me
 -- ---- sv_meter_next: work, meter, metered; the end is 256
 
 abbrev pub after_next : Nexted → List ℕ → List ℕ → Left3
-after_next (Next.Found p m, work) meter metered = (0, work, meter_words m meter, metered_words p metered)
-after_next (Next.End m, work) meter metered = (256, work, meter_words m meter, metered)
-after_next (Next.Refused k m, work) meter metered = (k, work, meter_words m meter, metered)
+after_next ((Ok (Some p), m), work) meter metered = (0, work, meter_words m meter, metered_words p metered)
+after_next ((Ok None, m), work) meter metered = (256, work, meter_words m meter, metered)
+after_next ((Err k, m), work) meter metered = (k.number, work, meter_words m meter, metered)
 
 abbrev pub next_with : List Meter → List ℕ → List ℕ → List ℕ → List ℕ → Left3
 next_with [] tag work meter metered = (2, work, meter, metered)

@@ -1,5 +1,5 @@
 -- Headers, readers, records and writers as words, in the places that include/streamvault.h names. Assumes nothing.
-use Rattle.std.specs.Prelude.{ℕ, ◌-◌, ◌^◌, ◌≤◌, ◌<◌, min, Bool, true, false, not, ◌&&◌, List, [], ◌∷◌, get_or, ltb, leb, eqb}
+use Rattle.std.specs.Prelude.{ℕ, ◌-◌, ◌^◌, ◌≤◌, ◌<◌, min, Bool, true, false, not, ◌&&◌, List, [], ◌∷◌, get_or, ltb, leb, eqb, Option, Some, None}
 use Rattle.std.proofs.lemmas.List.Edits.{sets}
 use Rattle.format.specs.Bytes.{pick}
 use Rattle.format.specs.Header.{version_of}
@@ -14,11 +14,8 @@ use Rattle.reader.specs.declared.Stop.{Stop}
 use Rattle.reader.specs.declared.Reader.{Reader}
 use Rattle.writer.specs.Writer.{is_known}
 use Rattle.writer.specs.declared.Writer.{Writer}
-use Rattle.capi.specs.declared.words.GivenReader.{GivenReader}
-use Rattle.capi.specs.declared.words.GivenWriter.{GivenWriter}
 use Rattle.capi.specs.declared.records.Numbers.{Numbers}
-use Rattle.capi.specs.declared.records.GivenFields.{GivenFields}
-use Rattle.capi.specs.declared.records.GivenHeading.{GivenHeading}
+use Rattle.format.specs.Refusals.{refusal}
 
 -- ---- a word: 0 where there is none
 
@@ -32,6 +29,10 @@ flag true = 1
 
 abbrev pub is_flag : ℕ → Bool
 is_flag n = leb n 1
+
+-- no or yes, if a word says it
+abbrev pub flag_in : ℕ → Option Bool
+flag_in n = pick (is_flag n) (Some (eqb n 1)) None
 
 -- ---- a header, four words
 
@@ -50,14 +51,18 @@ stop_number (Stop.Failed k) = 2
 abbrev pub failure : Stop → ℕ
 failure Stop.Running = 0
 failure Stop.Ended = 0
-failure (Stop.Failed k) = k
+failure (Stop.Failed k) = k.number
 
 abbrev pub stop_of : ℕ → ℕ → Stop
-stop_of stop number = pick (eqb stop 0) Stop.Running (pick (eqb stop 1) Stop.Ended (Stop.Failed number))
+stop_of stop number = pick (eqb stop 0) Stop.Running (pick (eqb stop 1) Stop.Ended (Stop.Failed (refusal number)))
 
 -- 2 has a number of 1 to 255, 0 and 1 have 0
 abbrev pub is_stop : ℕ → ℕ → Bool
 is_stop stop number = pick (eqb stop 2) (leb 1 number && leb number 255) (leb stop 1 && eqb number 0)
+
+-- how a reader has stopped, if two words say it
+abbrev pub stop_in : ℕ → ℕ → Option Stop
+stop_in stop number = pick (is_stop stop number) (Some (stop_of stop number)) None
 
 abbrev pub reader_list : Reader → List ℕ
 reader_list r =
@@ -76,10 +81,10 @@ reader_words r words = sets words 0 (reader_list r)
 abbrev pub is_reader : ℕ → ℕ → ℕ → ℕ → Bool
 is_reader version inWork stop number = is_version version && (is_flag inWork && is_stop stop number)
 
-unfoldable pub reader_of : List ℕ → GivenReader
+unfoldable pub reader_of : List ℕ → Option Reader
 reader_of words =
     pick (is_reader (word 0 words) (word 1 words) (word 5 words) (word 6 words))
-    (GivenReader.Good (record {
+    (Some (record {
       version = version_of (word 0 words);
       in_work = eqb (word 1 words) 1;
       begin = word 2 words;
@@ -87,7 +92,7 @@ reader_of words =
       end = word 4 words;
       stop = stop_of (word 5 words) (word 6 words);
     }))
-    GivenReader.Bad
+    None
 
 -- ---- a writer, four words
 
@@ -97,16 +102,16 @@ writer_list w = version_number w.version ∷ mode_number w.mode ∷ flag w.alter
 unfoldable pub writer_words : Writer → List ℕ → List ℕ
 writer_words w words = sets words 0 (writer_list w)
 
-unfoldable pub writer_of : List ℕ → GivenWriter
+unfoldable pub writer_of : List ℕ → Option Writer
 writer_of words =
     pick (is_known (word 0 words) (word 1 words) && is_flag (word 2 words))
-    (GivenWriter.Good (record {
+    (Some (record {
       version = version_of (word 0 words);
       mode = mode_of (word 1 words);
       altered = eqb (word 2 words) 1;
       used = word 3 words;
     }))
-    GivenWriter.Bad
+    None
 
 -- ---- a record, nineteen words: what it is, nine words; then where it lies
 
@@ -152,56 +157,56 @@ cap8 n = min n (2 ^ 8 - 1)
 abbrev pub cap32 : ℕ → ℕ
 cap32 n = min n (2 ^ 32 - 1)
 
-abbrev pub fields_if : Bool → Fields → GivenFields
-fields_if fit f = pick fit (GivenFields.Good f) GivenFields.Bad
+abbrev pub fields_if : Bool → Fields → Option Fields
+fields_if fit f = pick fit (Some f) None
 
-abbrev pub text_if : ℕ → GivenFields
-text_if encoding = GivenFields.Good (Fields.Text (cap8 encoding))
+abbrev pub text_if : ℕ → Option Fields
+text_if encoding = Some (Fields.Text (cap8 encoding))
 
-abbrev pub popularimeter_if : ℕ → ℕ → GivenFields
+abbrev pub popularimeter_if : ℕ → ℕ → Option Fields
 popularimeter_if rating counter = fields_if (ltb rating (2 ^ 8)) (Fields.Popularimeter rating counter)
 
-abbrev pub table_if : ℕ → ℕ → ℕ → ℕ → ℕ → GivenFields
+abbrev pub table_if : ℕ → ℕ → ℕ → ℕ → ℕ → Option Fields
 table_if frames bytes millis v w =
     fields_if (ltb frames (2 ^ 16)) (Fields.Table frames (cap32 bytes) (cap32 millis) (cap8 v) (cap8 w))
 
-abbrev pub chapter_if : ℕ → ℕ → ℕ → ℕ → GivenFields
+abbrev pub chapter_if : ℕ → ℕ → ℕ → ℕ → Option Fields
 chapter_if start end from to =
     fields_if (ltb start (2 ^ 32) && (ltb end (2 ^ 32) && (ltb from (2 ^ 32) && ltb to (2 ^ 32)))) (Fields.Chapter start end from to)
 
-abbrev pub contents_if : ℕ → ℕ → GivenFields
+abbrev pub contents_if : ℕ → ℕ → Option Fields
 contents_if topLevel ordered = fields_if (is_flag topLevel && is_flag ordered) (Fields.Contents (eqb topLevel 1) (eqb ordered 1))
 
 -- a kind and five numbers: those that it lacks are not looked at
-unfoldable pub fields_of : ℕ → ℕ → ℕ → ℕ → ℕ → ℕ → GivenFields
+unfoldable pub fields_of : ℕ → ℕ → ℕ → ℕ → ℕ → ℕ → Option Fields
 fields_of kind a b c d e =
     pick (eqb kind 0) (text_if a)
     (pick (eqb kind 1) (popularimeter_if a b)
     (pick (eqb kind 2) (table_if a b c d e)
     (pick (eqb kind 3) (chapter_if a b c d)
     (pick (eqb kind 4) (contents_if a b)
-    (pick (eqb kind 5) (GivenFields.Good Fields.Raw)
-    GivenFields.Bad)))))
+    (pick (eqb kind 5) (Some Fields.Raw)
+    None)))))
 
-abbrev pub fields_in : List ℕ → GivenFields
+abbrev pub fields_in : List ℕ → Option Fields
 fields_in words = fields_of (word 0 words) (word 4 words) (word 5 words) (word 6 words) (word 7 words) (word 8 words)
 
-abbrev pub heading_with : ℕ → Bool → Bool → GivenFields → GivenHeading
-heading_with id short compressed (GivenFields.Good f) = GivenHeading.Good (record { id = id; short = short; compressed = compressed; fields = f })
-heading_with id short compressed GivenFields.Bad = GivenHeading.Bad
+abbrev pub heading_with : ℕ → Bool → Bool → Option Fields → Option Heading
+heading_with id short compressed (Some f) = Some (record { id = id; short = short; compressed = compressed; fields = f })
+heading_with id short compressed None = None
 
 -- a mark is any number but 0
 abbrev pub is_mark : ℕ → Bool
 is_mark n = not (eqb n 0)
 
-unfoldable pub heading_of : List ℕ → GivenHeading
+unfoldable pub heading_of : List ℕ → Option Heading
 heading_of words =
-    pick (ltb (word 1 words) (2 ^ 32)) (heading_with (word 1 words) (is_mark (word 2 words)) (is_mark (word 3 words)) (fields_in words)) GivenHeading.Bad
+    pick (ltb (word 1 words) (2 ^ 32)) (heading_with (word 1 words) (is_mark (word 2 words)) (is_mark (word 3 words)) (fields_in words)) None
 
 -- words that are no record stand for one whose id no edition has, so that adding refuses it with 21
-abbrev pub heading_else : GivenHeading → Heading
-heading_else (GivenHeading.Good h) = h
-heading_else GivenHeading.Bad = record { id = 0; short = false; compressed = false; fields = Fields.Raw }
+abbrev pub heading_else : Option Heading → Heading
+heading_else (Some h) = h
+heading_else None = record { id = 0; short = false; compressed = false; fields = Fields.Raw }
 
 abbrev pub heading_in : List ℕ → Heading
 heading_in words = heading_else (heading_of words)
@@ -211,7 +216,7 @@ heading_in words = heading_else (heading_of words)
 abbrev pub StopFits : Stop → Type 0
 StopFits Stop.Running = Unit {0}
 StopFits Stop.Ended = Unit {0}
-StopFits (Stop.Failed k) = (1 ≤ k) × (k ≤ 255)
+StopFits (Stop.Failed k) = (1 ≤ k.number) × (k.number ≤ 255)
 
 abbrev pub FieldsFit : Fields → Type 0
 FieldsFit (Fields.Text encoding) = encoding < 2 ^ 8

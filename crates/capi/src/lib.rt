@@ -13,29 +13,22 @@ ghost use Rattle.capi.specs.Meters.{sv_meter_open, sv_meter_next};
 ghost use Rattle.capi.specs.Raises.{after_raised, sv_raise};
 ghost use Rattle.capi.specs.Edits.{edit_number, sv_replace, sv_remove, sv_append, sv_lift};
 
-use crate::meters::{
-    GivenVersion, answered, is_running, running, stopped, store_opened, version_in,
-};
-use crate::records::{GivenHeading, heading_in, load_heading, store_record};
-use crate::words::{
-    GivenReader, GivenWriter, load_reader, load_writer, store_header, store_reader, store_writer,
-};
-use format::Fields;
-use format::refusals::{NO_ROOM, UNKNOWN_VERSION, WRONG_ID};
-use frame::table::{Unpacked, unpack};
-use meter::MeterOpened;
-use raise::Raised;
-use reader::{Headed, Opened, Step};
-use writer::{Added, Begun, Edited, Finished};
+use crate::meters::{answered, is_running, running, stopped, store_opened};
+use crate::records::{heading_in, load_heading, store_record};
+use crate::words::{flag_in, load_reader, load_writer, store_header, store_reader, store_writer};
+use format::refusals::{NO_ROOM, Refusal, UNKNOWN_VERSION, WRONG_ID};
+use format::{Fields, Given, Version};
+use frame::table::unpack;
+use writer::Writer;
 
 // Fewer words than a call takes.
-const SHORT: u32 = NO_ROOM as u32;
+const SHORT: u32 = NO_ROOM.number as u32;
 
 // Words that are no state of a reader, a meter or a writer.
-const NO_STATE: u32 = UNKNOWN_VERSION as u32;
+const NO_STATE: u32 = UNKNOWN_VERSION.number as u32;
 
 // Words that are no record.
-const NO_RECORD: u32 = WRONG_ID as u32;
+const NO_RECORD: u32 = WRONG_ID.number as u32;
 
 // The end of a tag's frames, or of its popularimeters.
 const END: u32 = 256;
@@ -43,142 +36,142 @@ const END: u32 = 256;
 // The count of a refused call.
 const NONE: u64 = 0;
 
+// The number of a refusal.
+fn code(k: Refusal) -> u32
+    ensures { result ≡ k.number }
+{
+    u32::from(k.number)
+}
+
 // Reads the header of a tag into four words: version, flags, size, ext.
+#[tactic(auto, unfolding(crate::specs::Calls::sv_header))]
 pub fn sv_header(tag: &[u8], header: &mut [u64]) -> u32
     ensures { (result, header.new) ≡ sv_header tag.now header.old }
 {
     if header.len() < places::HEADER_WORDS {
         return SHORT;
     }
-    let headed = reader::headers::header(tag);
-    match headed {
-        Headed::Found(h) => {
+    match reader::headers::header(tag) {
+        Ok(h) => {
             store_header(header, h);
             0
         }
-        Headed::Refused(k) => k as u32,
+        Err(k) => code(k),
     }
 }
 
 // Opens a tag: the reader's words then say a reader at the first frame.
+#[tactic(auto, unfolding(crate::specs::Calls::sv_open))]
 pub fn sv_open(tag: &[u8], work: &mut [u8], reader: &mut [u64]) -> u32
     ensures { (result, work.new, reader.new) ≡ sv_open tag.now work.old reader.old }
 {
     if reader.len() < places::READER_WORDS {
         return SHORT;
     }
-    let opened = reader::opening::open(work, tag);
-    match opened {
-        Opened::Ready(r) => {
+    match reader::opening::open(work, tag) {
+        Ok(r) => {
             store_reader(reader, r);
             0
         }
-        Opened::Refused(k) => k as u32,
+        Err(k) => code(k),
     }
 }
 
 // Reads the next frame into the record's words. The reader's words then say the moved reader, or why it has stopped.
+#[tactic(auto, unfolding(crate::specs::Calls::sv_step))]
 pub fn sv_step(tag: &[u8], work: &mut [u8], reader: &mut [u64], record: &mut [u64]) -> u32
     ensures { (result, work.new, reader.new, «record».new) ≡ sv_step tag.now work.old reader.old «record».old }
 {
     if (reader.len() < places::READER_WORDS) | (record.len() < places::RECORD_WORDS) {
         return SHORT;
     }
-    let given = load_reader(reader);
-    let GivenReader::Good(r) = given else {
+    let Some(mut r) = load_reader(reader) else {
         return NO_STATE;
     };
     let step = r.step(work, tag);
+    store_reader(reader, r);
     match step {
-        Step::Frame(found, next) => {
-            store_reader(reader, next);
+        Ok(Some(found)) => {
             store_record(record, found);
             0
         }
-        Step::End(ended) => {
-            store_reader(reader, ended);
-            END
-        }
-        Step::Refused(k, failed) => {
-            store_reader(reader, failed);
-            k as u32
-        }
+        Ok(None) => END,
+        Err(k) => code(k),
     }
 }
 
 // Opens a tag for its counters alone: the meter's words then say a meter at the first frame.
+#[tactic(auto, unfolding(crate::specs::Meters::sv_meter_open))]
 pub fn sv_meter_open(tag: &[u8], work: &mut [u8], meter: &mut [u64]) -> u32
     ensures { (result, work.new, meter.new) ≡ sv_meter_open tag.now work.old meter.old }
 {
     if meter.len() < places::METER_WORDS {
         return SHORT;
     }
-    let opened = meter::opening::open(work, tag);
-    match opened {
-        MeterOpened::Ready(m) => {
+    match meter::opening::open(work, tag) {
+        Ok(m) => {
             store_opened(meter, m);
             0
         }
-        MeterOpened::Refused(k) => k as u32,
+        Err(k) => code(k),
     }
 }
 
 // Goes on to the next whole popularimeter of the top level, into its words. The meter's words then say the moved meter, or
 // why it has stopped. Those of a meter that has stopped stay as they are.
+#[tactic(auto, using(crate::proofs::Metering::next_short, crate::proofs::Metering::next_unknown, crate::proofs::Metering::next_stopped, crate::proofs::Metering::next_then))]
 pub fn sv_meter_next(tag: &[u8], work: &mut [u8], meter: &mut [u64], metered: &mut [u64]) -> u32
     ensures { (result, work.new, meter.new, metered.new) ≡ sv_meter_next tag.now work.old meter.old metered.old }
 {
     if (meter.len() < places::METER_WORDS) | (metered.len() < places::METERED_WORDS) {
         return SHORT;
     }
-    if !is_running(&meter[..]) {
-        return stopped(&meter[..]);
+    if !is_running(meter) {
+        return stopped(meter);
     }
-    let given = version_in(meter[places::METER_VERSION]);
-    let GivenVersion::Good(version) = given else {
+    let Ok(version) = Version::try_from(meter[places::METER_VERSION]) else {
         return NO_STATE;
     };
-    let next = running(&meter[..], version).next(work, tag);
-    answered(meter, metered, next)
+    let mut moved = running(meter, version);
+    let next = moved.next(work, tag);
+    answered(meter, metered, next, moved)
 }
 
 // Puts the counter that a raise gave into its word.
-fn store_raised(counter: &mut [u64], raised: Raised) -> u32
+fn store_raised(counter: &mut [u64], raised: Result<u64, Refusal>) -> u32
     requires { 1 ≤ length counter.old }
     ensures { (result, counter.new) ≡ after_raised raised counter.old }
 {
     match raised {
-        Raised::Counts(n) => {
+        Ok(n) => {
             counter[0] = n;
             0
         }
-        Raised::Refused(k) => k as u32,
+        Err(k) => code(k),
     }
 }
 
 // Adds an amount to the counter of a user's popularimeter, in the counter's bytes that are there. The word then says the new
 // counter. A refusal changes nothing.
+#[tactic(auto, unfolding(crate::specs::Raises::sv_raise))]
 pub fn sv_raise(tag: &mut [u8], user: &[u8], amount: u64, counter: &mut [u64]) -> u32
     ensures { (result, tag.new, counter.new) ≡ sv_raise tag.old user.now amount counter.old }
 {
     if counter.len() < places::COUNTER_WORDS {
         return SHORT;
     }
-    let raised = raise::raise(tag, user, amount);
-    store_raised(counter, raised)
+    store_raised(counter, raise::raise(tag, user, amount))
 }
 
 // What an edit answers, as a number.
-fn number_of(edited: Edited) -> u32
+fn number_of(edited: Result<(), Refusal>) -> u32
     ensures { result ≡ edit_number edited }
 {
-    match edited {
-        Edited::Done => 0,
-        Edited::Refused(k) => k as u32,
-    }
+    edited.err().map_or(0, code)
 }
 
 // Puts a record's frame in the place of the frame with this number. A refusal changes nothing.
+#[tactic(auto, unfolding(crate::specs::Edits::sv_replace))]
 pub fn sv_replace(
     tag: &mut [u8],
     number: u64,
@@ -194,19 +187,25 @@ pub fn sv_replace(
         return SHORT;
     }
     let heading = heading_in(record);
-    let edited = edit::replace(tag, number as usize, heading, name, names, rest, deviations);
-    number_of(edited)
+    let given = Given {
+        name,
+        names,
+        rest,
+        deviations,
+    };
+    number_of(edit::replace(tag, number as usize, heading, &given))
 }
 
 // Takes away the frame with this number. A refusal changes nothing.
+#[tactic(auto, unfolding(crate::specs::Edits::sv_remove))]
 pub fn sv_remove(tag: &mut [u8], number: u64) -> u32
     ensures { (result, tag.new) ≡ sv_remove tag.old number }
 {
-    let edited = edit::remove(tag, number as usize);
-    number_of(edited)
+    number_of(edit::remove(tag, number as usize))
 }
 
 // Puts a record's frame after the last. A refusal changes nothing.
+#[tactic(auto, unfolding(crate::specs::Edits::sv_append))]
 pub fn sv_append(
     tag: &mut [u8],
     record: &[u64],
@@ -221,73 +220,74 @@ pub fn sv_append(
         return SHORT;
     }
     let heading = heading_in(record);
-    let edited = edit::append(tag, heading, name, names, rest, deviations);
-    number_of(edited)
+    let given = Given {
+        name,
+        names,
+        rest,
+        deviations,
+    };
+    number_of(edit::append(tag, heading, &given))
 }
 
 // Adds an amount to the counter of a user's popularimeter, in the counter's bytes that are there or, where these are too few,
 // in a frame that takes more room. The word then says the new counter. A refusal changes nothing.
+#[tactic(auto, unfolding(crate::specs::Edits::sv_lift))]
 pub fn sv_lift(tag: &mut [u8], user: &[u8], amount: u64, counter: &mut [u64]) -> u32
     ensures { (result, tag.new, counter.new) ≡ sv_lift tag.old user.now amount counter.old }
 {
     if counter.len() < places::COUNTER_WORDS {
         return SHORT;
     }
-    let raised = edit::lift(tag, user, amount);
-    store_raised(counter, raised)
+    store_raised(counter, edit::lift(tag, user, amount))
 }
 
 // Puts a writer that was begun into words.
-fn store_begun(writer: &mut [u64], begun: Begun) -> u32
+fn store_begun(writer: &mut [u64], begun: Result<Writer, Refusal>) -> u32
     requires { 4 ≤ length writer.old }
     ensures { (result, writer.new) ≡ after_begin begun writer.old }
 {
     match begun {
-        Begun::Ready(w) => {
+        Ok(w) => {
             store_writer(writer, w);
             0
         }
-        Begun::Refused(k) => k as u32,
+        Err(k) => code(k),
     }
 }
 
 // Begins a writer: version 2, 3 or 4, mode 0 (off), 1 (crate) or 2 (standard), altered 0 or 1.
-#[tactic(auto, using(crate::proofs::Left::begin_short, crate::proofs::Left::begin_altered, crate::proofs::Left::begin_version, crate::proofs::Left::begin_mode, crate::proofs::Left::begin_then))]
+#[tactic(auto, unfolding(crate::specs::Calls::sv_begin, writer::specs::Writer::begin_of))]
 pub fn sv_begin(version: u64, mode: u64, altered: u64, writer: &mut [u64]) -> u32
     ensures { (result, writer.new) ≡ sv_begin version mode altered writer.old }
 {
     if writer.len() < places::WRITER_WORDS {
         return SHORT;
     }
-    if altered > 1 {
+    let Some(altered) = flag_in(altered) else {
         return NO_STATE;
-    }
-    if version > 4 {
+    };
+    let (Ok(version), Ok(mode)) = (u8::try_from(version), u8::try_from(mode)) else {
         return NO_STATE;
-    }
-    if mode > 2 {
-        return NO_STATE;
-    }
-    let begun = writer::begin::begin(version as u8, mode as u8, altered == 1);
-    store_begun(writer, begun)
+    };
+    store_begun(writer, writer::begin::begin(version, mode, altered))
 }
 
 // Begins a writer of mode 0 (off), for a file that is not altered.
-#[tactic(auto, using(crate::proofs::Left::begin_short, crate::proofs::Left::begin_version, crate::proofs::Left::begin_then))]
+#[tactic(auto, unfolding(crate::specs::Calls::sv_begin, writer::specs::Writer::begin_of))]
 pub fn sv_begin_plain(version: u64, writer: &mut [u64]) -> u32
     ensures { (result, writer.new) ≡ sv_begin_plain version writer.old }
 {
     if writer.len() < places::WRITER_WORDS {
         return SHORT;
     }
-    if version > 4 {
+    let Ok(version) = u8::try_from(version) else {
         return NO_STATE;
-    }
-    let begun = writer::begin::begin_plain(version as u8);
-    store_begun(writer, begun)
+    };
+    store_begun(writer, writer::begin::begin_plain(version))
 }
 
 // Adds a record after the frames that the collecting buffer holds. The count is how many bytes it took there.
+#[tactic(auto, using(crate::proofs::Left::counted_last), unfolding(crate::specs::Calls::sv_add))]
 pub fn sv_add(
     record: &[u64],
     name: &[u8],
@@ -306,26 +306,30 @@ pub fn sv_add(
         return SHORT;
     }
     count[0] = NONE;
-    let state = load_writer(writer);
-    let GivenWriter::Good(w) = state else {
+    let Some(mut w) = load_writer(writer) else {
         return NO_STATE;
     };
-    let given = load_heading(record);
-    let GivenHeading::Good(h) = given else {
+    let Some(h) = load_heading(record) else {
         return NO_RECORD;
     };
-    let added = w.add(buffer, h, name, names, rest, deviations);
-    match added {
-        Added::Accepted(n, next) => {
-            store_writer(writer, next);
+    let given = Given {
+        name,
+        names,
+        rest,
+        deviations,
+    };
+    match w.add(buffer, h, &given) {
+        Ok(n) => {
+            store_writer(writer, w);
             count[0] = n as u64;
             0
         }
-        Added::Refused(k, _) => k as u32,
+        Err(k) => code(k),
     }
 }
 
 // Finishes a tag: its header, the frames of the collecting buffer and the padding. The count is how many bytes these are.
+#[tactic(auto, using(crate::proofs::Left::counted_last), unfolding(crate::specs::Calls::sv_finish))]
 pub fn sv_finish(
     padding: u64,
     buffer: &[u8],
@@ -339,22 +343,20 @@ pub fn sv_finish(
         return SHORT;
     }
     count[0] = NONE;
-    let state = load_writer(writer);
-    let GivenWriter::Good(w) = state else {
+    let Some(w) = load_writer(writer) else {
         return NO_STATE;
     };
-    let finished = w.finish(output, buffer, padding as usize);
-    match finished {
-        Finished::Done(n, _) => {
+    match w.finish(output, buffer, padding as usize) {
+        Ok(n) => {
             count[0] = n as u64;
             0
         }
-        Finished::Refused(k, _) => k as u32,
+        Err(k) => code(k),
     }
 }
 
 // Puts the deviations of a table to the front of a buffer that has the room; other fields have none.
-fn references(out: &mut [u32], fields: Fields, rest: &[u8]) -> Unpacked
+fn references(out: &mut [u32], fields: Fields, rest: &[u8]) -> Result<usize, Refusal>
     ensures { (result, out.new) ≡ references_of fields rest.now out.old }
 {
     match fields {
@@ -363,11 +365,12 @@ fn references(out: &mut [u32], fields: Fields, rest: &[u8]) -> Unpacked
             bits_for_millis,
             ..
         } => unpack(out, bits_for_bytes, bits_for_millis, rest, 0, rest.len()),
-        _ => Unpacked::Numbers(0),
+        _ => Ok(0),
     }
 }
 
 // The deviations that the packed references of a table hold, two by two. The count is how many numbers these are.
+#[tactic(auto, using(crate::proofs::Left::counted_last), unfolding(crate::specs::Calls::sv_references))]
 pub fn sv_references(record: &[u64], rest: &[u8], deviations: &mut [u32], count: &mut [u64]) -> u32
     ensures { (result, deviations.new, count.new) ≡ sv_references «record».now rest.now deviations.old count.old }
 {
@@ -375,17 +378,14 @@ pub fn sv_references(record: &[u64], rest: &[u8], deviations: &mut [u32], count:
         return SHORT;
     }
     count[0] = NONE;
-    let given = load_heading(record);
-    let GivenHeading::Good(h) = given else {
+    let Some(h) = load_heading(record) else {
         return NO_RECORD;
     };
-    let fields = h.fields;
-    let put = references(deviations, fields, rest);
-    match put {
-        Unpacked::Numbers(n) => {
+    match references(deviations, h.fields, rest) {
+        Ok(n) => {
             count[0] = n as u64;
             0
         }
-        Unpacked::Refused(k) => k as u32,
+        Err(k) => code(k),
     }
 }

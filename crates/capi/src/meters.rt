@@ -1,33 +1,26 @@
 // Meters and metered popularimeters, loaded from words and stored there. What each word means stands in specs/Meters.antt.
 ghost use Rattle.std.specs.Prelude.{◌≡◌, ◌≤◌, length};
 ghost use Rattle.capi.specs.Meters.{is_meter, meter_with, metered_words};
-ghost use Rattle.capi.specs.Metering.{opened_words, version_in, is_running, stopped_of, moved_words, answered_of};
+ghost use Rattle.capi.specs.Metering.{opened_words, is_running, stopped_of, moved_words, answered_of};
 
-use crate::words::{flag, is_reader};
-use crate::{END, NO_STATE, places};
+use crate::words::is_reader;
+use crate::{END, NO_STATE, code, places};
 use format::Version;
-use format::numbered::version_number;
-use meter::{Meter, Metered, Next};
+use format::refusals::Refusal;
+use meter::{Meter, Metered};
 use reader::{Reader, Stop};
-
-// The edition that a number says.
-#[derive(Drop)]
-pub enum GivenVersion {
-    Good(Version),
-    Bad,
-}
 
 // ---- opening
 
 // Puts a meter that was opened, and so has passed nothing, into words.
+#[tactic(auto, unfolding(crate::specs::Metering::opened_words))]
 pub(crate) fn store_opened(words: &mut [u64], m: Meter)
     requires { 11 ≤ length words.old }
     ensures { words.new ≡ opened_words m words.old }
 {
     let reader = m.reader;
-    let version = reader.version;
-    words[places::METER_VERSION] = version_number(version) as u64;
-    words[places::METER_IN_WORK] = flag(reader.in_work);
+    words[places::METER_VERSION] = u64::from(u8::from(reader.version));
+    words[places::METER_IN_WORK] = u64::from(reader.in_work);
     words[places::METER_BEGIN] = reader.begin as u64;
     words[places::METER_AT] = reader.at as u64;
     words[places::METER_END] = reader.end as u64;
@@ -36,7 +29,7 @@ pub(crate) fn store_opened(words: &mut [u64], m: Meter)
     words[places::METER_FRAMES] = 0;
     words[places::METER_SHORT] = 0;
     words[places::METER_COMPRESSED] = 0;
-    words[places::METER_MISSING] = flag(m.missing);
+    words[places::METER_MISSING] = u64::from(m.missing);
 }
 
 // ---- a meter that runs
@@ -50,18 +43,6 @@ pub(crate) fn is_running(words: &[u64]) -> bool
         & ((words[places::METER_IN_WORK] <= 1)
             & ((words[places::METER_SHORT] <= 1)
                 & ((words[places::METER_COMPRESSED] <= 1) & (words[places::METER_MISSING] <= 1))))
-}
-
-// The edition that a number says, by one choice among its numbers, since every call of a meter asks it.
-pub(crate) fn version_in(n: u64) -> GivenVersion
-    ensures { result ≡ version_in n }
-{
-    match n {
-        2 => GivenVersion::Good(Version::Id3v22),
-        3 => GivenVersion::Good(Version::Id3v23),
-        4 => GivenVersion::Good(Version::Id3v24),
-        _ => GivenVersion::Bad,
-    }
 }
 
 // The meter that words say, if it is one that runs.
@@ -119,52 +100,56 @@ pub(crate) fn stopped(words: &[u64]) -> u32
 // ---- what came next
 
 // Puts what changes of a meter that goes on into its words.
+#[tactic(auto, unfolding(crate::specs::Metering::moved_words))]
 fn store_moved(words: &mut [u64], m: Meter)
     requires { 11 ≤ length words.old }
     ensures { words.new ≡ moved_words m words.old }
 {
-    let reader = m.reader;
-    words[places::METER_AT] = reader.at as u64;
+    words[places::METER_AT] = m.reader.at as u64;
     words[places::METER_FRAMES] = m.frames;
-    words[places::METER_SHORT] = flag(m.short);
-    words[places::METER_COMPRESSED] = flag(m.compressed);
+    words[places::METER_SHORT] = u64::from(m.short);
+    words[places::METER_COMPRESSED] = u64::from(m.compressed);
 }
 
 // Puts a popularimeter into words.
+#[tactic(auto, unfolding(crate::specs::Meters::metered_words))]
 fn store_metered(words: &mut [u64], p: Metered)
     requires { 6 ≤ length words.old }
     ensures { words.new ≡ metered_words p words.old }
 {
-    words[places::METERED_IN_WORK] = flag(p.in_work);
+    words[places::METERED_IN_WORK] = u64::from(p.in_work);
     words[places::METERED_USER_START] = p.user.start as u64;
     words[places::METERED_USER_LEN] = p.user.len as u64;
-    words[places::METERED_RATING] = p.rating as u64;
+    words[places::METERED_RATING] = u64::from(p.rating);
     words[places::METERED_COUNTER] = p.counter;
     words[places::METERED_FRAME] = p.frame;
 }
 
 // Puts what came next into the words of a meter that ran, and into those of the popularimeter.
-pub(crate) fn answered(meter: &mut [u64], metered: &mut [u64], next: Next) -> u32
+pub(crate) fn answered(
+    meter: &mut [u64],
+    metered: &mut [u64],
+    next: Result<Option<Metered>, Refusal>,
+    m: Meter,
+) -> u32
     requires in_bounds { 11 ≤ length meter.old }
     requires in_bounds_2 { 6 ≤ length metered.old }
-    ensures { (result, meter.new, metered.new) ≡ answered_of next meter.old metered.old }
+    ensures { (result, meter.new, metered.new) ≡ answered_of (next, m) meter.old metered.old }
 {
+    store_moved(meter, m);
     match next {
-        Next::Found(p, moved) => {
-            store_moved(meter, moved);
+        Ok(Some(p)) => {
             store_metered(metered, p);
             0
         }
-        Next::End(ended) => {
-            store_moved(meter, ended);
+        Ok(None) => {
             meter[places::METER_STOP] = places::STOP_ENDED;
             END
         }
-        Next::Refused(k, failed) => {
-            store_moved(meter, failed);
+        Err(k) => {
             meter[places::METER_STOP] = places::STOP_REFUSED;
-            meter[places::METER_NUMBER] = k as u64;
-            k as u32
+            meter[places::METER_NUMBER] = u64::from(k.number);
+            code(k)
         }
     }
 }

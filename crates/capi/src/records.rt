@@ -4,11 +4,11 @@ ghost use Rattle.std.proofs.lemmas.List.Edits.{sets};
 ghost use Rattle.capi.specs.Words.{numbers_of, heading_list, place_list, record_words, cap8 as cap8Of, cap32 as cap32Of, text_if, popularimeter_if, table_if, chapter_if, contents_if, fields_in, heading_of, heading_in};
 
 use crate::places;
-use crate::words::flag;
+use crate::words::flag_in;
 use format::{Fields, Heading, Record};
 
 // A kind and its five numbers.
-#[derive(Drop)]
+#[derive(Default, Drop)]
 pub struct Numbers {
     pub kind: u64,
     pub a: u64,
@@ -16,20 +16,6 @@ pub struct Numbers {
     pub c: u64,
     pub d: u64,
     pub e: u64,
-}
-
-// The fields that words say.
-#[derive(Drop)]
-pub enum GivenFields {
-    Good(Fields),
-    Bad,
-}
-
-// The heading that words say.
-#[derive(Drop)]
-pub enum GivenHeading {
-    Good(Heading),
-    Bad,
 }
 
 // ---- records to words
@@ -41,19 +27,14 @@ fn numbers_of(fields: Fields) -> Numbers
     match fields {
         Fields::Text { encoding } => Numbers {
             kind: places::KIND_TEXT,
-            a: encoding as u64,
-            b: 0,
-            c: 0,
-            d: 0,
-            e: 0,
+            a: u64::from(encoding),
+            ..Numbers::default()
         },
         Fields::Popularimeter { rating, counter } => Numbers {
             kind: places::KIND_POPULARIMETER,
-            a: rating as u64,
+            a: u64::from(rating),
             b: counter,
-            c: 0,
-            d: 0,
-            e: 0,
+            ..Numbers::default()
         },
         Fields::Table {
             frames,
@@ -63,11 +44,11 @@ fn numbers_of(fields: Fields) -> Numbers
             bits_for_millis,
         } => Numbers {
             kind: places::KIND_TABLE,
-            a: frames as u64,
-            b: bytes as u64,
-            c: millis as u64,
-            d: bits_for_bytes as u64,
-            e: bits_for_millis as u64,
+            a: u64::from(frames),
+            b: u64::from(bytes),
+            c: u64::from(millis),
+            d: u64::from(bits_for_bytes),
+            e: u64::from(bits_for_millis),
         },
         Fields::Chapter {
             start_time,
@@ -76,27 +57,21 @@ fn numbers_of(fields: Fields) -> Numbers
             end_offset,
         } => Numbers {
             kind: places::KIND_CHAPTER,
-            a: start_time as u64,
-            b: end_time as u64,
-            c: start_offset as u64,
-            d: end_offset as u64,
-            e: 0,
+            a: u64::from(start_time),
+            b: u64::from(end_time),
+            c: u64::from(start_offset),
+            d: u64::from(end_offset),
+            ..Numbers::default()
         },
         Fields::Contents { top_level, ordered } => Numbers {
             kind: places::KIND_CONTENTS,
-            a: flag(top_level),
-            b: flag(ordered),
-            c: 0,
-            d: 0,
-            e: 0,
+            a: u64::from(top_level),
+            b: u64::from(ordered),
+            ..Numbers::default()
         },
         Fields::Raw => Numbers {
             kind: places::KIND_RAW,
-            a: 0,
-            b: 0,
-            c: 0,
-            d: 0,
-            e: 0,
+            ..Numbers::default()
         },
     }
 }
@@ -106,12 +81,11 @@ fn store_heading(words: &mut [u64], h: Heading)
     requires { 19 ≤ length words.old }
     ensures { words.new ≡ sets words.old 0 (heading_list h) }
 {
-    let fields = h.fields;
-    let n = numbers_of(fields);
+    let n = numbers_of(h.fields);
     words[places::RECORD_KIND] = n.kind;
-    words[places::RECORD_ID] = h.id as u64;
-    words[places::RECORD_SHORT] = flag(h.short);
-    words[places::RECORD_COMPRESSED] = flag(h.compressed);
+    words[places::RECORD_ID] = u64::from(h.id);
+    words[places::RECORD_SHORT] = u64::from(h.short);
+    words[places::RECORD_COMPRESSED] = u64::from(h.compressed);
     words[places::RECORD_A] = n.a;
     words[places::RECORD_B] = n.b;
     words[places::RECORD_C] = n.c;
@@ -125,7 +99,7 @@ fn store_places(words: &mut [u64], r: Record)
     ensures { words.new ≡ sets words.old 9 (place_list r) }
 {
     words[places::RECORD_AT] = r.at as u64;
-    words[places::RECORD_IN_WORK] = flag(r.in_work);
+    words[places::RECORD_IN_WORK] = u64::from(r.in_work);
     words[places::RECORD_BODY_START] = r.body.start as u64;
     words[places::RECORD_BODY_LEN] = r.body.len as u64;
     words[places::RECORD_NAME_START] = r.name.start as u64;
@@ -137,69 +111,57 @@ fn store_places(words: &mut [u64], r: Record)
 }
 
 // Puts a record into words.
+#[tactic(auto, unfolding(crate::specs::Words::record_words))]
 pub(crate) fn store_record(words: &mut [u64], r: Record)
     requires { 19 ≤ length words.old }
     ensures { words.new ≡ record_words r words.old }
 {
-    let heading = r.heading;
-    store_heading(words, heading);
+    store_heading(words, r.heading);
     store_places(words, r);
 }
 
 // ---- words to headings
 
-// What numbers of 8, 16 and 32 bits stay below.
-const LIMIT_8: u64 = 0x100;
-
-const LIMIT_16: u64 = 0x1_0000;
-
-const LIMIT_32: u64 = 0x1_0000_0000;
-
 // A number, or the largest of 8 bits where it is beyond them.
 fn cap8(n: u64) -> u8
     ensures { result ≡ cap8Of n }
 {
-    if n < LIMIT_8 { n as u8 } else { 0xFF }
+    u8::try_from(n).unwrap_or(u8::MAX)
 }
 
 // A number, or the largest of 32 bits where it is beyond them.
+// Kept: a twin of cap8; both names stand in specs/Words.antt.
 fn cap32(n: u64) -> u32
     ensures { result ≡ cap32Of n }
 {
-    if n < LIMIT_32 { n as u32 } else { 0xFFFF_FFFF }
+    u32::try_from(n).unwrap_or(u32::MAX)
 }
 
 // A text with its encoding.
-fn text_fields(encoding: u64) -> GivenFields
+fn text_fields(encoding: u64) -> Option<Fields>
     ensures { result ≡ text_if encoding }
 {
-    GivenFields::Good(Fields::Text {
+    Some(Fields::Text {
         encoding: cap8(encoding),
     })
 }
 
 // A popularimeter with its rating and counter.
-fn popularimeter_fields(rating: u64, counter: u64) -> GivenFields
+fn popularimeter_fields(rating: u64, counter: u64) -> Option<Fields>
     ensures { result ≡ popularimeter_if rating counter }
 {
-    if rating >= LIMIT_8 {
-        return GivenFields::Bad;
-    }
-    GivenFields::Good(Fields::Popularimeter {
-        rating: rating as u8,
+    Some(Fields::Popularimeter {
+        rating: u8::try_from(rating).ok()?,
         counter,
     })
 }
 
 // A table with its steps and widths.
-fn table_fields(frames: u64, bytes: u64, millis: u64, v: u64, w: u64) -> GivenFields
+fn table_fields(frames: u64, bytes: u64, millis: u64, v: u64, w: u64) -> Option<Fields>
     ensures { result ≡ table_if frames bytes millis v w }
 {
-    if frames >= LIMIT_16 {
-        return GivenFields::Bad;
-    }
-    GivenFields::Good(Fields::Table {
-        frames: frames as u16,
+    Some(Fields::Table {
+        frames: u16::try_from(frames).ok()?,
         bytes: cap32(bytes),
         millis: cap32(millis),
         bits_for_bytes: cap8(v),
@@ -208,47 +170,35 @@ fn table_fields(frames: u64, bytes: u64, millis: u64, v: u64, w: u64) -> GivenFi
 }
 
 // A chapter with its times and offsets.
-fn chapter_fields(start_time: u64, end_time: u64, start_offset: u64, end_offset: u64) -> GivenFields
+fn chapter_fields(
+    start_time: u64,
+    end_time: u64,
+    start_offset: u64,
+    end_offset: u64,
+) -> Option<Fields>
     ensures { result ≡ chapter_if start_time end_time start_offset end_offset }
 {
-    if start_time >= LIMIT_32 {
-        return GivenFields::Bad;
-    }
-    if end_time >= LIMIT_32 {
-        return GivenFields::Bad;
-    }
-    if start_offset >= LIMIT_32 {
-        return GivenFields::Bad;
-    }
-    if end_offset >= LIMIT_32 {
-        return GivenFields::Bad;
-    }
-    GivenFields::Good(Fields::Chapter {
-        start_time: start_time as u32,
-        end_time: end_time as u32,
-        start_offset: start_offset as u32,
-        end_offset: end_offset as u32,
+    Some(Fields::Chapter {
+        start_time: u32::try_from(start_time).ok()?,
+        end_time: u32::try_from(end_time).ok()?,
+        start_offset: u32::try_from(start_offset).ok()?,
+        end_offset: u32::try_from(end_offset).ok()?,
     })
 }
 
 // A table of contents with its two marks.
-fn contents_fields(top_level: u64, ordered: u64) -> GivenFields
+fn contents_fields(top_level: u64, ordered: u64) -> Option<Fields>
     ensures { result ≡ contents_if top_level ordered }
 {
-    if top_level > 1 {
-        return GivenFields::Bad;
-    }
-    if ordered > 1 {
-        return GivenFields::Bad;
-    }
-    GivenFields::Good(Fields::Contents {
-        top_level: top_level == 1,
-        ordered: ordered == 1,
+    Some(Fields::Contents {
+        top_level: flag_in(top_level)?,
+        ordered: flag_in(ordered)?,
     })
 }
 
 // The fields that words say.
-fn load_fields(words: &[u64]) -> GivenFields
+#[tactic(auto, unfolding(crate::specs::Words::fields_of))]
+fn load_fields(words: &[u64]) -> Option<Fields>
     requires { 19 ≤ length words.now }
     ensures { result ≡ fields_in words.now }
 {
@@ -275,32 +225,23 @@ fn load_fields(words: &[u64]) -> GivenFields
             words[places::CONTENTS_TOP_LEVEL],
             words[places::CONTENTS_ORDERED],
         ),
-        places::KIND_RAW => GivenFields::Good(Fields::Raw),
-        _ => GivenFields::Bad,
+        places::KIND_RAW => Some(Fields::Raw),
+        _ => None,
     }
 }
 
 // The heading that words say.
-pub(crate) fn load_heading(words: &[u64]) -> GivenHeading
+#[tactic(auto, unfolding(crate::specs::Words::heading_of))]
+pub(crate) fn load_heading(words: &[u64]) -> Option<Heading>
     requires { 19 ≤ length words.now }
     ensures { result ≡ heading_of words.now }
 {
-    let id = words[places::RECORD_ID];
-    let short = words[places::RECORD_SHORT];
-    let compressed = words[places::RECORD_COMPRESSED];
-    if id >= LIMIT_32 {
-        return GivenHeading::Bad;
-    }
-    let given = load_fields(words);
-    match given {
-        GivenFields::Good(fields) => GivenHeading::Good(Heading {
-            id: id as u32,
-            short: short != 0,
-            compressed: compressed != 0,
-            fields,
-        }),
-        GivenFields::Bad => GivenHeading::Bad,
-    }
+    Some(Heading {
+        id: u32::try_from(words[places::RECORD_ID]).ok()?,
+        short: words[places::RECORD_SHORT] != 0,
+        compressed: words[places::RECORD_COMPRESSED] != 0,
+        fields: load_fields(words)?,
+    })
 }
 
 // The heading that words say. Words that are no record stand for one whose id no edition has: adding refuses it with 21.
@@ -308,14 +249,10 @@ pub(crate) fn heading_in(words: &[u64]) -> Heading
     requires { 19 ≤ length words.now }
     ensures { result ≡ heading_in words.now }
 {
-    let given = load_heading(words);
-    match given {
-        GivenHeading::Good(h) => h,
-        GivenHeading::Bad => Heading {
-            id: 0,
-            short: false,
-            compressed: false,
-            fields: Fields::Raw,
-        },
-    }
+    load_heading(words).unwrap_or(Heading {
+        id: 0,
+        short: false,
+        compressed: false,
+        fields: Fields::Raw,
+    })
 }

@@ -1,94 +1,64 @@
 // Headers, readers and writers, loaded from words and stored there. What each word means stands in specs/Words.antt.
-ghost use Rattle.std.specs.Prelude.{◌≡◌, ◌&&◌, ◌≤◌, length};
-ghost use Rattle.writer.specs.Writer.{is_known};
-ghost use Rattle.capi.specs.Words.{flag as flagOf, is_flag, stop_number, failure, stop_of, is_stop, header_words, is_reader, reader_words, reader_of, writer_words, writer_of};
+ghost use Rattle.std.specs.Prelude.{◌≡◌, ◌≤◌, length};
+ghost use Rattle.capi.specs.Words.{flag_in, stop_number, failure, stop_in, header_words, is_reader, reader_words, reader_of, writer_words, writer_of};
 
 use crate::places;
-use format::numbered::{is_mode, is_version, mode_number, mode_of, version_number, version_of};
+use format::refusals::Refusal;
+use format::{Mode, Version};
 use reader::{Header, Reader, Stop};
 use writer::Writer;
 
-// The reader that words say.
-#[derive(Drop)]
-pub enum GivenReader {
-    Good(Reader),
-    Bad,
-}
-
-// The writer that words say.
-#[derive(Drop)]
-pub enum GivenWriter {
-    Good(Writer),
-    Bad,
-}
-
 // ---- single words
 
-// No and yes as 0 and 1.
-pub(crate) fn flag(on: bool) -> u64
-    ensures { result ≡ flagOf on }
+// No or yes, if a word says it by 0 or 1.
+pub(crate) fn flag_in(n: u64) -> Option<bool>
+    ensures { result ≡ flag_in n }
 {
-    if on { 1 } else { 0 }
+    match n {
+        0 => Some(false),
+        1 => Some(true),
+        _ => None,
+    }
 }
 
 // ---- headers
 
 // Puts a header into words.
+#[tactic(auto, unfolding(crate::specs::Words::header_words))]
 pub(crate) fn store_header(words: &mut [u64], h: Header)
     requires { 4 ≤ length words.old }
     ensures { words.new ≡ header_words h words.old }
 {
-    let version = h.version;
-    words[places::HEADER_VERSION] = version_number(version) as u64;
-    words[places::HEADER_FLAGS] = h.flags as u64;
+    words[places::HEADER_VERSION] = u64::from(u8::from(h.version));
+    words[places::HEADER_FLAGS] = u64::from(h.flags);
     words[places::HEADER_SIZE] = h.size as u64;
     words[places::HEADER_EXT] = h.ext as u64;
 }
 
 // ---- readers
 
-// Whether a reader runs, has ended, or was refused, as a number.
-fn stop_number(stop: Stop) -> u64
-    ensures { result ≡ stop_number stop }
+// How a reader has stopped, as two numbers: whether it runs, has ended or was refused, and the refusal's number, 0 for none.
+fn stop_numbers(stop: Stop) -> (u64, u64)
+    ensures { result ≡ (stop_number stop, failure stop) }
 {
     match stop {
-        Stop::Running => places::STOP_RUNNING,
-        Stop::Ended => places::STOP_ENDED,
-        Stop::Failed(_) => places::STOP_REFUSED,
+        Stop::Running => (places::STOP_RUNNING, 0),
+        Stop::Ended => (places::STOP_ENDED, 0),
+        Stop::Failed(k) => (places::STOP_REFUSED, u64::from(k.number)),
     }
 }
 
-// The number of the refusal, 0 for none.
-fn failure_number(stop: Stop) -> u64
-    ensures { result ≡ failure stop }
+// How a reader has stopped, if two words say it: a refusal has a number, and nothing else has.
+fn stop_in(stop: u64, number: u64) -> Option<Stop>
+    ensures { result ≡ stop_in stop number }
 {
-    match stop {
-        Stop::Running => 0,
-        Stop::Ended => 0,
-        Stop::Failed(k) => k as u64,
-    }
-}
-
-// Whether two words say how a reader has stopped: a refusal has a number, and nothing else has.
-fn is_stop(stop: u64, number: u64) -> bool
-    ensures { result ≡ is_stop stop number }
-{
-    if stop == places::STOP_REFUSED {
-        (1 <= number) & (number <= 255)
-    } else {
-        (stop <= places::STOP_ENDED) & (number == 0)
-    }
-}
-
-// What these two words say.
-fn stop_of(stop: u64, number: u64) -> Stop
-    requires { number ≤ 255 }
-    ensures { result ≡ stop_of stop number }
-{
-    match stop {
-        places::STOP_RUNNING => Stop::Running,
-        places::STOP_ENDED => Stop::Ended,
-        _ => Stop::Failed(number as u8),
+    match (stop, number) {
+        (places::STOP_RUNNING, 0) => Some(Stop::Running),
+        (places::STOP_ENDED, 0) => Some(Stop::Ended),
+        (places::STOP_REFUSED, 1..=255) => Some(Stop::Failed(Refusal {
+            number: number as u8,
+        })),
+        _ => None,
     }
 }
 
@@ -96,86 +66,65 @@ fn stop_of(stop: u64, number: u64) -> Stop
 pub(crate) fn is_reader(version: u64, in_work: u64, stop: u64, number: u64) -> bool
     ensures { result ≡ is_reader version in_work stop number }
 {
-    is_version(version) & ((in_work <= 1) & is_stop(stop, number))
+    Version::try_from(version).is_ok() & ((in_work <= 1) & stop_in(stop, number).is_some())
 }
 
 // The reader that words say.
-pub(crate) fn load_reader(words: &[u64]) -> GivenReader
+#[tactic(auto, unfolding(crate::specs::Words::reader_of))]
+pub(crate) fn load_reader(words: &[u64]) -> Option<Reader>
     requires { 7 ≤ length words.now }
     ensures { result ≡ reader_of words.now }
 {
-    if !is_reader(
-        words[places::READER_VERSION],
-        words[places::READER_IN_WORK],
-        words[places::READER_STOP],
-        words[places::READER_NUMBER],
-    ) {
-        return GivenReader::Bad;
-    }
-    GivenReader::Good(Reader {
-        version: version_of(words[places::READER_VERSION]),
-        in_work: words[places::READER_IN_WORK] == 1,
+    Some(Reader {
+        version: Version::try_from(words[places::READER_VERSION]).ok()?,
+        in_work: flag_in(words[places::READER_IN_WORK])?,
         begin: words[places::READER_BEGIN] as usize,
         at: words[places::READER_AT] as usize,
         end: words[places::READER_END] as usize,
-        stop: stop_of(words[places::READER_STOP], words[places::READER_NUMBER]),
+        stop: stop_in(words[places::READER_STOP], words[places::READER_NUMBER])?,
     })
 }
 
 // Puts a reader into words.
+#[tactic(auto, unfolding(crate::specs::Words::reader_words))]
 pub(crate) fn store_reader(words: &mut [u64], r: Reader)
     requires { 7 ≤ length words.old }
     ensures { words.new ≡ reader_words r words.old }
 {
-    let version = r.version;
-    let stop = r.stop;
-    words[places::READER_VERSION] = version_number(version) as u64;
-    words[places::READER_IN_WORK] = flag(r.in_work);
+    let (stop, number) = stop_numbers(r.stop);
+    words[places::READER_VERSION] = u64::from(u8::from(r.version));
+    words[places::READER_IN_WORK] = u64::from(r.in_work);
     words[places::READER_BEGIN] = r.begin as u64;
     words[places::READER_AT] = r.at as u64;
     words[places::READER_END] = r.end as u64;
-    words[places::READER_STOP] = stop_number(stop);
-    words[places::READER_NUMBER] = failure_number(stop);
+    words[places::READER_STOP] = stop;
+    words[places::READER_NUMBER] = number;
 }
 
 // ---- writers
 
-// Whether the words before the last are those of a writer.
-fn is_writer(version: u64, mode: u64, altered: u64) -> bool
-    ensures { result ≡ (is_known version mode && is_flag altered) }
-{
-    (is_version(version) & is_mode(mode)) & (altered <= 1)
-}
-
 // The writer that words say.
-pub(crate) fn load_writer(words: &[u64]) -> GivenWriter
+#[tactic(auto, unfolding(crate::specs::Words::writer_of))]
+pub(crate) fn load_writer(words: &[u64]) -> Option<Writer>
     requires { 4 ≤ length words.now }
     ensures { result ≡ writer_of words.now }
 {
-    if !is_writer(
-        words[places::WRITER_VERSION],
-        words[places::WRITER_MODE],
-        words[places::WRITER_ALTERED],
-    ) {
-        return GivenWriter::Bad;
-    }
-    GivenWriter::Good(Writer {
-        version: version_of(words[places::WRITER_VERSION]),
-        mode: mode_of(words[places::WRITER_MODE]),
-        altered: words[places::WRITER_ALTERED] == 1,
+    Some(Writer {
+        version: Version::try_from(words[places::WRITER_VERSION]).ok()?,
+        mode: Mode::try_from(words[places::WRITER_MODE]).ok()?,
+        altered: flag_in(words[places::WRITER_ALTERED])?,
         used: words[places::WRITER_USED] as usize,
     })
 }
 
 // Puts a writer into words.
+#[tactic(auto, unfolding(crate::specs::Words::writer_words))]
 pub(crate) fn store_writer(words: &mut [u64], w: Writer)
     requires { 4 ≤ length words.old }
     ensures { words.new ≡ writer_words w words.old }
 {
-    let version = w.version;
-    let mode = w.mode;
-    words[places::WRITER_VERSION] = version_number(version) as u64;
-    words[places::WRITER_MODE] = mode_number(mode) as u64;
-    words[places::WRITER_ALTERED] = flag(w.altered);
+    words[places::WRITER_VERSION] = u64::from(u8::from(w.version));
+    words[places::WRITER_MODE] = u64::from(u8::from(w.mode));
+    words[places::WRITER_ALTERED] = u64::from(w.altered);
     words[places::WRITER_USED] = w.used as u64;
 }

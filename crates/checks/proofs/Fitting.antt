@@ -1,6 +1,6 @@
 -- Laws of deviations that fit their widths, at positions, and of a table's checks. Assumes nothing.
 use mathlib.Core.Path.{◌≡◌, refl}
-use Prim.Native.Nat.{ℕ, ◌+◌, ◌*◌, ◌%◌, ◌^◌, ◌≤◌, ◌<◌}
+use Prim.Native.Nat.{ℕ, ◌+◌, ◌^◌, ◌≤◌, ◌<◌}
 use native.Mathlib.Numerals.{add-one}
 use native.Mathlib.Omega.{arith}
 use mathlib.Core.Bool.{true, false, ◌&&◌}
@@ -8,15 +8,11 @@ use mathlib.Core.List.{List, [], ◌∷◌}
 use lib.ListN.{length, drop, get_or}
 use lib.Seq.{drop-cons}
 use lib.Dec.{ltb}
-use lib.Pow.{pow-lt, pow_mono}
+use lib.Pow.{pow_mono}
 use borrow.Author.Tests.{lt-ltb}
 use Rattle.format.specs.Table.{fit}
 
 -- ---- one number
-
--- the limit of a width below 32, as it is computed
-pub limit : (width : ℕ) → width < 32 → 1 * 2 ^ width % 2 ^ 32 ≡ 2 ^ width
-limit width h = omega (arith, pow-lt {i = width} {j = 32} h)
 
 pub any_fits : (x width : ℕ) → x < 2 ^ 32 → 32 ≤ width → ltb x (2 ^ width) ≡ true
 any_fits x width h g = lt-ltb x (2 ^ width) (omega (arith, pow_mono {i = 32} {j = width} g))

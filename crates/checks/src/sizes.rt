@@ -1,34 +1,20 @@
 // How long a body may be.
 ghost use Rattle.std.specs.Prelude.{◌≡◌};
 ghost use Rattle.checks.specs.Sizes.{size_refusal};
+ghost use Rattle.format.specs.Refusals.{passed};
 
 use format::Version;
-use format::refusals::{EMPTY_BODY, LONG_BODY, TOO_LONG};
+use format::refusals::{EMPTY_BODY, LONG_BODY, Refusal, TOO_LONG};
 
-// 22 and 23: a 2.2 body has 1 to 16,777,215 bytes.
-fn short_size_check(size: usize) -> u8
-    ensures { result ≡ size_refusal Version.Id3v22 size }
-{
-    if size == 0 {
-        return EMPTY_BODY;
-    }
-    if 0xFFFFFF < size { LONG_BODY } else { 0 }
-}
-
-// 24: a stored body has at most 268,435,455 bytes.
-fn long_size_check(size: usize) -> u8
-    ensures { result ≡ size_refusal Version.Id3v23 size }
-{
-    if 0xFFFFFFF < size { TOO_LONG } else { 0 }
-}
-
-// 22, 23 and 24, of a body as it is stored.
-pub fn size_check(version: Version, size: usize) -> u8
-    ensures { result ≡ size_refusal version size }
+// 22, 23 and 24, of a body as it is stored: in 2.2 it has 1 to 16,777,215 bytes, from 2.3 on at most 268,435,455.
+#[tactic(auto, unfolding(crate::specs::Sizes::size_refusal, format::specs::Bytes::first))]
+pub fn size_check(version: Version, size: usize) -> Result<(), Refusal>
+    ensures { result ≡ passed (size_refusal version size) }
 {
     match version {
-        Version::Id3v22 => short_size_check(size),
-        Version::Id3v23 => long_size_check(size),
-        Version::Id3v24 => long_size_check(size),
+        Version::Id3v22 if size == 0 => Err(EMPTY_BODY),
+        Version::Id3v22 if 0xFFFFFF < size => Err(LONG_BODY),
+        Version::Id3v23 | Version::Id3v24 if 0xFFFFFFF < size => Err(TOO_LONG),
+        _ => Ok(()),
     }
 }

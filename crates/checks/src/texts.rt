@@ -2,12 +2,17 @@
 ghost use Rattle.std.specs.Prelude.{◌≡◌, []};
 ghost use Rattle.format.specs.Record.{text};
 ghost use Rattle.format.specs.Encode.{encoding_check};
+ghost use Rattle.format.specs.Refusals.{passed};
 
-use format::refusals::UNKNOWN_ENCODING;
+use format::refusals::{Refusal, UNKNOWN_ENCODING};
 
 // 12: the encoding is over 3. Nothing else of a record decides it.
-pub(crate) fn encoding_check(encoding: u8) -> u8
-    ensures { result ≡ encoding_check (text encoding []) }
+pub(crate) fn encoding_check(encoding: u8) -> Result<(), Refusal>
+    ensures { result ≡ passed (encoding_check (text encoding [])) }
 {
-    if 3 < encoding { UNKNOWN_ENCODING } else { 0 }
+    if 3 < encoding {
+        Err(UNKNOWN_ENCODING)
+    } else {
+        Ok(())
+    }
 }

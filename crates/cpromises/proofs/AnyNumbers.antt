@@ -24,7 +24,6 @@ use Rattle.format.proofs.Checks.{of_picked, first_none}
 use Rattle.format.proofs.Unsynch.{resync_shorter}
 use Rattle.format.proofs.Table.{length_gathered, widths_sum}
 use Rattle.reader.specs.Reader.{open_whole, open_of}
-use Rattle.reader.specs.declared.Opened.{Opened}
 use Rattle.promises.specs.Reading.{Reading, read_from, on_open, read_for}
 use Rattle.promises.proofs.Opening.{source}
 use Rattle.promises.proofs.Stepping.{reader}
@@ -36,6 +35,9 @@ use Rattle.blocks.proofs.Regions.{source_then}
 use Rattle.cpromises.specs.Promises.{deviation_count, AtMost}
 use Rattle.cpromises.specs.AnyTag.{SvAnyNumbers}
 use Rattle.cpromises.proofs.AnyTag.{body_taken}
+use Rattle.std.specs.Prelude.{Result, Option, Ok, Err, Some, None}
+use Rattle.format.specs.declared.refusals.Refusal.{Refusal}
+use Rattle.reader.specs.declared.Reader.{Reader}
 
 -- ---- a body
 
@@ -86,25 +88,25 @@ module _ (n₀ : ℕ) (v : Version) (w : Bool) (begin end : ℕ) (tag : List ℕ
     abbrev s : List ℕ
     s = slice at end (source w tag work)
 
-    few_on_head : (x : Head) → head_of v 1 s ≡ x → Few (4 * n₀) (read_from (suc n) tag (reader v w begin at end) work)
-    few_on_head Head.Nothing e = subst (Few (4 * n₀)) (sym (end_read v n begin at end tag work w e)) tt
-    few_on_head (Head.Refused k) e = subst (Few (4 * n₀)) (sym (refused_read v n begin at end tag work w e)) tt
-    few_on_head (Head.Found id c f h start len) e =
-        let stored = take len (drop start s) in
+    few_on_head : (x : Result (Option Head) Refusal) → head_of v 1 s ≡ x → Few (4 * n₀) (read_from (suc n) tag (reader v w begin at end) work)
+    few_on_head (Ok None) e = subst (Few (4 * n₀)) (sym (end_read v n begin at end tag work w e)) tt
+    few_on_head (Err k) e = subst (Few (4 * n₀)) (sym (refused_read v n begin at end tag work w e)) tt
+    few_on_head (Ok (Some h')) e =
+        let stored = take h'.len (drop h'.start s) in
         let room = room_of w work in
-        let kind = shown_kind v id c in
-        let o = out_of v id c f stored room in
-        let b = shown_body (is_resynced c f) stored in
-        let k = start + len in
+        let kind = shown_kind v h'.id h'.compressed in
+        let o = out_of v h'.id h'.compressed h'.flagged stored room in
+        let b = shown_body (is_resynced h'.compressed h'.flagged) stored in
+        let k = h'.start + h'.len in
         let next = go_on n tag (reader v w begin (at + k) end) work in
-        let read : read_from (suc n) tag (reader v w begin at end) work ≡ on_sight next (pick (eqb o.0 0) (shows (rec_in v id c f h stored)) (refuses o.0)) o.1 =
-        first_read v n begin at end tag work w e ∙ ap (λ (x : Sight × List ℕ). on_sight next x.0 x.1) (sight_is v id c f h start len s e room) in
-        let part : length b ≤ n₀ = omega (arith, shown_shorter (is_resynced c f) stored, length-take len (drop start s), length-drop start s) in
+        let read : read_from (suc n) tag (reader v w begin at end) work ≡ on_sight next (pick (eqb o.0 0) (shows (rec_in v h'.id h'.compressed h'.flagged h'.short stored)) (refuses o.0)) o.1 =
+        first_read v n begin at end tag work w e ∙ ap (λ (x : Sight × List ℕ). on_sight next x.0 x.1) (sight_is v h'.id h'.compressed h'.flagged h'.short h'.start h'.len s e room) in
+        let part : length b ≤ n₀ = omega (arith, shown_shorter (is_resynced h'.compressed h'.flagged) stored, length-take h'.len (drop h'.start s), length-drop h'.start s) in
         let rest : length (slice (at + k) end (source w tag (work_then w work o.1))) ≤ n₀ =
         rw (source_then w tag work o.1, slice_drop at k end (source w tag work)) (omega (arith, length-drop k s)) in
         subst (Few (4 * n₀)) (sym read)
-        (on_few (4 * n₀) o.0 (rec_in v id c f h stored) next o.1 (eqb o.0 0) refl
-        (λ z. omega (arith, content_few v b kind (body_taken (walked false v 2) kind (is_resynced c f) stored room z)))
+        (on_few (4 * n₀) o.0 (rec_in v h'.id h'.compressed h'.flagged h'.short stored) next o.1 (eqb o.0 0) refl
+        (λ z. omega (arith, content_few v b kind (body_taken (walked false v 2) kind (is_resynced h'.compressed h'.flagged) stored room z)))
         (go (at + k) (work_then w work o.1) rest))
 
   all_few : (n : ℕ) → From n
@@ -115,7 +117,7 @@ module _ (n₀ : ℕ) (v : Version) (w : Bool) (begin end : ℕ) (tag : List ℕ
 -- ---- a tag
 
 module _ (tag work : List ℕ) where
-  abbrev Opens : Opened × List ℕ → Type 0
+  abbrev Opens : Result Reader Refusal × List ℕ → Type 0
   Opens o = Few (4 * length tag) (on_open (length tag) tag o.0 o.1)
 
   opens : Opens (open_of tag work)

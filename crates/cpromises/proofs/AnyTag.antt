@@ -1,6 +1,6 @@
 -- What is read of any bytes fits the words, so the exported functions read what the definitions read. Assumes nothing.
 use mathlib.Core.Path.{◌≡◌, refl, sym, ap, ◌∙◌, subst}
-use Prim.Native.Nat.{ℕ, zero, suc, ◌+◌, ◌-◌, ◌*◌, ◌^◌, ◌≤◌, ◌<◌}
+use Prim.Native.Nat.{ℕ, zero, suc, ◌+◌, ◌*◌, ◌^◌, ◌≤◌, ◌<◌}
 use native.Mathlib.Omega.{arith}
 use mathlib.Core.Bool.{Bool, true, false, not, ◌&&◌}
 use mathlib.Core.List.{List, [], ◌∷◌, ◌++◌}
@@ -26,7 +26,6 @@ use Rattle.format.proofs.Checks.{of_picked, first_none, none_else}
 use Rattle.format.proofs.Heads.{stands}
 use Rattle.format.proofs.Popularimeter.{taken_counted}
 use Rattle.reader.specs.Reader.{open_whole, open_of}
-use Rattle.reader.specs.declared.Opened.{Opened}
 use Rattle.promises.specs.Reading.{Reading, read_from, on_open, read_for, read_all}
 use Rattle.promises.proofs.Opening.{source}
 use Rattle.promises.proofs.Stepping.{reader}
@@ -41,6 +40,9 @@ use Rattle.cpromises.specs.AnyTag.{AllBytes, SvReads, SvAnyFollowed}
 use Rattle.cpromises.proofs.Fitting.{ContentFits}
 use Rattle.cpromises.proofs.Showing.{Given, Showable}
 use Rattle.cpromises.proofs.Reading.{AllShow, nothing, also, sv_reads}
+use Rattle.std.specs.Prelude.{Result, Option, Ok, Err, Some, None}
+use Rattle.format.specs.declared.refusals.Refusal.{Refusal}
+use Rattle.reader.specs.declared.Reader.{Reader}
 
 -- ---- bytes
 
@@ -168,27 +170,27 @@ module _ (m : ℕ) (v : Version) (w : Bool) (begin end : ℕ) (tag : List ℕ) w
     abbrev s : List ℕ
     s = slice at end (source w tag work)
 
-    shown_on_head : (x : Head) → head_of v 1 s ≡ x → Shown m (read_from (suc n) tag (reader v w begin at end) work)
-    shown_on_head Head.Nothing e = subst (Shown m) (sym (end_read v n begin at end tag work w e)) (λ a. nothing)
-    shown_on_head (Head.Refused k) e = subst (Shown m) (sym (refused_read v n begin at end tag work w e)) (λ a. nothing)
-    shown_on_head (Head.Found id c f short start len) e =
-        let stored = take len (drop start s) in
+    shown_on_head : (x : Result (Option Head) Refusal) → head_of v 1 s ≡ x → Shown m (read_from (suc n) tag (reader v w begin at end) work)
+    shown_on_head (Ok None) e = subst (Shown m) (sym (end_read v n begin at end tag work w e)) (λ a. nothing)
+    shown_on_head (Err k) e = subst (Shown m) (sym (refused_read v n begin at end tag work w e)) (λ a. nothing)
+    shown_on_head (Ok (Some h)) e =
+        let stored = take h.len (drop h.start s) in
         let room = room_of w work in
-        let kind = shown_kind v id c in
-        let o = out_of v id c f stored room in
-        let r = rec_in v id c f short stored in
-        let k = start + len in
+        let kind = shown_kind v h.id h.compressed in
+        let o = out_of v h.id h.compressed h.flagged stored room in
+        let r = rec_in v h.id h.compressed h.flagged h.short stored in
+        let k = h.start + h.len in
         let next = go_on n tag (reader v w begin (at + k) end) work in
         let read : read_from (suc n) tag (reader v w begin at end) work ≡ on_sight next (pick (eqb o.0 0) (shows r) (refuses o.0)) o.1 =
-        first_read v n begin at end tag work w e ∙ ap (λ (x : Sight × List ℕ). on_sight next x.0 x.1) (sight_is v id c f short start len s e room) in
-        let body : AllBytes (shown_body (is_resynced c f) stored) = shown_bytes (is_resynced c f) stored (part_bytes start len s b) in
-        let id_small : id < 2 ^ 32 = rw (stands v 1 s id c f short start len e).is_id_lem (id_fits v s b) in
+        first_read v n begin at end tag work w e ∙ ap (λ (x : Sight × List ℕ). on_sight next x.0 x.1) (sight_is v h.id h.compressed h.flagged h.short h.start h.len s e room) in
+        let body : AllBytes (shown_body (is_resynced h.compressed h.flagged) stored) = shown_bytes (is_resynced h.compressed h.flagged) stored (part_bytes h.start h.len s b) in
+        let id_small : h.id < 2 ^ 32 = rw (stands v 1 s h.id h.compressed h.flagged h.short h.start h.len e).is_id_lem (id_fits v s b) in
         let rest : AllBytes (slice (at + k) end (source w tag (work_then w work o.1))) =
         rw (source_then w tag work o.1, slice_drop at k end (source w tag work)) (bytes_drop k s b) in
         subst (Shown m) (sym read)
         (on_shown_lem m o.0 r next o.1 (eqb o.0 0) refl
         (λ z d.
-        let q = content_shows v (shown_body (is_resynced c f) stored) kind m body (body_taken (walked false v 2) kind (is_resynced c f) stored room z) d in
+        let q = content_shows v (shown_body (is_resynced h.compressed h.flagged) stored) kind m body (body_taken (walked false v 2) kind (is_resynced h.compressed h.flagged) stored room z) d in
         ((id_small, q.0), q.1))
         (go (at + k) (work_then w work o.1) rest))
 
@@ -200,7 +202,7 @@ module _ (m : ℕ) (v : Version) (w : Bool) (begin end : ℕ) (tag : List ℕ) w
 -- ---- a tag
 
 module _ (m : ℕ) (tag work : List ℕ) (b : AllBytes tag) where
-  abbrev Opens : Opened × List ℕ → Type 0
+  abbrev Opens : Result Reader Refusal × List ℕ → Type 0
   Opens o = Shown m (on_open (length tag) tag o.0 o.1)
 
   opens : Opens (open_of tag work)

@@ -7,20 +7,20 @@ use mathlib.Core.List.{List, [], ◌∷◌}
 use lib.ListN.{length}
 use borrow.Author.Tests.{ltb-true}
 use Rattle.format.specs.Record.{Rec}
-use Rattle.reader.specs.Reader.{open_of, step_of}
+use Rattle.reader.specs.Reader.{open_of, step_of, Step}
 use Rattle.reader.specs.Answers.{step_reader}
 use Rattle.reader.specs.declared.Reader.{Reader}
-use Rattle.reader.specs.declared.Opened.{Opened}
-use Rattle.reader.specs.declared.Step.{Step}
 use Rattle.reader.proofs.Numbered.{OfStep, step_number_lem, OfOpened, open_stopped}
 use Rattle.promises.proofs.Bounds.{ahead, step_ahead, open_within}
-use Rattle.capi.specs.declared.words.GivenReader.{GivenReader}
 use Rattle.capi.specs.Words.{reader_words, reader_of}
 use Rattle.capi.specs.Calls.{Left2, Left3, short, sv_open, after_step, sv_step}
 use Rattle.capi.proofs.Left.{enough, enough2, open_short, open_then, step_short, step_then}
 use Rattle.capi.proofs.Follows.{loaded_stopped, open_next, step_next}
 use Rattle.cpromises.specs.Reading.{buffer_in, unpacked, shown_in, SvReading, and_shown, on_step, sv_read_from, on_open, sv_read_for}
 use Rattle.cpromises.specs.Bounds.{SvFewFrames, SvFinishes}
+use Rattle.cpromises.proofs.Reading.{of_positive}
+use Rattle.std.specs.Prelude.{Result, Ok, Err, Some, None}
+use Rattle.format.specs.declared.refusals.Refusal.{Refusal}
 
 -- ---- any number of steps
 
@@ -41,10 +41,10 @@ shown_bounded n bytes fewer (suc k) l o h b = stops_bounded (suc n) 0 bytes k
 
 module _ (tag : List ℕ) where
   abbrev Bounds : ℕ → Type 0
-  Bounds n = (r : Reader) (work reader words numbers count : List ℕ) → reader_of reader ≡ GivenReader.Good r
+  Bounds n = (r : Reader) (work reader words numbers count : List ℕ) → reader_of reader ≡ Some r
       → Bounded n 0 (sv_read_from n tag work reader words numbers count) (ahead r tag work)
 
-  module _ (n : ℕ) (go : Bounds n) (r : Reader) (work reader words numbers count : List ℕ) (f : reader_of reader ≡ GivenReader.Good r) where
+  module _ (n : ℕ) (go : Bounds n) (r : Reader) (work reader words numbers count : List ℕ) (f : reader_of reader ≡ Some r) where
     abbrev left : List ℕ
     left = (step_of r tag work).1
 
@@ -58,14 +58,14 @@ module _ (tag : List ℕ) where
       taken : (x : Step) → (step_of r tag work).0 ≡ x → sv_step tag work reader words ≡ after_step (x, left) reader words
       taken x s = step_then tag work reader words e {s = x} {left = left} f refl s
 
-      next_reader : (x : Step) → (step_of r tag work).0 ≡ x → reader_of (sv_step tag work reader words).2 ≡ GivenReader.Good (step_reader x)
-      next_reader x s = step_next tag work reader both.0 words both.1 f ∙ ap (λ (y : Step). GivenReader.Good (step_reader y)) s
+      next_reader : (x : Step) → (step_of r tag work).0 ≡ x → reader_of (sv_step tag work reader words).2 ≡ Some (step_reader x)
+      next_reader x s = step_next tag work reader both.0 words both.1 f ∙ ap (λ (y : Step). Some (step_reader y)) s
 
       step_bounded : (x : Step) → (step_of r tag work).0 ≡ x → OfStep x → Next (sv_step tag work reader words)
-      step_bounded (Step.Frame rec r') s p =
-          let t = taken (Step.Frame rec r') s in
-          let g : reader_of (reader_words r' reader) ≡ GivenReader.Good r' = sym (ap (λ (o : Left3). reader_of o.2) t) ∙ next_reader (Step.Frame rec r') s in
-          let o = after_step (Step.Frame rec r', left) reader words in
+      step_bounded (Ok (Some rec), r') s p =
+          let t = taken (Ok (Some rec), r') s in
+          let g : reader_of (reader_words r' reader) ≡ Some r' = sym (ap (λ (o : Left3). reader_of o.2) t) ∙ next_reader (Ok (Some rec), r') s in
+          let o = after_step ((Ok (Some rec), r'), left) reader words in
           let given = o.3 in
           let buffer = buffer_in given tag left in
           let u = unpacked given buffer numbers count in
@@ -73,9 +73,10 @@ module _ (tag : List ℕ) where
           subst Next (sym t)
           (shown_bounded n (ahead r tag work) (ahead r' tag left) u.0 (shown_in given buffer u) (sv_read_from n tag left o.2 given u.1 u.2) (omega arith)
           (go r' left o.2 given u.1 u.2 g))
-      step_bounded (Step.End r') s p = subst Next (sym (taken (Step.End r') s)) (stops_bounded (suc n) 0 (ahead r tag work) 255)
-      step_bounded (Step.Refused zero r') s p = absurd (omega (arith, p.0.0))
-      step_bounded (Step.Refused (suc k) r') s p = subst Next (sym (taken (Step.Refused (suc k) r') s)) (stops_bounded (suc n) 0 (ahead r tag work) k)
+      step_bounded (Ok None, r') s p = subst Next (sym (taken (Ok None, r') s)) (stops_bounded (suc n) 0 (ahead r tag work) 255)
+      step_bounded (Err k, r') s p =
+          subst Next (sym (taken (Err k, r') s))
+          (of_positive (λ j. Next (j, left, reader_words r' reader, words)) (λ j. stops_bounded (suc n) 0 (ahead r tag work) j) k.number p.0.0)
 
     any_bounded : (t : Bool) → (short 7 reader || short 19 words) ≡ t → Next (sv_step tag work reader words)
     any_bounded true e = subst Next (sym (step_short tag work reader words e)) (stops_bounded (suc n) 0 (ahead r tag work) 19)
@@ -97,16 +98,16 @@ module _ (n : ℕ) (tag work reader words numbers count : List ℕ) where
     abbrev after : List ℕ
     after = (open_of tag work).1
 
-    open_bounded : (x : Opened) → open_of tag work ≡ (x, after) → OfOpened (x, after) → Opens (sv_open tag work reader)
-    open_bounded (Opened.Ready r) e p =
-        let t = open_then tag work reader {o = Opened.Ready r} {left = after} h (sym e) refl in
-        let g : reader_of (reader_words r reader) ≡ GivenReader.Good r = sym (ap (λ (o : Left2). reader_of o.2) t) ∙ open_next tag work reader h e in
+    open_bounded : (x : Result Reader Refusal) → open_of tag work ≡ (x, after) → OfOpened (x, after) → Opens (sv_open tag work reader)
+    open_bounded (Ok r) e p =
+        let t = open_then tag work reader {o = Ok r} {left = after} h (sym e) refl in
+        let g : reader_of (reader_words r reader) ≡ Some r = sym (ap (λ (o : Left2). reader_of o.2) t) ∙ open_next tag work reader h e in
         let b = from_bounded tag n r after (reader_words r reader) words numbers count g in
-        let w = open_within tag work r (ap (λ (o : Opened × List ℕ). o.0) e) in
+        let w = open_within tag work r (ap (λ (o : Result Reader Refusal × List ℕ). o.0) e) in
         subst Opens (sym t) (record { frames_bound = omega (arith, b.frames_bound, w); steps_bound = λ z. omega (arith, b.steps_bound z, w) })
-    open_bounded (Opened.Refused zero) e p = absurd (omega (arith, p.0))
-    open_bounded (Opened.Refused (suc k)) e p =
-        subst Opens (sym (open_then tag work reader {o = Opened.Refused (suc k)} {left = after} h (sym e) refl)) (stops_bounded n 10 (length tag) k)
+    open_bounded (Err k) e p =
+        subst Opens (sym (open_then tag work reader {o = Err k} {left = after} h (sym e) refl))
+        (of_positive (λ j. Opens (j, after, reader)) (λ j. stops_bounded n 10 (length tag) j) k.number p.0)
 
   any_open : (t : Bool) → short 7 reader ≡ t → Opens (sv_open tag work reader)
   any_open true e = subst Opens (sym (open_short tag work reader (ltb-true _ _ e))) (stops_bounded n 10 (length tag) 19)

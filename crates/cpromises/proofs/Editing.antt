@@ -8,7 +8,6 @@ use lib.ListN.{length}
 use borrow.Author.Tests.{le-ltb}
 use Rattle.format.specs.Bytes.{pick}
 use Rattle.format.specs.Record.{Rec, Fits, rec_of}
-use Rattle.writer.specs.declared.Edited.{Edited}
 use Rattle.raise.specs.Raise.{tag_version}
 use Rattle.edit.specs.Edit.{Edit}
 use Rattle.edit.specs.Promises.{Change, replacing, removing, appending, edited_of, adding_of, AllFit, Editing}
@@ -16,7 +15,6 @@ use Rattle.edit.proofs.Accepting.{accepted}
 use Rattle.edit.proofs.After.{edit_reads}
 use Rattle.edit.proofs.Refusing.{edit_refused_same, edit_refused_number}
 use Rattle.edit.proofs.Written.{written_edits}
-use Rattle.capi.specs.declared.records.GivenHeading.{GivenHeading}
 use Rattle.capi.specs.Words.{heading_of, heading_else}
 use Rattle.capi.specs.Calls.{short}
 use Rattle.capi.specs.Edits.{edit_number, after_edit, given_rec, sv_replace, sv_remove, sv_append}
@@ -25,19 +23,21 @@ use Rattle.cpromises.specs.Written.{said_by, record_in, Wide}
 use Rattle.cpromises.specs.Editing.{replace, remove, append, each_of, SvEditReads, SvRefusedEdit, SvWrittenEdits}
 use Rattle.cpromises.proofs.Fitting.{fits_code, said_fits}
 use Rattle.cpromises.proofs.Writing.{written}
+use Rattle.std.specs.Prelude.{Option, Ok, Err, Some, None}
+use Rattle.format.specs.declared.Heading.{Heading}
 
 -- ---- an edit and its number
 
 module _ (tag : List ℕ) (c : Change) where
   -- 0 is an edit that was done
-  done : (o : Edit) → edited_of tag c ≡ o → edit_number o.0 ≡ 0 → edited_of tag c ≡ (Edited.Done, o.1)
-  done (Edited.Done, t) e z = e
-  done (Edited.Refused k, t) e z = absurd (omega (arith, edit_refused_number c tag k t e, z))
+  done : (o : Edit) → edited_of tag c ≡ o → edit_number o.0 ≡ 0 → edited_of tag c ≡ (Ok tt, o.1)
+  done (Ok tt, t) e z = e
+  done (Err k, t) e z = absurd (omega (arith, edit_refused_number c tag k.number t e, z))
 
   -- anything else left the tag as it was
   kept : (k : ℕ) (o : Edit) → edited_of tag c ≡ o → edit_number o.0 ≡ suc k → o.1 ≡ tag
-  kept k (Edited.Done, t) e z = absurd (omega (arith, z))
-  kept k (Edited.Refused j, t) e z = edit_refused_same c tag j t e
+  kept k (Ok tt, t) e z = absurd (omega (arith, z))
+  kept k (Err j, t) e z = edit_refused_same c tag j.number t e
 
 -- ---- a record that words say
 
@@ -46,20 +46,20 @@ module _ (tag words name names rest deviations : List ℕ) where
   r = given_rec words name names rest deviations
 
   -- adding takes it: the words say it, and its numbers are of their types
-  said : Wide words → (c : Rec → Change) → adding_of tag (c r) ≡ 0 → ((h : heading_of words ≡ GivenHeading.Bad) → adding_of tag (c r) ≡ 21)
+  said : Wide words → (c : Rec → Change) → adding_of tag (c r) ≡ 0 → ((h : heading_of words ≡ None) → adding_of tag (c r) ≡ 21)
       → (record_in words name names rest deviations ≡ r ∷ []) × Fits r.content
   said wide c added none = by (heading_of words) refl
     where
-      by : (g : GivenHeading) → heading_of words ≡ g → (record_in words name names rest deviations ≡ r ∷ []) × Fits r.content
-      by (GivenHeading.Good h) e = (
+      by : (g : Option Heading) → heading_of words ≡ g → (record_in words name names rest deviations ≡ r ∷ []) × Fits r.content
+      by (Some h) e = (
         rw e,
-        subst (λ (g : GivenHeading). Fits (rec_of (heading_else g) name names rest deviations).content) (sym e)
+        subst (λ (g : Option Heading). Fits (rec_of (heading_else g) name names rest deviations).content) (sym e)
             (fits_code (rec_of h name names rest deviations).content (said_fits words name names rest deviations wide e).1),
       )
-      by GivenHeading.Bad e = absurd (let z : ◌≡◌ {A = ℕ} 0 21 = sym added ∙ none e in omega arith)
+      by None e = absurd (let z : ◌≡◌ {A = ℕ} 0 21 = sym added ∙ none e in omega arith)
 
   -- a call that was answered 0
-  call_reads : (c : Rec → Change) → ((x : Rec) → AllFit (c x) ≡ Fits x.content) → ((h : heading_of words ≡ GivenHeading.Bad) → adding_of tag (c r) ≡ 21)
+  call_reads : (c : Rec → Change) → ((x : Rec) → AllFit (c x) ≡ Fits x.content) → ((h : heading_of words ≡ None) → adding_of tag (c r) ≡ 21)
       → Wide words → (few : Bool) → let o = pick few (20, tag) (after_edit (edited_of tag (c r))) in
       o.0 ≡ 0 → (d : Change) × ((each_of c (record_in words name names rest deviations) ≡ d ∷ []) × Editing d tag o.1)
   call_reads c fit none wide true z = absurd (omega (arith, z))
@@ -76,9 +76,9 @@ module _ (tag words name names rest deviations : List ℕ) where
   only_said : (c : Rec → Change) (d : Change) → each_of c (record_in words name names rest deviations) ≡ d ∷ [] → d ≡ c r
   only_said c d e = by (heading_of words) refl e
     where
-      by : (g : GivenHeading) → heading_of words ≡ g → each_of c (said_by g name names rest deviations) ≡ d ∷ [] → d ≡ c (rec_of (heading_else (heading_of words)) name names rest deviations)
-      by (GivenHeading.Good h) g z = let same : d ≡ c (rec_of h name names rest deviations) = cc in rw g same
-      by GivenHeading.Bad g z = absurd (let f : ◌≡◌ {A = ℕ} 0 1 = cc in omega arith)
+      by : (g : Option Heading) → heading_of words ≡ g → each_of c (said_by g name names rest deviations) ≡ d ∷ [] → d ≡ c (rec_of (heading_else (heading_of words)) name names rest deviations)
+      by (Some h) g z = let same : d ≡ c (rec_of h name names rest deviations) = cc in rw g same
+      by None g z = absurd (let f : ◌≡◌ {A = ℕ} 0 1 = cc in omega arith)
 
 -- ---- the promises
 
@@ -102,14 +102,14 @@ sv_refused_edit tag (append words name names rest deviations) k z =
 pub sv_written_edits : SvWrittenEdits
 unfolding sv_replace sv_remove sv_append
 sv_written_edits version padding records tag (replace number words name names rest deviations) c w runs enough says room =
-    let d : (edited_of tag c).0 ≡ Edited.Done = written_edits version padding records tag c (written w).0 runs room in
+    let d : (edited_of tag c).0 ≡ Ok tt = written_edits version padding records tag c (written w).0 runs room in
     let is = only_said tag words name names rest deviations (replacing number) c says in
     rw (le-ltb (length words) 19 enough) (ap (λ (x : Change). edit_number (edited_of tag x).0) (sym is) ∙ ap edit_number d)
 sv_written_edits version padding records tag (remove number) c w runs enough says room =
-    let d : (edited_of tag c).0 ≡ Edited.Done = written_edits version padding records tag c (written w).0 runs room in
+    let d : (edited_of tag c).0 ≡ Ok tt = written_edits version padding records tag c (written w).0 runs room in
     let is : c ≡ removing number = cc in
     ap (λ (x : Change). edit_number (edited_of tag x).0) (sym is) ∙ ap edit_number d
 sv_written_edits version padding records tag (append words name names rest deviations) c w runs enough says room =
-    let d : (edited_of tag c).0 ≡ Edited.Done = written_edits version padding records tag c (written w).0 runs room in
+    let d : (edited_of tag c).0 ≡ Ok tt = written_edits version padding records tag c (written w).0 runs room in
     let is = only_said tag words name names rest deviations appending c says in
     rw (le-ltb (length words) 19 enough) (ap (λ (x : Change). edit_number (edited_of tag x).0) (sym is) ∙ ap edit_number d)

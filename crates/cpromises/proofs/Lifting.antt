@@ -7,7 +7,6 @@ use mathlib.Core.List.{List}
 use lib.ListN.{length}
 use lib.Seq.{get_or-set_same}
 use borrow.Author.Tests.{le-ltb, ltb-false}
-use Rattle.raise.specs.declared.Raised.{Raised}
 use Rattle.raise.specs.Raise.{Answer}
 use Rattle.edit.specs.Lift.{lifted_of}
 use Rattle.edit.specs.LiftPromises.{Lifting}
@@ -20,21 +19,22 @@ use Rattle.capi.specs.Edits.{sv_lift}
 use Rattle.cpromises.specs.Lifting.{SvLiftReads, SvRefusedLift, SvWrittenLifts}
 use Rattle.cpromises.proofs.Writing.{written}
 use Rattle.cpromises.proofs.Raising.{left, answered}
+use Rattle.std.specs.Prelude.{Ok, Err}
 
 module _ (tag user counter : List ℕ) (amount : ℕ) where
   reads : (few : Bool) → short 1 counter ≡ few → (o : Answer) → lifted_of tag user amount ≡ o → (left tag counter few o).0 ≡ 0
       → Lifting tag user amount (word 0 (left tag counter few o).2) (left tag counter few o).1
   reads true s o e z = absurd (omega arith)
-  reads false s (Raised.Counts n, t) e z =
+  reads false s (Ok n, t) e z =
       let one : 1 ≤ length counter = ltb-false (length counter) 1 s in
       subst (λ (m : ℕ). Lifting tag user amount m t) (sym (get_or-set_same counter 0 n 0 one)) (lift_reads tag user amount n t e)
-  reads false s (Raised.Refused k, t) e z = absurd (omega (arith, lift_refused_number tag user amount k t e))
+  reads false s (Err k, t) e z = absurd (omega (arith, lift_refused_number tag user amount k.number t e))
 
   kept : (k : ℕ) (few : Bool) (o : Answer) → lifted_of tag user amount ≡ o → (left tag counter few o).0 ≡ suc k
       → ((left tag counter few o).1 ≡ tag) × ((left tag counter few o).2 ≡ counter)
   kept k true o e z = (refl, refl)
-  kept k false (Raised.Counts n, t) e z = absurd (omega arith)
-  kept k false (Raised.Refused j, t) e z = (lift_refused_same tag user amount j t e, refl)
+  kept k false (Ok n, t) e z = absurd (omega arith)
+  kept k false (Err j, t) e z = (lift_refused_same tag user amount j.number t e, refl)
 
 pub sv_lift_reads : SvLiftReads
 unfolding sv_lift

@@ -7,14 +7,12 @@ use lib.ListN.{length, get_or, drop, get_or-append}
 use lib.Seq.{sets-eq, length-sets}
 use borrow.Author.Tests.{le-ltb}
 use Rattle.reader.proofs.Numbered.{Stopped}
-use Rattle.meter.specs.Meter.{meter_open_of, next_of}
+use Rattle.meter.specs.Meter.{meter_open_of, next_of, Next}
 use Rattle.meter.specs.Answers.{next_meter}
 use Rattle.meter.specs.declared.Meter.{Meter}
 use Rattle.meter.specs.declared.Metered.{Metered}
-use Rattle.meter.specs.declared.MeterOpened.{MeterOpened}
-use Rattle.meter.specs.declared.Next.{Next}
 use Rattle.meter.proofs.Numbered.{OfNext, next_number_lem, OfOpen, open_number}
-use Rattle.promises.specs.Reading.{unfinished}
+use Rattle.promises.specs.Reading.{refused, unfinished, ending_of}
 use Rattle.promises.specs.Metering.{Metering, counted_of, on_next as takeNext, meter_from, on_open as takeOpen, meter_all}
 use Rattle.promises.proofs.Money.{meter_finishes}
 use Rattle.capi.specs.Words.{word, flag}
@@ -25,6 +23,9 @@ use Rattle.capi.proofs.Follows.{meter_open_next, meter_next_next}
 use Rattle.cpromises.specs.AnyTag.{end_number}
 use Rattle.cpromises.specs.Metering.{counted_by, SvMetering, on_next, sv_meter_from, on_open, sv_metering}
 use Rattle.cpromises.specs.Money.{SaysLast, SvMeters, SvMeterFinishes}
+use Rattle.cpromises.proofs.Reading.{of_positive}
+use Rattle.std.specs.Prelude.{Result, Ok, Err, Some, None}
+use Rattle.format.specs.declared.refusals.Refusal.{Refusal}
 
 -- ---- the words of a popularimeter, and how many words there are
 
@@ -91,8 +92,8 @@ module _ (tag before : List ℕ) where
     Then x o = Same 0 before (on_next tag (sv_meter_from n tag) o) (takeNext (meter_from n tag) tag x left)
 
     next_meters : (x : Next) → (next_of m tag work).0 ≡ x → Then x (sv_meter_next tag work meter metered)
-    next_meters (Next.Found q m') e =
-        let x = Next.Found q m' in
+    next_meters (Ok (Some q), m') e =
+        let x : Next = (Ok (Some q), m') in
         let h' : 11 ≤ length (meter_words m' meter) = rw (meter_length m' meter) h in
         let k' : 6 ≤ length (metered_words q metered) = rw (metered_length q metered k) k in
         let p' : Stopped m'.reader.stop = subst OfNext e (next_number_lem m tag work p) in
@@ -103,13 +104,16 @@ module _ (tag before : List ℕ) where
           says = more.says;
           finishes = more.finishes;
         })
-    next_meters (Next.End m') e =
-        let x = Next.End m' in
+    next_meters (Ok None, m') e =
+        let x : Next = (Ok None, m') in
         subst (Then x) (sym (called x e)) (record { counted = refl; number = refl; says = (m', refl, left_says x e); finishes = λ z. absurd (omega arith) })
-    next_meters (Next.Refused zero m') e = absurd (omega (arith, (subst OfNext e (next_number_lem m tag work p)).0))
-    next_meters (Next.Refused (suc j) m') e =
-        let x = Next.Refused (suc j) m' in
-        subst (Then x) (sym (called x e)) (record { counted = refl; number = refl; says = (m', refl, left_says x e); finishes = λ z. absurd (omega arith) })
+    next_meters (Err k, m') e =
+        let x : Next = (Err k, m') in
+        subst (Then x) (sym (called x e))
+        (of_positive
+        (λ j. Same 0 before (on_next tag (sv_meter_from n tag) (j, left, meter_words m' meter, metered)) (record { counted = []; ending = ending_of j; last = m' ∷ [] }))
+        (λ j. record { counted = refl; number = refl; says = (m', refl, left_says x e); finishes = λ z. absurd (omega arith) })
+        k.number (subst OfNext e (next_number_lem m tag work p)).0)
 
   meters : (n : ℕ) → Meters n
   unfolding meter_from sv_meter_from
@@ -120,25 +124,27 @@ module _ (tag work meter metered : List ℕ) (h : 11 ≤ length meter) (k : 6 �
   abbrev work' : List ℕ
   work' = (meter_open_of tag work).1
 
-  abbrev Opens : MeterOpened → Left2 → Type 0
+  abbrev Opens : Result Meter Refusal → Left2 → Type 0
   Opens x o = Same o.0 meter (on_open (length tag) tag metered o) (takeOpen (length tag) tag x work')
 
-  opened : (x : MeterOpened) → (meter_open_of tag work).0 ≡ x → sv_meter_open tag work meter ≡ after_meter_open (x, work') meter
+  opened : (x : Result Meter Refusal) → (meter_open_of tag work).0 ≡ x → sv_meter_open tag work meter ≡ after_meter_open (x, work') meter
   unfolding sv_meter_open
   opened x e = rw (le-ltb _ _ h, ← e)
 
-  open_meters : (x : MeterOpened) → (meter_open_of tag work).0 ≡ x → Opens x (sv_meter_open tag work meter)
-  open_meters (MeterOpened.Ready m) e =
-      let x = MeterOpened.Ready m in
-      let both : meter_open_of tag work ≡ (x, work') = ap {B = MeterOpened × List ℕ} (λ (y : MeterOpened). (y, work')) e in
+  open_meters : (x : Result Meter Refusal) → (meter_open_of tag work).0 ≡ x → Opens x (sv_meter_open tag work meter)
+  open_meters (Ok m) e =
+      let x : Result Meter Refusal = Ok m in
+      let both : meter_open_of tag work ≡ (x, work') = ap {B = Result Meter Refusal × List ℕ} (λ (y : Result Meter Refusal). (y, work')) e in
       let f : meter_of (meter_words m meter) ≡ m ∷ [] = ap (λ (z : Left2). meter_of z.2) (sym (opened x e)) ∙ meter_open_next tag work meter h both in
       let h' : 11 ≤ length (meter_words m meter) = rw (meter_length m meter) h in
       subst (Opens x) (sym (opened x e))
       (meters tag meter (length tag) m work' (meter_words m meter) metered f (subst OfOpen e (open_number tag work)) h' k)
-  open_meters (MeterOpened.Refused zero) e = absurd (omega (arith, (subst OfOpen e (open_number tag work)).0))
-  open_meters (MeterOpened.Refused (suc j)) e =
-      let x = MeterOpened.Refused (suc j) in
-      subst (Opens x) (sym (opened x e)) (record { counted = refl; number = refl; says = (refl, refl); finishes = λ z. absurd (omega arith) })
+  open_meters (Err k) e =
+      let x : Result Meter Refusal = Err k in
+      subst (Opens x) (sym (opened x e))
+      (of_positive (λ j. Same j meter (on_open (length tag) tag metered (j, work', meter)) (record { counted = []; ending = refused j; last = [] }))
+      (λ j. record { counted = refl; number = refl; says = (refl, refl); finishes = λ z. absurd (omega arith) })
+      k.number (subst OfOpen e (open_number tag work)).0)
 
   whole_meters : Same (sv_meter_open tag work meter).0 meter (sv_metering tag work meter metered) (meter_all tag work)
   unfolding sv_metering meter_all

@@ -8,7 +8,6 @@ use lib.ListN.{length}
 use lib.Seq.{get_or-set_same}
 use borrow.Author.Tests.{le-ltb, ltb-false}
 use Rattle.format.specs.Bytes.{pick}
-use Rattle.raise.specs.declared.Raised.{Raised}
 use Rattle.raise.specs.Raise.{Answer, raised_of}
 use Rattle.raise.specs.Promises.{Raising}
 use Rattle.raise.proofs.Accepting.{refused_same}
@@ -20,6 +19,7 @@ use Rattle.capi.specs.Calls.{short, Left2}
 use Rattle.capi.specs.Raises.{after_raise, sv_raise}
 use Rattle.cpromises.specs.Raising.{SvRaiseReads, SvRefusedRaise, SvWrittenRaises}
 use Rattle.cpromises.proofs.Writing.{written}
+use Rattle.std.specs.Prelude.{Ok, Err}
 
 -- ---- what a raise or a lift leaves, with too few words or enough
 
@@ -27,9 +27,9 @@ abbrev pub left : List ℕ → List ℕ → Bool → Answer → Left2
 left tag counter few o = pick few (20, tag, counter) (after_raise o counter)
 
 -- a counter that was answered is the word
-pub answered : (words : List ℕ) (n : ℕ) → 1 ≤ length words → (o : Answer) → o.0 ≡ Raised.Counts n → ((after_raise o words).0 ≡ 0) × (word 0 (after_raise o words).2 ≡ n)
-answered words n one (Raised.Counts m, t) e = let z : m ≡ n = cc in (refl, get_or-set_same words 0 m 0 one ∙ z)
-answered words n one (Raised.Refused k, t) e = absurd (let z : ◌≡◌ {A = ℕ} 0 1 = cc in omega arith)
+pub answered : (words : List ℕ) (n : ℕ) → 1 ≤ length words → (o : Answer) → o.0 ≡ Ok n → ((after_raise o words).0 ≡ 0) × (word 0 (after_raise o words).2 ≡ n)
+answered words n one (Ok m, t) e = let z : m ≡ n = cc in (refl, get_or-set_same words 0 m 0 one ∙ z)
+answered words n one (Err k, t) e = absurd (let z : ◌≡◌ {A = ℕ} 0 1 = cc in omega arith)
 
 -- ---- a raise
 
@@ -37,15 +37,15 @@ module _ (tag user counter : List ℕ) (amount : ℕ) where
   reads : (few : Bool) → short 1 counter ≡ few → (o : Answer) → raised_of tag user amount ≡ o → (left tag counter few o).0 ≡ 0
       → Raising tag user amount (word 0 (left tag counter few o).2) (left tag counter few o).1
   reads true s o e z = absurd (omega arith)
-  reads false s (Raised.Counts n, t) e z =
+  reads false s (Ok n, t) e z =
       let one : 1 ≤ length counter = ltb-false (length counter) 1 s in
       subst (λ (m : ℕ). Raising tag user amount m t) (sym (get_or-set_same counter 0 n 0 one)) (raise_reads tag user amount n t e)
-  reads false s (Raised.Refused k, t) e z = absurd (omega (arith, refused_number tag user amount k t e))
+  reads false s (Err k, t) e z = absurd (omega (arith, refused_number tag user amount k.number t e))
 
   kept : (k : ℕ) (few : Bool) (o : Answer) → raised_of tag user amount ≡ o → (left tag counter few o).0 ≡ suc k → ((left tag counter few o).1 ≡ tag) × ((left tag counter few o).2 ≡ counter)
   kept k true o e z = (refl, refl)
-  kept k false (Raised.Counts n, t) e z = absurd (omega arith)
-  kept k false (Raised.Refused j, t) e z = (refused_same tag user amount e, refl)
+  kept k false (Ok n, t) e z = absurd (omega arith)
+  kept k false (Err j, t) e z = (refused_same tag user amount e, refl)
 
 pub sv_raise_reads : SvRaiseReads
 unfolding sv_raise

@@ -14,28 +14,24 @@ use Rattle.format.proofs.Checks.{of_picked}
 use Rattle.writer.specs.Writer.{begin_of, Adding, add_of, Finishing, finish_of}
 use Rattle.writer.specs.Answers.{finished_number}
 use Rattle.writer.specs.declared.Writer.{Writer}
-use Rattle.writer.specs.declared.Begun.{Begun}
-use Rattle.writer.specs.declared.Added.{Added}
-use Rattle.writer.specs.declared.Finished.{Finished}
 use Rattle.reader.specs.Reader.{header_of, open_of, Stepped, step_of}
 use Rattle.reader.specs.Answers.{opened_number}
-use Rattle.reader.specs.declared.Headed.{Headed}
-use Rattle.reader.specs.declared.Opened.{Opened}
-use Rattle.reader.specs.declared.Step.{Step}
 use Rattle.promises.proofs.Adding.{Keeps, keeps}
 use Rattle.promises.proofs.Refused.{refused_finish, refused_open}
-use Rattle.capi.specs.declared.words.GivenReader.{GivenReader}
-use Rattle.capi.specs.declared.words.GivenWriter.{GivenWriter}
-use Rattle.capi.specs.declared.records.GivenHeading.{GivenHeading}
 use Rattle.capi.specs.Words.{word, reader_of, writer_of, heading_of}
 use Rattle.capi.specs.Calls.{short, Left1, Left2, Left3, after_header, sv_header, after_open, sv_open, after_step, step_with, sv_step, after_begin, sv_begin, after_add, add_with, sv_add, after_finish, finish_with, sv_finish}
 use Rattle.cpromises.specs.Refused.{SvRefusedBegin, SvRefusedAdd, SvRefusedFinish, SvRefusedHeader, SvRefusedOpen, SvRefusedStep}
+use Rattle.std.specs.Prelude.{Result, Option, Ok, Err, Some, None}
+use Rattle.format.specs.declared.refusals.Refusal.{Refusal}
+use Rattle.reader.specs.declared.Header.{Header}
+use Rattle.reader.specs.declared.Reader.{Reader}
+use Rattle.format.specs.declared.Heading.{Heading}
 
 -- ---- writing
 
-begun : (writer : List ℕ) (k : ℕ) (x : Begun) → (after_begin x writer).0 ≡ suc k → (after_begin x writer).1 ≡ writer
-begun writer k (Begun.Ready w) e = absurd (omega arith)
-begun writer k (Begun.Refused j) e = refl
+begun : (writer : List ℕ) (k : ℕ) (x : Result Writer Refusal) → (after_begin x writer).0 ≡ suc k → (after_begin x writer).1 ≡ writer
+begun writer k (Ok w) e = absurd (omega arith)
+begun writer k (Err j) e = refl
 
 pub sv_refused_begin : SvRefusedBegin
 unfolding sv_begin
@@ -49,13 +45,13 @@ module _ (name names rest deviations buffer writer count : List ℕ) (k : ℕ) w
   Kept o = o.0 ≡ suc k → (o.1 ≡ buffer) × (o.2 ≡ writer) × (1 ≤ length count → word 0 o.3 ≡ 0)
 
   added : (w : Writer) (o : Adding) → Keeps w buffer o → Kept (after_add o writer count)
-  added w (Added.Accepted n w', left) h e = absurd (omega arith)
-  added w (Added.Refused j w', left) h e = (h.1.1, refl, λ one. get_or-set_same count 0 0 0 one)
+  added w ((Ok n, w'), left) h e = absurd (omega arith)
+  added w ((Err j, w'), left) h e = (h.1.1, refl, λ one. get_or-set_same count 0 0 0 one)
 
-  with_words : (w : GivenWriter) (h : GivenHeading) → Kept (add_with w h (λ w h. add_of w (rec_of h name names rest deviations) buffer) buffer writer count)
-  with_words GivenWriter.Bad h e = (refl, refl, λ one. get_or-set_same count 0 0 0 one)
-  with_words (GivenWriter.Good w) GivenHeading.Bad e = (refl, refl, λ one. get_or-set_same count 0 0 0 one)
-  with_words (GivenWriter.Good w) (GivenHeading.Good h) e =
+  with_words : (w : Option Writer) (h : Option Heading) → Kept (add_with w h (λ w h. add_of w (rec_of h name names rest deviations) buffer) buffer writer count)
+  with_words None h e = (refl, refl, λ one. get_or-set_same count 0 0 0 one)
+  with_words (Some w) None e = (refl, refl, λ one. get_or-set_same count 0 0 0 one)
+  with_words (Some w) (Some h) e =
       let r = rec_of h name names rest deviations in
       added w (add_of w r buffer) (keeps w r buffer) e
 
@@ -78,12 +74,12 @@ module _ (padding : ℕ) (buffer output count : List ℕ) (k : ℕ) where
   Same o = finished_number o.0 ≡ suc k → o.1 ≡ output
 
   finished : (o : Finishing) → Same o → Left (after_finish o count)
-  finished (Finished.Done n w, left) h e = absurd (omega arith)
-  finished (Finished.Refused j w, left) h e = (h e, λ one. get_or-set_same count 0 0 0 one)
+  finished (Ok n, left) h e = absurd (omega arith)
+  finished (Err j, left) h e = (h e, λ one. get_or-set_same count 0 0 0 one)
 
-  finish_words : (w : GivenWriter) → Left (finish_with w padding buffer output count)
-  finish_words GivenWriter.Bad e = (refl, λ one. get_or-set_same count 0 0 0 one)
-  finish_words (GivenWriter.Good w) e = finished (finish_of w padding buffer output) (λ n. (refused_finish w padding buffer output k n).2) e
+  finish_words : (w : Option Writer) → Left (finish_with w padding buffer output count)
+  finish_words None e = (refl, λ one. get_or-set_same count 0 0 0 one)
+  finish_words (Some w) e = finished (finish_of w padding buffer output) (λ n. (refused_finish w padding buffer output k n).2) e
 
 pub sv_refused_finish : SvRefusedFinish
 unfolding sv_finish
@@ -95,9 +91,9 @@ sv_refused_finish padding buffer output writer count k =
 
 -- ---- reading
 
-headed : (header : List ℕ) (k : ℕ) (x : Headed) → (after_header x header).0 ≡ suc k → (after_header x header).1 ≡ header
-headed header k (Headed.Found h) e = absurd (omega arith)
-headed header k (Headed.Refused j) e = refl
+headed : (header : List ℕ) (k : ℕ) (x : Result Header Refusal) → (after_header x header).0 ≡ suc k → (after_header x header).1 ≡ header
+headed header k (Ok h) e = absurd (omega arith)
+headed header k (Err j) e = refl
 
 pub sv_refused_header : SvRefusedHeader
 unfolding sv_header
@@ -106,12 +102,12 @@ sv_refused_header tag header k =
     of_picked P (short 4 header) (λ t e. refl) (λ t. headed header k (header_of tag))
 
 module _ (work reader : List ℕ) (k : ℕ) where
-  abbrev Opens : Opened × List ℕ → Type 0
+  abbrev Opens : Result Reader Refusal × List ℕ → Type 0
   Opens o = opened_number o.0 ≡ suc k → o.1 ≡ work
 
-  opened : (o : Opened × List ℕ) → Opens o → (after_open o reader).0 ≡ suc k → ((after_open o reader).1 ≡ work) × ((after_open o reader).2 ≡ reader)
-  opened (Opened.Ready r, left) h e = absurd (omega arith)
-  opened (Opened.Refused j, left) h e = (h e, refl)
+  opened : (o : Result Reader Refusal × List ℕ) → Opens o → (after_open o reader).0 ≡ suc k → ((after_open o reader).1 ≡ work) × ((after_open o reader).2 ≡ reader)
+  opened (Ok r, left) h e = absurd (omega arith)
+  opened (Err j, left) h e = (h e, refl)
 
 pub sv_refused_open : SvRefusedOpen
 unfolding sv_open
@@ -121,13 +117,13 @@ sv_refused_open tag work reader k =
 
 module _ (tag work reader words : List ℕ) (k : ℕ) where
   stepped : (o : Stepped) → (after_step o reader words).0 ≡ suc k → (after_step o reader words).3 ≡ words
-  stepped (Step.Frame rec r, left) e = absurd (omega arith)
-  stepped (Step.End r, left) e = refl
-  stepped (Step.Refused j r, left) e = refl
+  stepped ((Ok (Some rec), r), left) e = absurd (omega arith)
+  stepped ((Ok None, r), left) e = refl
+  stepped ((Err j, r), left) e = refl
 
-  step_words : (g : GivenReader) → (step_with g tag work reader words).0 ≡ suc k → (step_with g tag work reader words).3 ≡ words
-  step_words GivenReader.Bad e = refl
-  step_words (GivenReader.Good r) e = stepped (step_of r tag work) e
+  step_words : (g : Option Reader) → (step_with g tag work reader words).0 ≡ suc k → (step_with g tag work reader words).3 ≡ words
+  step_words None e = refl
+  step_words (Some r) e = stepped (step_of r tag work) e
 
 pub sv_refused_step : SvRefusedStep
 unfolding sv_step

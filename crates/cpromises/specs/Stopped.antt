@@ -1,10 +1,9 @@
 -- What is promised of a tag that the exported functions wrote and that was then cut after any byte from the tenth on (document 02, m). Assumes nothing.
-use Rattle.std.specs.Prelude.{◌≡◌, ℕ, ◌+◌, ◌-◌, ◌≤◌, List, ◌++◌, length, take, ltb}
+use Rattle.std.specs.Prelude.{◌≡◌, ℕ, ◌+◌, ◌-◌, ◌≤◌, List, ◌++◌, length, take, ltb, true, Ok}
 use Rattle.format.specs.Header.{size_of, version_of}
 use Rattle.format.specs.Numbered.{mode_of}
 use Rattle.format.specs.Record.{Rec}
 use Rattle.format.specs.Looks.{tag_look}
-use Rattle.format.specs.declared.Look.{Look}
 use Rattle.promises.specs.Reading.{Reading, read_all}
 use Rattle.promises.specs.Metering.{counters_of}
 use Rattle.promises.specs.Money.{total, owed}
@@ -66,7 +65,7 @@ SvStoppedOwed = (version mode padding n : ℕ) (records : List Rec) (user tag wo
 -- Of a tag of the plain sort, as sv_raise and sv_lift leave it, cut after any byte from the tenth on, metering gives just the popularimeters of the frames that are there
 -- whole, as the whole tag reads, with any work buffer; and the word of missing bytes is 1 exactly where the cut is before the tag's end.
 abbrev pub SvPlainStopped : Type 0
-SvPlainStopped = (n : ℕ) (tag work meter metered : List ℕ) → tag_look tag ≡ Look.Plain → 10 ≤ n → MeterLent meter metered →
+SvPlainStopped = (n : ℕ) (tag work meter metered : List ℕ) → tag_look tag ≡ Ok true → 10 ≤ n → MeterLent meter metered →
     let o = sv_metering (take n tag) work meter metered in
     (o.counted ≡ counters_of (take (plain_whole n tag) (read_all tag work).0))
     × (o.number ≡ end_number (read_all (take n tag) work).1)

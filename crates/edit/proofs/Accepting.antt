@@ -7,18 +7,18 @@ use mathlib.Core.List.{List}
 use lib.ListN.{length}
 use lib.Dec.{ltb, eqb}
 use borrow.Author.Tests.{ltb-false, le-ltb, leb-true, le-leb, eqb-true}
+use Rattle.laws.proofs.Results.{err_not_ok}
 use Rattle.format.specs.Bytes.{pick}
 use Rattle.format.specs.Header.{size_of}
 use Rattle.format.specs.Encode.{refusal_of}
-use Rattle.format.specs.Looks.{tag_look}
+use Rattle.format.specs.Looks.{tag_look, Look}
 use Rattle.format.specs.declared.Mode.{Mode}
-use Rattle.format.specs.declared.Look.{Look}
 use Rattle.format.proofs.Checks.{not_second}
-use Rattle.writer.specs.declared.Edited.{Edited}
 use Rattle.blocks.specs.Blocks.{with_blocks}
 use Rattle.raise.specs.Raise.{tag_version, tag_blocks}
 use Rattle.edit.specs.Edit.{Edit, refuse, fitted, put_in, on_plain, replaced_of, removed_of, appended_of}
 use Rattle.edit.specs.Promises.{Change, replacing, removing, appending, edited_of, frames_for, edited, Missing, adding_of, long_then}
+use Rattle.std.specs.Prelude.{Ok, Err}
 
 -- ---- one form of the three
 
@@ -80,31 +80,31 @@ module _ (tag : List ℕ) where
 -- ---- an accepted edit
 
 pub record Accepted (tag : List ℕ) (c : Change) : Type 0 where
-  pub looks : tag_look tag ≡ Look.Plain
+  pub looks : tag_look tag ≡ Ok true
   pub there : Missing (length (tag_blocks tag)) c → ⊥
   pub added : adding_of tag c ≡ 0
   pub fits : long_then tag c ≤ size_of tag
 
 -- what a plain tag answers where the number is there and adding refuses nothing
-pub put_plain : (tag : List ℕ) (c : Change) → tag_look tag ≡ Look.Plain → (Missing (length (tag_blocks tag)) c → ⊥) → adding_of tag c ≡ 0
+pub put_plain : (tag : List ℕ) (c : Change) → tag_look tag ≡ Ok true → (Missing (length (tag_blocks tag)) c → ⊥) → adding_of tag c ≡ 0
     → edited_of tag c ≡ fitted (blocks_then tag c) tag
 put_plain tag c looks there added = edited_is tag c ∙ rw (looks, check_there tag c there, added)
 
-pub accept : {tag : List ℕ} {c : Change} → Accepted tag c → edited_of tag c ≡ (Edited.Done, tag_then tag c)
+pub accept : {tag : List ℕ} {c : Change} → Accepted tag c → edited_of tag c ≡ (Ok tt, tag_then tag c)
 unfolding fitted
 accept {tag} {c} a = put_plain tag c a.looks a.there a.added ∙ rw (le-leb (long_then tag c) (size_of tag) a.fits)
 
 -- ---- and back
 
-pub refuses_not : {A : Type 0} (k : ℕ) (s t : List ℕ) → ◌≡◌ {A = Edit} (refuse k s) (Edited.Done, t) → A
-refuses_not k s t e = absurd (let r : Edited.Refused k ≡ Edited.Done = ap (λ (o : Edit). o.0) e in let z : ◌≡◌ {A = ℕ} 0 1 = cc in omega arith)
+pub refuses_not : {A : Type 0} (k : ℕ) (s t : List ℕ) → ◌≡◌ {A = Edit} (refuse k s) (Ok tt, t) → A
+refuses_not k s t e = err_not_ok (ap (λ (o : Edit). o.0) e)
 
-on_plain_lem : (tag t : List ℕ) (on : Edit) (x : Look) → on_plain tag on x ≡ (Edited.Done, t) → (x ≡ Look.Plain) × (on ≡ (Edited.Done, t))
-on_plain_lem tag t on (Look.Stops k) e = refuses_not k tag t e
-on_plain_lem tag t on Look.Odd e = refuses_not 40 tag t e
-on_plain_lem tag t on Look.Plain e = (refl, e)
+on_plain_lem : (tag t : List ℕ) (on : Edit) (x : Look) → on_plain tag on x ≡ (Ok tt, t) → (x ≡ Ok true) × (on ≡ (Ok tt, t))
+on_plain_lem tag t on (Err k) e = refuses_not k.number tag t e
+on_plain_lem tag t on (Ok false) e = refuses_not 40 tag t e
+on_plain_lem tag t on (Ok true) e = (refl, e)
 
-pub accepted : (tag : List ℕ) (c : Change) {t : List ℕ} → edited_of tag c ≡ (Edited.Done, t) → Accepted tag c × (t ≡ tag_then tag c)
+pub accepted : (tag : List ℕ) (c : Change) {t : List ℕ} → edited_of tag c ≡ (Ok tt, t) → Accepted tag c × (t ≡ tag_then tag c)
 unfolding fitted
 accepted tag c {t} e =
     let p = on_plain_lem tag t (answered tag c) (tag_look tag) (sym (edited_is tag c) ∙ e) in

@@ -15,11 +15,12 @@ use Rattle.format.specs.Record.{Rec, text, popularimeter, chapter, raw, body_ref
 use Rattle.format.specs.Walk.{inside_of, on_head, step_of, walk_bytes, walked}
 use Rattle.format.specs.Encode.{body_bytes, encode, refusal_of}
 use Rattle.format.specs.Looks.{all_zero, frame_look, on_look, look_for, look_at, tag_look}
-use Rattle.format.specs.declared.Look.{Look}
 use Rattle.promises.specs.Samples.{plain}
-use Rattle.writer.specs.declared.Edited.{Edited}
 use Rattle.blocks.specs.Blocks.{blocks_for, with_blocks}
 use Rattle.edit.specs.Edit.{Edit, fitted, put_in, replaced_of, removed_of, appended_of}
+use Rattle.std.specs.Prelude.{Ok, Err}
+use Rattle.format.specs.Refusals.{refusal}
+use mathlib.Core.Bool.{true, false}
 
 -- ---- tags of frames, in each edition: the size, then these bytes and three bytes of sound
 
@@ -56,7 +57,7 @@ abbrev two : List ℕ
 two = tag_in 4 0 30 (mine ++ (titled ++ zeros 4))
 
 abbrev done : List ℕ → Edit
-done s = (Edited.Done, tag_in 4 0 30 s)
+done s = (Ok tt, tag_in 4 0 30 s)
 
 -- a frame whose data length is longer than its size: fourteen bytes
 abbrev lengthened : List ℕ
@@ -83,57 +84,57 @@ pub record Computed : Type 0 where
   pub last_longer : replaced_of two 1 (meter (ascii "b") (2 ^ 16)) ≡ done (mine ++ counted 6 (ascii "b") (1 ∷ zeros 2))
   -- exact fit, and one byte more
   pub exact : replaced_of two 0 (meter (ascii "a") (2 ^ 32)) ≡ done (counted 8 (ascii "a") (1 ∷ zeros 4) ++ titled)
-  pub one_more_lem : replaced_of two 0 (meter (ascii "a") (2 ^ 40)) ≡ (Edited.Refused 20, two)
+  pub one_more_lem : replaced_of two 0 (meter (ascii "a") (2 ^ 40)) ≡ (Err (refusal 20), two)
   -- removed, and the freed bytes zeros
   pub without_first : removed_of two 0 ≡ done (titled ++ zeros 18)
   pub without_last : removed_of two 1 ≡ done (mine ++ zeros 16)
   pub without_all : removed_of (removed_of two 0).1 0 ≡ done (zeros 30)
   -- added after the last: exact fit, one byte more, and in what a removal freed
-  pub one_after : appended_of (tag_in 4 0 26 (mine ++ zeros 12)) title ≡ (Edited.Done, tag_in 4 0 26 (mine ++ titled))
-  pub none_after : appended_of (tag_in 4 0 25 (mine ++ zeros 11)) title ≡ (Edited.Refused 20, tag_in 4 0 25 (mine ++ zeros 11))
+  pub one_after : appended_of (tag_in 4 0 26 (mine ++ zeros 12)) title ≡ (Ok tt, tag_in 4 0 26 (mine ++ titled))
+  pub none_after : appended_of (tag_in 4 0 25 (mine ++ zeros 11)) title ≡ (Err (refusal 20), tag_in 4 0 25 (mine ++ zeros 11))
   pub after_removal : appended_of (removed_of two 0).1 (meter (ascii "b") 7) ≡ done (titled ++ (counted 4 (ascii "b") (7 ∷ []) ++ zeros 4))
   -- into a tag without frames, and without any bytes
-  pub first_of_all : appended_of (tag_in 4 0 12 (zeros 12)) title ≡ (Edited.Done, tag_in 4 0 12 titled)
-  pub no_bytes : (appended_of (tag_in 4 0 0 []) title).0 ≡ Edited.Refused 20
+  pub first_of_all : appended_of (tag_in 4 0 12 (zeros 12)) title ≡ (Ok tt, tag_in 4 0 12 titled)
+  pub no_bytes : (appended_of (tag_in 4 0 0 []) title).0 ≡ Err (refusal 20)
   -- 46, and the last number that is there
-  pub no_number : replaced_of two 2 title ≡ (Edited.Refused 46, two)
-  pub last_number : replaced_of two 1 title ≡ (Edited.Done, two)
-  pub none_removed : removed_of two 2 ≡ (Edited.Refused 46, two)
-  pub far_number : (removed_of two (2 ^ 32)).0 ≡ Edited.Refused 46
-  pub no_frame : (removed_of (tag_in 4 0 12 (zeros 12)) 0).0 ≡ Edited.Refused 46
+  pub no_number : replaced_of two 2 title ≡ (Err (refusal 46), two)
+  pub last_number : replaced_of two 1 title ≡ (Ok tt, two)
+  pub none_removed : removed_of two 2 ≡ (Err (refusal 46), two)
+  pub far_number : (removed_of two (2 ^ 32)).0 ≡ Err (refusal 46)
+  pub no_frame : (removed_of (tag_in 4 0 12 (zeros 12)) 0).0 ≡ Err (refusal 46)
   -- adding's: a lower-case id, and its neighbour; and the order of the numbers
-  pub lower_case : replaced_of two 0 (plain (named "xABC") (raw (7 ∷ []))) ≡ (Edited.Refused 21, two)
+  pub lower_case : replaced_of two 0 (plain (named "xABC") (raw (7 ∷ []))) ≡ (Err (refusal 21), two)
   pub upper_case : replaced_of two 0 (plain (named "XABC") (raw (7 ∷ []))) ≡ done (frame (ascii "XABC") 1 0 (7 ∷ []) ++ (titled ++ zeros 7))
-  pub number_first : (replaced_of two 2 (plain (named "xABC") (raw (7 ∷ [])))).0 ≡ Edited.Refused 46
-  pub adding_first : (replaced_of two 0 (plain (named "xABC") (raw (zeros 20)))).0 ≡ Edited.Refused 21
-  pub then_room : (replaced_of two 0 (plain (named "XABC") (raw (zeros 20)))).0 ≡ Edited.Refused 20
+  pub number_first : (replaced_of two 2 (plain (named "xABC") (raw (7 ∷ [])))).0 ≡ Err (refusal 46)
+  pub adding_first : (replaced_of two 0 (plain (named "xABC") (raw (zeros 20)))).0 ≡ Err (refusal 21)
+  pub then_room : (replaced_of two 0 (plain (named "XABC") (raw (zeros 20)))).0 ≡ Err (refusal 20)
   -- those of reading and 40 come before
-  pub as_reading : (removed_of (tag_in 4 0 14 (frame (ascii "POPM") 4 4 (0x61 ∷ 0 ∷ 9 ∷ 7 ∷ []))) 1).0 ≡ Edited.Refused 8
-  pub not_plain : (removed_of (tag_in 4 0 14 (frame (ascii "POPM") 4 8 (0x61 ∷ 0 ∷ 9 ∷ 7 ∷ []))) 1).0 ≡ Edited.Refused 40
-  pub at_once : (removed_of (tag_in 3 0x80 14 mine) 1).0 ≡ Edited.Refused 40
+  pub as_reading : (removed_of (tag_in 4 0 14 (frame (ascii "POPM") 4 4 (0x61 ∷ 0 ∷ 9 ∷ 7 ∷ []))) 1).0 ≡ Err (refusal 8)
+  pub not_plain : (removed_of (tag_in 4 0 14 (frame (ascii "POPM") 4 8 (0x61 ∷ 0 ∷ 9 ∷ 7 ∷ []))) 1).0 ≡ Err (refusal 40)
+  pub at_once : (removed_of (tag_in 3 0x80 14 mine) 1).0 ≡ Err (refusal 40)
   -- a frame reaches to where the next begins, and is moved as it is
-  pub fourteen : removed_of (tag_in 4 0 26 (lengthened ++ titled)) 0 ≡ (Edited.Done, tag_in 4 0 26 (titled ++ zeros 14))
-  pub as_it_is : removed_of (tag_in 4 0 28 (mine ++ lengthened)) 0 ≡ (Edited.Done, tag_in 4 0 28 (lengthened ++ zeros 14))
-  pub run_padded : removed_of (roomy (chaptered 30 titled)) 0 ≡ (Edited.Done, tag_in 4 0 54 (chaptered 30 titled ++ zeros 14))
-  pub run_moves : removed_of (roomy (chaptered 22 (zeros 4) ++ zeros 8)) 0 ≡ (Edited.Done, tag_in 4 0 54 (chaptered 22 (zeros 4) ++ zeros 22))
-  pub run_refused : (replaced_of (roomy (chaptered 22 (zeros 4) ++ zeros 8)) 1 (chapter_of (zeros 4))).0 ≡ Edited.Refused 29
+  pub fourteen : removed_of (tag_in 4 0 26 (lengthened ++ titled)) 0 ≡ (Ok tt, tag_in 4 0 26 (titled ++ zeros 14))
+  pub as_it_is : removed_of (tag_in 4 0 28 (mine ++ lengthened)) 0 ≡ (Ok tt, tag_in 4 0 28 (lengthened ++ zeros 14))
+  pub run_padded : removed_of (roomy (chaptered 30 titled)) 0 ≡ (Ok tt, tag_in 4 0 54 (chaptered 30 titled ++ zeros 14))
+  pub run_moves : removed_of (roomy (chaptered 22 (zeros 4) ++ zeros 8)) 0 ≡ (Ok tt, tag_in 4 0 54 (chaptered 22 (zeros 4) ++ zeros 22))
+  pub run_refused : (replaced_of (roomy (chaptered 22 (zeros 4) ++ zeros 8)) 1 (chapter_of (zeros 4))).0 ≡ Err (refusal 29)
   -- the one exception: a compressed subframe passes, and the tag is then not plain
-  pub packs : appended_of (roomy (zeros 40)) (chapter_of packed) ≡ (Edited.Done, roomy (chaptered 30 packed))
-  pub packed_odd : tag_look (roomy (chaptered 30 packed)) ≡ Look.Odd
-  pub packed_next : (removed_of (roomy (chaptered 30 packed)) 1).0 ≡ Edited.Refused 40
-  pub unpacked : appended_of (roomy (zeros 40)) (chapter_of titled) ≡ (Edited.Done, roomy (chaptered 30 titled))
-  pub unpacked_plain : tag_look (roomy (chaptered 30 titled)) ≡ Look.Plain
+  pub packs : appended_of (roomy (zeros 40)) (chapter_of packed) ≡ (Ok tt, roomy (chaptered 30 packed))
+  pub packed_odd : tag_look (roomy (chaptered 30 packed)) ≡ Ok false
+  pub packed_next : (removed_of (roomy (chaptered 30 packed)) 1).0 ≡ Err (refusal 40)
+  pub unpacked : appended_of (roomy (zeros 40)) (chapter_of titled) ≡ (Ok tt, roomy (chaptered 30 titled))
+  pub unpacked_plain : tag_look (roomy (chaptered 30 titled)) ≡ Ok true
   -- 2.3
-  pub replaced_23 : replaced_of (tag_in 3 0 20 (mine ++ zeros 6)) 0 title ≡ (Edited.Done, tag_in 3 0 20 (titled ++ zeros 8))
-  pub removed_23 : removed_of (tag_in 3 0 26 (mine ++ titled)) 0 ≡ (Edited.Done, tag_in 3 0 26 (titled ++ zeros 14))
-  pub appended_23 : appended_of (tag_in 3 0 26 (mine ++ zeros 12)) title ≡ (Edited.Done, tag_in 3 0 26 (mine ++ titled))
+  pub replaced_23 : replaced_of (tag_in 3 0 20 (mine ++ zeros 6)) 0 title ≡ (Ok tt, tag_in 3 0 20 (titled ++ zeros 8))
+  pub removed_23 : removed_of (tag_in 3 0 26 (mine ++ titled)) 0 ≡ (Ok tt, tag_in 3 0 26 (titled ++ zeros 14))
+  pub appended_23 : appended_of (tag_in 3 0 26 (mine ++ zeros 12)) title ≡ (Ok tt, tag_in 3 0 26 (mine ++ titled))
   -- 2.2, where an empty body is refused
   pub replaced_22 : replaced_of (tag_in 2 0 12 (small (ascii "TT2") 2 (0 ∷ ascii "t") ++ zeros 4)) 0 (plain (named "POP") (popularimeter (ascii "a") 9 256))
-      ≡ (Edited.Done, tag_in 2 0 12 (small (ascii "POP") 5 (0x61 ∷ 0 ∷ 9 ∷ 1 ∷ 0 ∷ []) ++ zeros 1))
-  pub removed_22 : removed_of (tag_in 2 0 12 (small (ascii "TT2") 2 (0 ∷ ascii "t") ++ zeros 4)) 0 ≡ (Edited.Done, tag_in 2 0 12 (zeros 12))
+      ≡ (Ok tt, tag_in 2 0 12 (small (ascii "POP") 5 (0x61 ∷ 0 ∷ 9 ∷ 1 ∷ 0 ∷ []) ++ zeros 1))
+  pub removed_22 : removed_of (tag_in 2 0 12 (small (ascii "TT2") 2 (0 ∷ ascii "t") ++ zeros 4)) 0 ≡ (Ok tt, tag_in 2 0 12 (zeros 12))
   pub appended_22 : appended_of (tag_in 2 0 15 (small (ascii "TT2") 2 (0 ∷ ascii "t") ++ zeros 7)) (plain (named "XAB") (raw (7 ∷ [])))
-      ≡ (Edited.Done, tag_in 2 0 15 (small (ascii "TT2") 2 (0 ∷ ascii "t") ++ small (ascii "XAB") 1 (7 ∷ [])))
-  pub empty_22 : (appended_of (tag_in 2 0 15 (small (ascii "TT2") 2 (0 ∷ ascii "t") ++ zeros 7)) (plain (named "XAB") (raw []))).0 ≡ Edited.Refused 22
+      ≡ (Ok tt, tag_in 2 0 15 (small (ascii "TT2") 2 (0 ∷ ascii "t") ++ small (ascii "XAB") 1 (7 ∷ [])))
+  pub empty_22 : (appended_of (tag_in 2 0 15 (small (ascii "TT2") 2 (0 ∷ ascii "t") ++ zeros 7)) (plain (named "XAB") (raw []))).0 ≡ Err (refusal 22)
 
 pub computed : Computed
 unfolding kind_of first zero_at zeros_in digits onto unsync utf8_from all_id_bytes ext_of header_refusal head_of zero_pair_at trimmed closing stripped counter_bytes names_len body_refusal run_of inside_of on_head step_of walk_bytes walked body_bytes encode refusal_of blocks_for all_zero frame_look on_look look_for look_at tag_look with_blocks fitted put_in replaced_of removed_of appended_of

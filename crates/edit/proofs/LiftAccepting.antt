@@ -15,11 +15,9 @@ use Rattle.format.specs.Encode.{encode, refusal_of}
 use Rattle.format.specs.Looks.{tag_look}
 use Rattle.format.specs.declared.Version.{Version}
 use Rattle.format.specs.declared.Mode.{Mode}
-use Rattle.format.specs.declared.Look.{Look}
 use Rattle.blocks.specs.Blocks.{joined, with_blocks}
 use Rattle.blocks.proofs.Headers.{same_size}
 use Rattle.blocks.proofs.Edits.{splice_one}
-use Rattle.raise.specs.declared.Raised.{Raised}
 use Rattle.raise.specs.Raise.{field_in, places_from, block_at, Answer, tag_version, tag_blocks, raised_of}
 use Rattle.raise.proofs.Search.{found}
 use Rattle.raise.proofs.Accepting.{sum_at, tag_after, Accepted, accept}
@@ -28,6 +26,7 @@ use Rattle.raise.proofs.Promises.{raise_reads}
 use Rattle.edit.specs.Edit.{refuse, fitted, put_in}
 use Rattle.edit.specs.Lift.{recounted, counts_in, lift_to, lifted_of}
 use Rattle.edit.proofs.LiftMeters.{counted_block}
+use Rattle.std.specs.Prelude.{Ok}
 
 -- ---- the block that a lift puts
 
@@ -87,7 +86,7 @@ raised_with {tag} {user} {amount} a =
 
 -- ---- either way
 
-module _ (tag user : List ℕ) (amount i : ℕ) (looks : tag_look tag ≡ Look.Plain) (only : places_from (tag_version tag) user 0 (tag_blocks tag) ≡ i ∷ []) where
+module _ (tag user : List ℕ) (amount i : ℕ) (looks : tag_look tag ≡ Ok true) (only : places_from (tag_version tag) user 0 (tag_blocks tag) ≡ i ∷ []) where
   abbrev v : Version
   v = tag_version tag
 
@@ -110,15 +109,15 @@ module _ (tag user : List ℕ) (amount i : ℕ) (looks : tag_look tag ≡ Look.P
   module _ (small : sum_at tag i amount < 2 ^ 64) where
     -- the sum fits its bytes
     pub lift_in : sum_at tag i amount < 256 ^ length (field_in (tag_version tag) (block_at (tag_blocks tag) i))
-        → (lifted_of tag user amount ≡ (Raised.Counts (sum_at tag i amount), with_blocks (lift_blocks tag i (sum_at tag i amount)) tag))
+        → (lifted_of tag user amount ≡ (Ok (sum_at tag i amount), with_blocks (lift_blocks tag i (sum_at tag i amount)) tag))
         × (lifted_of tag user amount ≡ raised_of tag user amount)
     unfolding lift_to
     lift_in fits =
         let a : Accepted tag user amount = record { looks = looks; i = i; only = only; small = small; fits = fits } in
         let t = lt-ltb value (256 ^ width) fits in
-        let is : lifted_of tag user amount ≡ (Raised.Counts value, tag_after tag i amount) = lift_at ∙ rw (lt-ltb value (2 ^ 64) small, t) in
+        let is : lifted_of tag user amount ≡ (Ok value, tag_after tag i amount) = lift_at ∙ rw (lt-ltb value (2 ^ 64) small, t) in
         let block : block_after a ≡ lift_block v (block_at bs i) value = rw t in
-        (is ∙ ap {B = Answer} (λ (s : List ℕ). (Raised.Counts value, s)) (raised_with a ∙ ap (λ (b : List ℕ). with_blocks (set bs i b) tag) block), is ∙ sym (accept a))
+        (is ∙ ap {B = Answer} (λ (s : List ℕ). (Ok value, s)) (raised_with a ∙ ap (λ (b : List ℕ). with_blocks (set bs i b) tag) block), is ∙ sym (accept a))
 
     -- it does not: the frame is replaced
     pub lift_out : 256 ^ length (field_in (tag_version tag) (block_at (tag_blocks tag) i)) ≤ sum_at tag i amount
@@ -139,7 +138,7 @@ module _ (tag user : List ℕ) (amount i : ℕ) (looks : tag_look tag ≡ Look.P
 -- ---- from the conditions to the answer
 
 pub record Lifted (tag user : List ℕ) (amount : ℕ) : Type 0 where
-  pub looks : tag_look tag ≡ Look.Plain
+  pub looks : tag_look tag ≡ Ok true
   pub i : ℕ
   pub only : places_from (tag_version tag) user 0 (tag_blocks tag) ≡ i ∷ []
   pub small : sum_at tag i amount < 2 ^ 64
@@ -159,7 +158,7 @@ module _ {tag user : List ℕ} {amount : ℕ} (a : Lifted tag user amount) where
   abbrev r : Rec
   r = recounted (tag_version tag) b sum
 
-  accept_by : (t : Bool) → fits_in (tag_version tag) b sum ≡ t → lifted_of tag user amount ≡ (Raised.Counts sum, tag_lifted tag a.i amount)
+  accept_by : (t : Bool) → fits_in (tag_version tag) b sum ≡ t → lifted_of tag user amount ≡ (Ok sum, tag_lifted tag a.i amount)
   unfolding fitted
   accept_by true e = (lift_in tag user amount a.i a.looks a.only a.small (ltb-true _ _ e)).0
   accept_by false e =
@@ -170,7 +169,7 @@ module _ {tag user : List ℕ} {amount : ℕ} (a : Lifted tag user amount) where
       lift_out tag user amount a.i a.looks a.only a.small (ltb-false _ _ e)
       ∙ ap (counts_in sum) (put_is tag user amount a.i a.looks a.only a.small)
       ∙ rw (eq-eqb (refusal_of (tag_version tag) Mode.Off false r) 0 k, le-leb (length (joined (set (tag_blocks tag) a.i (encode (tag_version tag) Mode.Off r)))) (size_of tag) room)
-      (ap {B = Answer} (λ (c : List ℕ). (Raised.Counts sum, with_blocks (set (tag_blocks tag) a.i c) tag)) (sym new))
+      (ap {B = Answer} (λ (c : List ℕ). (Ok sum, with_blocks (set (tag_blocks tag) a.i c) tag)) (sym new))
 
-  pub lift_accept : lifted_of tag user amount ≡ (Raised.Counts (sum_at tag a.i amount), tag_lifted tag a.i amount)
+  pub lift_accept : lifted_of tag user amount ≡ (Ok (sum_at tag a.i amount), tag_lifted tag a.i amount)
   lift_accept = accept_by (fits_in (tag_version tag) b sum) refl

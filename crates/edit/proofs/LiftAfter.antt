@@ -14,7 +14,6 @@ use Rattle.format.specs.Encode.{encode, refusal_of}
 use Rattle.format.specs.Looks.{tag_look}
 use Rattle.format.specs.declared.Version.{Version}
 use Rattle.format.specs.declared.Mode.{Mode}
-use Rattle.format.specs.declared.Look.{Look}
 use Rattle.format.proofs.Fronts.{front_byte}
 use Rattle.blocks.specs.Blocks.{joined, blocks_in, Reads, PlainTag, splice, region_in}
 use Rattle.blocks.proofs.Headers.{same_size}
@@ -30,6 +29,7 @@ use Rattle.edit.specs.Lift.{recounted}
 use Rattle.edit.proofs.OtherBlocks.{with_front, with_length, with_behind}
 use Rattle.edit.proofs.LiftMeters.{Meter, meter_of, found_meter, meter_reads, meter_shows, meter_mine, meter_again, counted_block, counted_meter, encoded_meter}
 use Rattle.edit.proofs.LiftAccepting.{fits_in, lift_block, lift_refusal, lift_blocks, tag_lifted, Lifted}
+use Rattle.std.specs.Prelude.{Ok}
 
 -- ---- the block that a lift puts is a popularimeter of the same user and rating
 
@@ -125,7 +125,7 @@ module _ {tag user : List ℕ} {amount : ℕ} (a : Lifted tag user amount) where
   pub after_blocks : tag_blocks (tag_lifted tag a.i amount) ≡ lift_blocks tag a.i (sum_at tag a.i amount)
   after_blocks = ap (λ (u : Version). blocks_in u (region_in tag')) version_same ∙ plain_blocks after_plain
 
-  pub after_looks : tag_look (tag_lifted tag a.i amount) ≡ Look.Plain
+  pub after_looks : tag_look (tag_lifted tag a.i amount) ≡ Ok true
   after_looks =
       let flags : flags_of tag' ≡ flags_of tag = front_byte 10 tag' tag front_same 5 (omega arith) in
       plain_tag after_plain (plain_set was_plain.blocks i new_meter.plain) (ap (has 0x80) flags ∙ was_plain.unflagged)

@@ -15,10 +15,11 @@ use Rattle.format.specs.Record.{body_refusal, run_of}
 use Rattle.format.specs.Encode.{body_bytes, encode, refusal_of}
 use Rattle.format.specs.Looks.{all_zero, frame_look, on_look, look_for, look_at, tag_look}
 use Rattle.blocks.specs.Blocks.{blocks_for, with_blocks}
-use Rattle.raise.specs.declared.Raised.{Raised}
 use Rattle.raise.specs.Raise.{body_in, is_mine, field_in, field_at, places_from, counted_tag}
 use Rattle.edit.specs.Edit.{fitted, put_in}
 use Rattle.edit.specs.Lift.{lift_to, lifted_of}
+use Rattle.std.specs.Prelude.{Ok, Err}
+use Rattle.format.specs.Refusals.{refusal}
 
 -- a tag of an edition: header with its size, then these bytes
 abbrev tag_in : ℕ → ℕ → List ℕ → List ℕ
@@ -78,53 +79,53 @@ inside = tag_in 4 42 (frame_in (ascii "CHAP") 32 0 0 (0x63 ∷ 0 ∷ zeros 16 ++
 
 pub record Computed : Type 0 where
   -- in the bytes
-  pub within : lifted_of (alone4 16 1 (254 ∷ []) (zeros 2)) (ascii "a") 1 ≡ (Raised.Counts 255, alone4 16 1 (255 ∷ []) (zeros 2))
-  pub within_wide : lifted_of (alone4 15 2 (0 ∷ 255 ∷ []) sound) (ascii "a") 1 ≡ (Raised.Counts 256, alone4 15 2 (1 ∷ 0 ∷ []) sound)
-  pub twelve : lifted_of (alone4 25 12 (zeros 11 ++ (255 ∷ [])) []) (ascii "a") 1 ≡ (Raised.Counts 256, alone4 25 12 (zeros 10 ++ (1 ∷ 0 ∷ [])) [])
-  pub nothing_more : lifted_of (alone4 13 0 [] []) (ascii "a") 0 ≡ (Raised.Counts 0, alone4 13 0 [] [])
+  pub within : lifted_of (alone4 16 1 (254 ∷ []) (zeros 2)) (ascii "a") 1 ≡ (Ok 255, alone4 16 1 (255 ∷ []) (zeros 2))
+  pub within_wide : lifted_of (alone4 15 2 (0 ∷ 255 ∷ []) sound) (ascii "a") 1 ≡ (Ok 256, alone4 15 2 (1 ∷ 0 ∷ []) sound)
+  pub twelve : lifted_of (alone4 25 12 (zeros 11 ++ (255 ∷ [])) []) (ascii "a") 1 ≡ (Ok 256, alone4 25 12 (zeros 10 ++ (1 ∷ 0 ∷ [])) [])
+  pub nothing_more : lifted_of (alone4 13 0 [] []) (ascii "a") 0 ≡ (Ok 0, alone4 13 0 [] [])
   -- replaced, in each edition; the padding shrinks, and what follows the tag stays
-  pub replaces_22 : lifted_of (alone2 12 1 (255 ∷ []) (zeros 2 ++ sound)) (ascii "a") 1 ≡ (Raised.Counts 256, alone2 12 2 (1 ∷ 0 ∷ []) (zeros 1 ++ sound))
-  pub replaces_23 : lifted_of (alone3 16 1 (255 ∷ []) (zeros 2 ++ sound)) (ascii "a") 1 ≡ (Raised.Counts 256, alone3 16 2 (1 ∷ 0 ∷ []) (zeros 1 ++ sound))
-  pub replaces_24 : lifted_of (alone4 16 1 (255 ∷ []) (zeros 2 ++ sound)) (ascii "a") 1 ≡ (Raised.Counts 256, alone4 16 2 (1 ∷ 0 ∷ []) (zeros 1 ++ sound))
-  pub from_nothing : lifted_of (alone4 15 0 [] (zeros 2)) (ascii "a") 1 ≡ (Raised.Counts 1, alone4 15 1 (1 ∷ []) (zeros 1))
+  pub replaces_22 : lifted_of (alone2 12 1 (255 ∷ []) (zeros 2 ++ sound)) (ascii "a") 1 ≡ (Ok 256, alone2 12 2 (1 ∷ 0 ∷ []) (zeros 1 ++ sound))
+  pub replaces_23 : lifted_of (alone3 16 1 (255 ∷ []) (zeros 2 ++ sound)) (ascii "a") 1 ≡ (Ok 256, alone3 16 2 (1 ∷ 0 ∷ []) (zeros 1 ++ sound))
+  pub replaces_24 : lifted_of (alone4 16 1 (255 ∷ []) (zeros 2 ++ sound)) (ascii "a") 1 ≡ (Ok 256, alone4 16 2 (1 ∷ 0 ∷ []) (zeros 1 ++ sound))
+  pub from_nothing : lifted_of (alone4 15 0 [] (zeros 2)) (ascii "a") 1 ≡ (Ok 1, alone4 15 1 (1 ∷ []) (zeros 1))
   -- an exact fit, and one byte too many: not the sound's
-  pub fits : lifted_of (alone4 16 1 (255 ∷ []) (zeros 2 ++ sound)) (ascii "a") 65536 ≡ (Raised.Counts 65791, alone4 16 3 (1 ∷ 0 ∷ 255 ∷ []) sound)
-  pub fits_most : (lifted_of (alone4 16 1 (255 ∷ []) (zeros 2 ++ sound)) (ascii "a") 0xFFFF00).0 ≡ Raised.Counts 0xFFFFFF
-  pub fits_not : lifted_of (alone4 16 1 (255 ∷ []) (zeros 2 ++ sound)) (ascii "a") 0xFFFF01 ≡ (Raised.Refused 20, alone4 16 1 (255 ∷ []) (zeros 2 ++ sound))
-  pub no_padding : lifted_of (alone4 14 1 (255 ∷ []) sound) (ascii "a") 1 ≡ (Raised.Refused 20, alone4 14 1 (255 ∷ []) sound)
-  pub no_padding_22 : lifted_of (alone2 10 1 (255 ∷ []) sound) (ascii "a") 1 ≡ (Raised.Refused 20, alone2 10 1 (255 ∷ []) sound)
-  pub no_padding_23 : lifted_of (alone3 14 1 (255 ∷ []) sound) (ascii "a") 1 ≡ (Raised.Refused 20, alone3 14 1 (255 ∷ []) sound)
+  pub fits : lifted_of (alone4 16 1 (255 ∷ []) (zeros 2 ++ sound)) (ascii "a") 65536 ≡ (Ok 65791, alone4 16 3 (1 ∷ 0 ∷ 255 ∷ []) sound)
+  pub fits_most : (lifted_of (alone4 16 1 (255 ∷ []) (zeros 2 ++ sound)) (ascii "a") 0xFFFF00).0 ≡ Ok 0xFFFFFF
+  pub fits_not : lifted_of (alone4 16 1 (255 ∷ []) (zeros 2 ++ sound)) (ascii "a") 0xFFFF01 ≡ (Err (refusal 20), alone4 16 1 (255 ∷ []) (zeros 2 ++ sound))
+  pub no_padding : lifted_of (alone4 14 1 (255 ∷ []) sound) (ascii "a") 1 ≡ (Err (refusal 20), alone4 14 1 (255 ∷ []) sound)
+  pub no_padding_22 : lifted_of (alone2 10 1 (255 ∷ []) sound) (ascii "a") 1 ≡ (Err (refusal 20), alone2 10 1 (255 ∷ []) sound)
+  pub no_padding_23 : lifted_of (alone3 14 1 (255 ∷ []) sound) (ascii "a") 1 ≡ (Err (refusal 20), alone3 14 1 (255 ∷ []) sound)
   -- a data length is lost, and its bytes are zeros then, or serve the frame after it
-  pub length_lost : lifted_of (tag_in 4 18 (lengthened ++ sound)) (ascii "a") 1 ≡ (Raised.Counts 256, tag_in 4 18 (meter 2 (1 ∷ 0 ∷ []) ++ (zeros 3 ++ sound)))
-  pub length_kept : lifted_of (tag_in 4 18 lengthened) (ascii "a") 0 ≡ (Raised.Counts 255, tag_in 4 18 lengthened)
-  pub frees : lifted_of (tag_in 4 32 (lengthened ++ other 255)) (ascii "a") 1 ≡ (Raised.Counts 256, tag_in 4 32 (meter 2 (1 ∷ 0 ∷ []) ++ (other 255 ++ zeros 3)))
-  pub frees_none : (lifted_of (tag_in 4 32 (lengthened ++ other 255)) (ascii "b") 1).0 ≡ Raised.Refused 20
+  pub length_lost : lifted_of (tag_in 4 18 (lengthened ++ sound)) (ascii "a") 1 ≡ (Ok 256, tag_in 4 18 (meter 2 (1 ∷ 0 ∷ []) ++ (zeros 3 ++ sound)))
+  pub length_kept : lifted_of (tag_in 4 18 lengthened) (ascii "a") 0 ≡ (Ok 255, tag_in 4 18 lengthened)
+  pub frees : lifted_of (tag_in 4 32 (lengthened ++ other 255)) (ascii "a") 1 ≡ (Ok 256, tag_in 4 32 (meter 2 (1 ∷ 0 ∷ []) ++ (other 255 ++ zeros 3)))
+  pub frees_none : (lifted_of (tag_in 4 32 (lengthened ++ other 255)) (ascii "b") 1).0 ≡ Err (refusal 20)
   -- the flags of a file's history are lost with the frame
   pub status_lost : lifted_of (tag_in 4 15 (frame_in (ascii "POPM") 4 0x40 0 (rated (ascii "a") (255 ∷ [])) ++ zeros 1)) (ascii "a") 1
-      ≡ (Raised.Counts 256, tag_in 4 15 (meter 2 (1 ∷ 0 ∷ [])))
+      ≡ (Ok 256, tag_in 4 15 (meter 2 (1 ∷ 0 ∷ [])))
   pub status_kept : lifted_of (tag_in 4 14 (frame_in (ascii "POPM") 4 0x40 0 (rated (ascii "a") (254 ∷ [])))) (ascii "a") 1
-      ≡ (Raised.Counts 255, tag_in 4 14 (frame_in (ascii "POPM") 4 0x40 0 (rated (ascii "a") (255 ∷ []))))
+      ≡ (Ok 255, tag_in 4 14 (frame_in (ascii "POPM") 4 0x40 0 (rated (ascii "a") (255 ∷ []))))
   -- the first of two, which moves the other, and the last
   pub moves : lifted_of (tag_in 4 30 (meter 1 (255 ∷ []) ++ (other 7 ++ (zeros 2 ++ sound)))) (ascii "a") 1
-      ≡ (Raised.Counts 256, tag_in 4 30 (meter 2 (1 ∷ 0 ∷ []) ++ (other 7 ++ (zeros 1 ++ sound))))
+      ≡ (Ok 256, tag_in 4 30 (meter 2 (1 ∷ 0 ∷ []) ++ (other 7 ++ (zeros 1 ++ sound))))
   pub last : lifted_of (tag_in 4 30 (other 7 ++ (meter 1 (255 ∷ []) ++ (zeros 2 ++ sound)))) (ascii "a") 1
-      ≡ (Raised.Counts 256, tag_in 4 30 (other 7 ++ (meter 2 (1 ∷ 0 ∷ []) ++ (zeros 1 ++ sound))))
+      ≡ (Ok 256, tag_in 4 30 (other 7 ++ (meter 2 (1 ∷ 0 ∷ []) ++ (zeros 1 ++ sound))))
   -- 64 bits
   pub largest : lifted_of (alone4 23 1 (255 ∷ []) (zeros 9)) (ascii "a") 0xFFFF_FFFF_FFFF_FF00
-      ≡ (Raised.Counts 0xFFFF_FFFF_FFFF_FFFF, alone4 23 8 (replicate 8 255) (zeros 2))
-  pub largest_one : (lifted_of (alone4 23 1 (255 ∷ []) (zeros 9)) (ascii "a") 0xFFFF_FFFF_FFFF_FF01).0 ≡ Raised.Refused 43
-  pub large_first : (lifted_of (alone4 14 1 (255 ∷ []) []) (ascii "a") 0xFFFF_FFFF_FFFF_FF01).0 ≡ Raised.Refused 43
+      ≡ (Ok 0xFFFF_FFFF_FFFF_FFFF, alone4 23 8 (replicate 8 255) (zeros 2))
+  pub largest_one : (lifted_of (alone4 23 1 (255 ∷ []) (zeros 9)) (ascii "a") 0xFFFF_FFFF_FFFF_FF01).0 ≡ Err (refusal 43)
+  pub large_first : (lifted_of (alone4 14 1 (255 ∷ []) []) (ascii "a") 0xFFFF_FFFF_FFFF_FF01).0 ≡ Err (refusal 43)
   -- as a raise
-  pub absent : (lifted_of (alone4 14 1 (255 ∷ []) []) (ascii "b") 1).0 ≡ Raised.Refused 41
-  pub chapter_only : (lifted_of inside (ascii "a") 1).0 ≡ Raised.Refused 41
-  pub twice : (lifted_of (tag_in 4 29 (meter 1 (255 ∷ []) ++ (meter 1 (7 ∷ []) ++ zeros 1))) (ascii "a") 1).0 ≡ Raised.Refused 42
-  pub not_zero : (lifted_of (alone4 16 1 (255 ∷ []) (0 ∷ 1 ∷ [])) (ascii "a") 1).0 ≡ Raised.Refused 40
-  pub short_padding : (lifted_of (alone4 16 1 (255 ∷ []) (zeros 1)) (ascii "a") 1).0 ≡ Raised.Refused 40
-  pub encrypted : (lifted_of (tag_in 4 16 (frame_in (ascii "POPM") 4 0 4 (rated (ascii "a") (255 ∷ [])) ++ zeros 2)) (ascii "a") 1).0 ≡ Raised.Refused 8
+  pub absent : (lifted_of (alone4 14 1 (255 ∷ []) []) (ascii "b") 1).0 ≡ Err (refusal 41)
+  pub chapter_only : (lifted_of inside (ascii "a") 1).0 ≡ Err (refusal 41)
+  pub twice : (lifted_of (tag_in 4 29 (meter 1 (255 ∷ []) ++ (meter 1 (7 ∷ []) ++ zeros 1))) (ascii "a") 1).0 ≡ Err (refusal 42)
+  pub not_zero : (lifted_of (alone4 16 1 (255 ∷ []) (0 ∷ 1 ∷ [])) (ascii "a") 1).0 ≡ Err (refusal 40)
+  pub short_padding : (lifted_of (alone4 16 1 (255 ∷ []) (zeros 1)) (ascii "a") 1).0 ≡ Err (refusal 40)
+  pub encrypted : (lifted_of (tag_in 4 16 (frame_in (ascii "POPM") 4 0 4 (rated (ascii "a") (255 ∷ [])) ++ zeros 2)) (ascii "a") 1).0 ≡ Err (refusal 8)
   -- one order has room, the other has not
-  pub tight_first : lifted_of tight (ascii "a") 1 ≡ (Raised.Refused 20, tight)
-  pub loose_first : lifted_of tight [] 1 ≡ (Raised.Counts 1, loosened)
-  pub loose_then : lifted_of loosened (ascii "a") 1 ≡ (Raised.Counts 1, both_lifted)
+  pub tight_first : lifted_of tight (ascii "a") 1 ≡ (Err (refusal 20), tight)
+  pub loose_first : lifted_of tight [] 1 ≡ (Ok 1, loosened)
+  pub loose_then : lifted_of loosened (ascii "a") 1 ≡ (Ok 1, both_lifted)
 
 pub computed : Computed
 unfolding kind_of first zero_at zeros_in digits onto unsync utf8_from all_id_bytes ext_of header_refusal head_of stripped counter_bytes names_len body_refusal run_of body_bytes encode refusal_of blocks_for with_blocks all_zero frame_look on_look look_for look_at tag_look body_in is_mine field_in field_at places_from counted_tag fitted put_in lift_to lifted_of

@@ -23,7 +23,6 @@ use Rattle.format.specs.declared.Version.TheVariants.{Id3v22, Id3v23, Id3v24}
 use Rattle.format.specs.declared.Mode.TheVariants.{Off}
 use Rattle.format.specs.declared.Kind.{Kind}
 use Rattle.format.specs.declared.Head.{Head}
-use Rattle.format.specs.declared.Look.{Look}
 use Rattle.format.proofs.Heads.{stands, lies}
 use Rattle.format.proofs.Zeros.{zero_at_lem, take_name, drop_name, get_d_name}
 use Rattle.format.proofs.Encoded.{off_flagged, encode_length}
@@ -43,6 +42,8 @@ use Rattle.raise.proofs.Fields.{field_length, field_counter}
 use Rattle.raise.proofs.Stored.{drop_sets, same_refl, body_is, mine_is, field_is, at_is, mine_kind, mine_user, kind_taken, long_is, new_plain, new_mine, new_at, new_field}
 use Rattle.edit.specs.Lift.{meter_id, recounted}
 use Rattle.edit.specs.LiftPromises.{too_long}
+use Rattle.std.specs.Prelude.{Result, Option, Ok}
+use Rattle.format.specs.declared.refusals.Refusal.{Refusal}
 
 -- ---- a popularimeter's block
 
@@ -177,7 +178,7 @@ module _ {v : Version} {b user : List ℕ} {rating counter : ℕ} (m : Meter v b
   unfolding body_in
   same_body =
       let o = p.block in
-      ap (λ (h : Head). drop (head_start h) (counted_block v b value)) (same_head ∙ o.head)
+      ap (λ (h : Result (Option Head) Refusal). drop (head_start h) (counted_block v b value)) (same_head ∙ o.head)
       ∙ ap (λ (i : ℕ). drop o.start (sets b i x)) (at_is o)
       ∙ drop_sets o.start b (zero_at at_body + 2) x
 
@@ -203,7 +204,7 @@ module _ {v : Version} {b user : List ℕ} {rating counter : ℕ} (m : Meter v b
 
 -- ---- one that was encoded
 
-none_look : (v : Version) → look_at v 2 [] ≡ Look.Plain
+none_look : (v : Version) → look_at v 2 [] ≡ Ok true
 unfolding look_at look_for
 none_look v = refl
 

@@ -16,10 +16,7 @@ use Rattle.format.specs.Encode.{encode}
 use Rattle.format.specs.Looks.{tag_look}
 use Rattle.format.specs.declared.Version.{Version}
 use Rattle.format.specs.declared.Mode.{Mode}
-use Rattle.format.specs.declared.Look.{Look}
-use Rattle.writer.specs.declared.Edited.{Edited}
 use Rattle.blocks.specs.Blocks.{joined, with_blocks}
-use Rattle.raise.specs.declared.Raised.{Raised}
 use Rattle.raise.specs.Raise.{field_in, places_from, block_at, Answer, tag_version, tag_blocks}
 use Rattle.raise.proofs.Accepting.{sum_at, Accepted}
 use Rattle.edit.specs.Edit.{refuse, fitted}
@@ -32,20 +29,23 @@ use Rattle.edit.proofs.LiftAfter.{lt, old_meter, size_same, version_same, after_
 use Rattle.edit.proofs.LiftGrows.{joined_set, lift_grows}
 use Rattle.edit.proofs.LiftReads.{lift_refused_same}
 use Rattle.edit.proofs.LiftPairs.{next_blocks, other_block, blocks_commute, other_place, second_place, second_blocks, lifts_commute}
+use Rattle.std.specs.Prelude.{Result, Ok, Err}
+use Rattle.format.specs.declared.refusals.Refusal.{Refusal}
+use Rattle.format.specs.Refusals.{refusal}
 
 -- ---- the answer by the block, the sum and the room
 
-abbrev add_answer : ℕ → ℕ → Bool → Raised
-add_answer zero value room = pick room (Raised.Counts value) (Raised.Refused 20)
-add_answer (suc k) value room = Raised.Refused (suc k)
+abbrev add_answer : ℕ → ℕ → Bool → Result ℕ Refusal
+add_answer zero value room = pick room (Ok value) (Err (refusal 20))
+add_answer (suc k) value room = Err (refusal (suc k))
 
-abbrev lift_answer : Version → List ℕ → ℕ → Bool → Raised
-lift_answer v b value room = pick (ltb value (2 ^ 64)) (add_answer (lift_refusal v b value) value room) (Raised.Refused 43)
+abbrev lift_answer : Version → List ℕ → ℕ → Bool → Result ℕ Refusal
+lift_answer v b value room = pick (ltb value (2 ^ 64)) (add_answer (lift_refusal v b value) value room) (Err (refusal 43))
 
 abbrev has_room : List ℕ → ℕ → ℕ → Bool
 has_room tag i amount = leb (length (joined (lift_blocks tag i (sum_at tag i amount)))) (size_of tag)
 
-module _ (tag user : List ℕ) (amount i : ℕ) (looks : tag_look tag ≡ Look.Plain) (only : places_from (tag_version tag) user 0 (tag_blocks tag) ≡ i ∷ []) where
+module _ (tag user : List ℕ) (amount i : ℕ) (looks : tag_look tag ≡ Ok true) (only : places_from (tag_version tag) user 0 (tag_blocks tag) ≡ i ∷ []) where
   abbrev v : Version
   v = tag_version tag
 
@@ -55,7 +55,7 @@ module _ (tag user : List ℕ) (amount i : ℕ) (looks : tag_look tag ≡ Look.P
   abbrev value : ℕ
   value = sum_at tag i amount
 
-  fitted_answer : (t : Bool) (s : List ℕ) → (counts_in value (pick t (Edited.Done, s) (refuse 20 tag))).0 ≡ pick t (Raised.Counts value) (Raised.Refused 20)
+  fitted_answer : (t : Bool) (s : List ℕ) → (counts_in value (pick t (Ok tt, s) (refuse 20 tag))).0 ≡ pick t (Ok value) (Err (refusal 20))
   fitted_answer true s = refl
   fitted_answer false s = refl
 
@@ -81,7 +81,7 @@ module _ (tag user : List ℕ) (amount i : ℕ) (looks : tag_look tag ≡ Look.P
       ∙ put_answer (adding_refusal tag i amount)
 
   sum_answer : (t : Bool) → ltb value (2 ^ 64) ≡ t
-      → (lifted_of tag user amount).0 ≡ pick t (add_answer (lift_refusal v b value) value (has_room tag i amount)) (Raised.Refused 43)
+      → (lifted_of tag user amount).0 ≡ pick t (add_answer (lift_refusal v b value) value (has_room tag i amount)) (Err (refusal 43))
   unfolding lift_to
   sum_answer true e = small_answer (ltb-true _ _ e) (fits_in v b value) refl
   sum_answer false e = ap (λ (x : Answer). x.0) (lift_at tag user amount i looks only) ∙ rw e
@@ -94,18 +94,18 @@ module _ (tag user : List ℕ) (amount i : ℕ) (looks : tag_look tag ≡ Look.P
 rooms_differ : (v : Version) (b : List ℕ) (value : ℕ) (p q : Bool) → SameButRoom (lift_answer v b value p) (lift_answer v b value q)
 rooms_differ v b value p q = by (ltb value (2 ^ 64)) (lift_refusal v b value) p q
   where
-    by : (t : Bool) (k : ℕ) (p q : Bool) → SameButRoom (pick t (add_answer k value p) (Raised.Refused 43)) (pick t (add_answer k value q) (Raised.Refused 43))
-    by false k p q = SameButRoom.same (Raised.Refused 43)
-    by true (suc k) p q = SameButRoom.same (Raised.Refused (suc k))
-    by true zero true true = SameButRoom.same (Raised.Counts value)
+    by : (t : Bool) (k : ℕ) (p q : Bool) → SameButRoom (pick t (add_answer k value p) (Err (refusal 43))) (pick t (add_answer k value q) (Err (refusal 43)))
+    by false k p q = SameButRoom.same (Err (refusal 43))
+    by true (suc k) p q = SameButRoom.same (Err (refusal (suc k)))
+    by true zero true true = SameButRoom.same (Ok value)
     by true zero true false = SameButRoom.taken value
     by true zero false true = SameButRoom.freed value
-    by true zero false false = SameButRoom.same (Raised.Refused 20)
+    by true zero false false = SameButRoom.same (Err (refusal 20))
 
-both_are : {x y : Raised} (z : Raised) → x ≡ z → y ≡ z → SameButRoom x y
+both_are : {x y : Result ℕ Refusal} (z : Result ℕ Refusal) → x ≡ z → y ≡ z → SameButRoom x y
 both_are {x} {y} z e f = subst (SameButRoom x) (e ∙ sym f) (SameButRoom.same x)
 
-lift_places_lem : (tag user : List ℕ) (amount : ℕ) (l : List ℕ) → tag_look tag ≡ Look.Plain → places_from (tag_version tag) user 0 (tag_blocks tag) ≡ l
+lift_places_lem : (tag user : List ℕ) (amount : ℕ) (l : List ℕ) → tag_look tag ≡ Ok true → places_from (tag_version tag) user 0 (tag_blocks tag) ≡ l
     → lifted_of tag user amount ≡ lift_places (tag_version tag) (tag_blocks tag) amount tag l
 unfolding lifted_of
 lift_places_lem tag user amount l looks places = rw (looks, places)
@@ -142,31 +142,31 @@ module _ {tag user : List ℕ} {amount : ℕ} (a : Lifted tag user amount) (othe
         let after = lift_answer_lem tag' other more j (after_looks a) (after_places a other ∙ only) in
         let same : lift_answer (tag_version tag') (block_at (tag_blocks tag') j) (sum_at tag' j more) (has_room tag' j more)
         ≡ lift_answer u (block_at bs j) (sum_at tag j more) (has_room tag' j more) =
-        ap (λ (k : ℕ). pick (ltb (sum_at tag' j more) (2 ^ 64)) (add_answer k (sum_at tag' j more) (has_room tag' j more)) (Raised.Refused 43)) same_refusal
-        ∙ ap (λ (n : ℕ). pick (ltb n (2 ^ 64)) (add_answer (lift_refusal u (block_at bs j) (sum_at tag j more)) n (has_room tag' j more)) (Raised.Refused 43)) same_sum in
-        subst (λ (x : Raised). SameButRoom x (lifted_of tag' other more).0) (sym before)
+        ap (λ (k : ℕ). pick (ltb (sum_at tag' j more) (2 ^ 64)) (add_answer k (sum_at tag' j more) (has_room tag' j more)) (Err (refusal 43))) same_refusal
+        ∙ ap (λ (n : ℕ). pick (ltb n (2 ^ 64)) (add_answer (lift_refusal u (block_at bs j) (sum_at tag j more)) n (has_room tag' j more)) (Err (refusal 43))) same_sum in
+        subst (λ (x : Result ℕ Refusal). SameButRoom x (lifted_of tag' other more).0) (sym before)
         (subst (SameButRoom (lift_answer u (block_at bs j) (sum_at tag j more) (has_room tag j more))) (sym (after ∙ same))
         (rooms_differ u (block_at bs j) (sum_at tag j more) (has_room tag j more) (has_room tag' j more)))
 
   places_differ : (l : List ℕ) → places_from u other 0 bs ≡ l → SameButRoom (lifted_of tag other more).0 (lifted_of tag' other more).0
   places_differ [] e =
-      both_are (Raised.Refused 41) (ap (λ (x : Answer). x.0) (lift_places_lem tag other more [] a.looks e))
+      both_are (Err (refusal 41)) (ap (λ (x : Answer). x.0) (lift_places_lem tag other more [] a.looks e))
       (ap (λ (x : Answer). x.0) (lift_places_lem tag' other more [] (after_looks a) (after_places a other ∙ e)))
   places_differ (j ∷ []) e = one_differs j e
   places_differ (i ∷ j ∷ l) e =
-      both_are (Raised.Refused 42) (ap (λ (x : Answer). x.0) (lift_places_lem tag other more (i ∷ j ∷ l) a.looks e))
+      both_are (Err (refusal 42)) (ap (λ (x : Answer). x.0) (lift_places_lem tag other more (i ∷ j ∷ l) a.looks e))
       (ap (λ (x : Answer). x.0) (lift_places_lem tag' other more (i ∷ j ∷ l) (after_looks a) (after_places a other ∙ e)))
 
 pub lift_other_same : LiftOtherSame
 lift_other_same tag user other amount more apart = by (lifted_of tag user amount).0 (lifted_of tag user amount).1 refl
   where
-    by : (r : Raised) (t : List ℕ) → lifted_of tag user amount ≡ (r, t) → SameButRoom (lifted_of tag other more).0 (lifted_of t other more).0
-    by (Raised.Counts n) t e =
+    by : (r : Result ℕ Refusal) (t : List ℕ) → lifted_of tag user amount ≡ (r, t) → SameButRoom (lifted_of tag other more).0 (lifted_of t other more).0
+    by (Ok n) t e =
         let g = lift_accepted tag user amount e in
         subst (λ (s : List ℕ). SameButRoom (lifted_of tag other more).0 (lifted_of s other more).0) (sym g.tag_is)
         (places_differ g.was other more apart (places_from (tag_version tag) other 0 (tag_blocks tag)) refl)
-    by (Raised.Refused k) t e =
-        subst (λ (s : List ℕ). SameButRoom (lifted_of tag other more).0 (lifted_of s other more).0) (sym (lift_refused_same tag user amount k t e))
+    by (Err k) t e =
+        subst (λ (s : List ℕ). SameButRoom (lifted_of tag other more).0 (lifted_of s other more).0) (sym (lift_refused_same tag user amount k.number t e))
         (SameButRoom.same (lifted_of tag other more).0)
 
 -- ---- the other order
@@ -212,42 +212,42 @@ module _ {tag user other : List ℕ} {amount more : ℕ} (a : Lifted tag user am
             (subst (λ (l : List (List ℕ)). length (joined l) ≤ size_of (tag_lifted tag i amount)) (sym blocks) c.room);
       }
 
-  first_accepted : length (joined (lift_blocks tag j (sum_at tag j more))) ≤ size_of tag → lifted_of tag other more ≡ (Raised.Counts (sum_at tag j more), tag_lifted tag j more)
+  first_accepted : length (joined (lift_blocks tag j (sum_at tag j more))) ≤ size_of tag → lifted_of tag other more ≡ (Ok (sum_at tag j more), tag_lifted tag j more)
   unfolding other_first
   first_accepted room = lift_accept (other_first room)
 
   -- where it has none, 20
-  other_lacks : has_room tag j more ≡ false → (lifted_of tag other more).0 ≡ Raised.Refused 20
+  other_lacks : has_room tag j more ≡ false → (lifted_of tag other more).0 ≡ Err (refusal 20)
   other_lacks e = lift_answer_lem tag other more j a.looks there ∙ rw (lt-ltb (sum_at tag j more) (2 ^ 64) small_first, taken_first, e)
 
-both_then : (tag user other : List ℕ) (amount more n k : ℕ) (t s : List ℕ) (apart : user ≡ other → ⊥) → lifted_of tag user amount ≡ (Raised.Counts n, t)
-    → lifted_of t other more ≡ (Raised.Counts k, s) → (a : Lifted tag user amount) (c : Lifted (tag_lifted tag a.i amount) other more)
+both_then : (tag user other : List ℕ) (amount more n k : ℕ) (t s : List ℕ) (apart : user ≡ other → ⊥) → lifted_of tag user amount ≡ (Ok n, t)
+    → lifted_of t other more ≡ (Ok k, s) → (a : Lifted tag user amount) (c : Lifted (tag_lifted tag a.i amount) other more)
     → length (joined (lift_blocks tag c.i (sum_at tag c.i more))) ≤ size_of tag
-    → (t' : List ℕ) × ((lifted_of tag other more ≡ (Raised.Counts k, t')) × (lifted_of t' user amount ≡ (Raised.Counts n, s)))
+    → (t' : List ℕ) × ((lifted_of tag other more ≡ (Ok k, t')) × (lifted_of t' user amount ≡ (Ok n, s)))
 both_then tag user other amount more n k t s apart e f a c room =
     let t' = tag_lifted tag c.i more in
     let one = first_accepted a c apart room in
     let two = lift_accept (this_second a c apart room) in
     let q = lifts_commute tag user other amount more n k _ _ t s t' _ apart e f one two in
-    (t', (one ∙ (λ x. (Raised.Counts (sym q.1 x), t')), two ∙ (λ x. (Raised.Counts (sym q.0 x), sym q.2 x))))
+    (t', (one ∙ (λ x. (Ok (sym q.1 x), t')), two ∙ (λ x. (Ok (sym q.0 x), sym q.2 x))))
 
 pub lifts_order : LiftsOrder
 lifts_order tag user other amount more n k t s apart e f =
     let g = lift_accepted tag user amount e in
     let a = g.was in
-    let f' : lifted_of (tag_lifted tag a.i amount) other more ≡ (Raised.Counts k, s) = ap (λ (m : List ℕ). lifted_of m other more) (sym g.tag_is) ∙ f in
+    let f' : lifted_of (tag_lifted tag a.i amount) other more ≡ (Ok k, s) = ap (λ (m : List ℕ). lifted_of m other more) (sym g.tag_is) ∙ f in
     let c = (lift_accepted (tag_lifted tag a.i amount) other more f').was in
     by a c (has_room tag c.i more) refl
   where
     by : (a : Lifted tag user amount) (c : Lifted (tag_lifted tag a.i amount) other more) (t : Bool) → has_room tag c.i more ≡ t
-        → (lifted_of tag other more ≡ (Raised.Refused 20, tag))
-        ⊎ ((t' : List ℕ) × ((lifted_of tag other more ≡ (Raised.Counts k, t')) × (lifted_of t' user amount ≡ (Raised.Counts n, s))))
+        → (lifted_of tag other more ≡ (Err (refusal 20), tag))
+        ⊎ ((t' : List ℕ) × ((lifted_of tag other more ≡ (Ok k, t')) × (lifted_of t' user amount ≡ (Ok n, s))))
     by a c true h = inr (both_then tag user other amount more n k t s apart e f a c (leb-true _ _ h))
     by a c false h =
         let answer = other_lacks a c apart h in
         let m = (lifted_of tag other more).1 in
-        let is : lifted_of tag other more ≡ (Raised.Refused 20, m) = (λ x. (answer x, m)) in
-        inl (is ∙ ap {B = Answer} (λ (l : List ℕ). (Raised.Refused 20, l)) (lift_refused_same tag other more 20 m is))
+        let is : lifted_of tag other more ≡ (Err (refusal 20), m) = (λ x. (answer x, m)) in
+        inl (is ∙ ap {B = Answer} (λ (l : List ℕ). (Err (refusal 20), l)) (lift_refused_same tag other more 20 m is))
 
 -- ---- where nothing is freed
 
@@ -277,6 +277,6 @@ lifts_either tag user other amount more n k i t s apart only none e f =
     let a = g.was in
     let at : a.i ≡ i = let p = sym a.only ∙ only in cc in
     let none' = ap (λ (j : ℕ). has_length (tag_version tag) (block_at (tag_blocks tag) j)) at ∙ none in
-    let f' : lifted_of (tag_lifted tag a.i amount) other more ≡ (Raised.Counts k, s) = ap (λ (m : List ℕ). lifted_of m other more) (sym g.tag_is) ∙ f in
+    let f' : lifted_of (tag_lifted tag a.i amount) other more ≡ (Ok k, s) = ap (λ (m : List ℕ). lifted_of m other more) (sym g.tag_is) ∙ f in
     let c = (lift_accepted (tag_lifted tag a.i amount) other more f').was in
     both_then tag user other amount more n k t s apart e f a c (alone_room a c apart none')

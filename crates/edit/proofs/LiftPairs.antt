@@ -9,7 +9,6 @@ use Rattle.format.specs.Header.{size_of}
 use Rattle.format.specs.Popularimeter.{counter_of}
 use Rattle.format.specs.declared.Version.{Version}
 use Rattle.blocks.specs.Blocks.{joined, with_blocks}
-use Rattle.raise.specs.declared.Raised.{Raised}
 use Rattle.raise.specs.Raise.{is_mine, field_in, places_from, block_at, tag_version, tag_blocks}
 use Rattle.raise.proofs.Search.{found}
 use Rattle.raise.proofs.Stored.{one_user}
@@ -21,6 +20,7 @@ use Rattle.edit.proofs.LiftCame.{lift_accepted}
 use Rattle.edit.proofs.LiftAfter.{was_plain, lt, old_meter, new_meter, size_same, version_same, after_blocks, after_places}
 use Rattle.edit.proofs.OtherBlocks.{with_again}
 use Rattle.edit.proofs.LiftTwice.{lift_again}
+use Rattle.std.specs.Prelude.{Ok}
 
 -- ---- lifts of blocks
 
@@ -160,4 +160,4 @@ lifts_add tag user amount more n k t s e f =
     } in
     let sum_is : last ≡ k = sym sum' ∙ sym c_of.sum in
     let tag_is : tag_lifted tag i (amount + more) ≡ s = ap (λ (l : List (List ℕ)). with_blocks l tag) (sym blocks) ∙ sym (second_tag a c) ∙ sym c_of.tag_is in
-    lift_accept both ∙ (λ j. (Raised.Counts (sum_is j), tag_is j))
+    lift_accept both ∙ (λ j. (Ok (sum_is j), tag_is j))

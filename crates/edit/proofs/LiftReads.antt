@@ -8,7 +8,6 @@ use Rattle.format.specs.Popularimeter.{counter_of}
 use Rattle.promises.specs.Reading.{Reading, read_all}
 use Rattle.blocks.proofs.Bodies.{reads_length}
 use Rattle.blocks.proofs.Plain.{plain_reads}
-use Rattle.raise.specs.declared.Raised.{Raised}
 use Rattle.raise.specs.Raise.{field_in, block_at, tag_version, tag_blocks}
 use Rattle.raise.specs.Promises.{theirs_in}
 use Rattle.raise.proofs.Accepting.{sum_at}
@@ -19,6 +18,8 @@ use Rattle.edit.specs.LiftPromises.{Lifting, LiftReads, LiftRefusedSame, LiftOth
 use Rattle.edit.proofs.LiftAccepting.{lift_block, tag_lifted, Lifted}
 use Rattle.edit.proofs.LiftCame.{lift_accepted, lift_refused}
 use Rattle.edit.proofs.LiftAfter.{was_plain, lt, rating, records_before, record_was, after_plain, front_same, length_same, back_same, after_blocks, after_looks}
+use Rattle.std.specs.Prelude.{Result, Ok, Err}
+use Rattle.format.specs.declared.refusals.Refusal.{Refusal}
 
 module _ {tag user : List ℕ} {amount : ℕ} (a : Lifted tag user amount) where
   lifting : Lifting tag user amount (sum_at tag a.i amount) (tag_lifted tag a.i amount)
@@ -58,11 +59,11 @@ lift_refused_same tag user amount k tag' e = (lift_refused tag user amount e).0
 pub lift_others_read : LiftOthersRead
 lift_others_read tag user other amount work apart = by (lifted_of tag user amount).0 (lifted_of tag user amount).1 refl
   where
-    by : (r : Raised) (t : List ℕ) → lifted_of tag user amount ≡ (r, t) → theirs_in other (read_all t work).0 ≡ theirs_in other (read_all tag work).0
-    by (Raised.Counts n) t e =
+    by : (r : Result ℕ Refusal) (t : List ℕ) → lifted_of tag user amount ≡ (r, t) → theirs_in other (read_all t work).0 ≡ theirs_in other (read_all tag work).0
+    by (Ok n) t e =
         let g = lift_reads tag user amount n t e in
         let no = not_theirs user other apart in
         ap (λ (o : Reading). theirs_in other o.0) (g.after work)
         ∙ theirs_set other g.records g.i _ _ _ g.inside g.was no no
         ∙ sym (ap (λ (o : Reading). theirs_in other o.0) (g.before work))
-    by (Raised.Refused k) t e = ap (λ (s : List ℕ). theirs_in other (read_all s work).0) (lift_refused_same tag user amount k t e)
+    by (Err k) t e = ap (λ (s : List ℕ). theirs_in other (read_all s work).0) (lift_refused_same tag user amount k.number t e)

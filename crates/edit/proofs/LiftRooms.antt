@@ -19,7 +19,6 @@ use Rattle.blocks.specs.Blocks.{joined}
 use Rattle.blocks.proofs.Edits.{splice_one}
 use Rattle.blocks.proofs.Places.{joined_split}
 use Rattle.blocks.proofs.Plain.{plain_size}
-use Rattle.raise.specs.declared.Raised.{Raised}
 use Rattle.raise.specs.Raise.{body_in, field_in, block_at, Answer, tag_version, tag_blocks}
 use Rattle.raise.proofs.Plainness.{plain_at, tag_plain}
 use Rattle.raise.proofs.Search.{found}
@@ -32,6 +31,8 @@ use Rattle.edit.proofs.LiftAccepting.{place_lt, lift_out, put_is, lift_accept}
 use Rattle.edit.proofs.LiftCame.{replaced_blocks, replaced_lifted}
 use Rattle.edit.proofs.LiftGrows.{meter_long}
 use Rattle.edit.proofs.LiftAfter.{no_zero_in}
+use Rattle.std.specs.Prelude.{Ok, Err}
+use Rattle.format.specs.Refusals.{refusal}
 
 module _ {tag user : List ℕ} {amount : ℕ} (o : Outgrows tag user amount) where
   abbrev v : Version
@@ -116,30 +117,30 @@ module _ {tag user : List ℕ} {amount : ℕ} (o : Outgrows tag user amount) whe
       lift_out tag user amount o.i o.looks o.only o.small o.wide
       ∙ ap (counts_in value) (put_is tag user amount o.i o.looks o.only o.small)
 
-  add_refused : (k : ℕ) → adding_refusal tag o.i amount ≡ suc k → lifted_of tag user amount ≡ (Raised.Refused (suc k), tag)
+  add_refused : (k : ℕ) → adding_refusal tag o.i amount ≡ suc k → lifted_of tag user amount ≡ (Err (refusal (suc k)), tag)
   add_refused k e = out_is ∙ rw (e, eqb-suc-zero k)
 
   module _ (taken : adding_refusal tag o.i amount ≡ 0) where
-    room_none : size_of tag < frames → lifted_of tag user amount ≡ (Raised.Refused 20, tag)
+    room_none : size_of tag < frames → lifted_of tag user amount ≡ (Err (refusal 20), tag)
     unfolding fitted
     room_none h =
         let n = length (joined (replaced_blocks tag o.i amount)) in
         out_is ∙ rw (taken, lt-leb n (size_of tag) (omega (arith, frames_is)))
 
-    room_enough : frames ≤ size_of tag → (lifted_of tag user amount).0 ≡ Raised.Counts value
+    room_enough : frames ≤ size_of tag → (lifted_of tag user amount).0 ≡ Ok value
     unfolding replaced_lifted
     room_enough h = ap (λ (x : Answer). x.0) (lift_accept (replaced_lifted o taken (omega (arith, frames_is))))
 
     room_for : RoomFor tag user amount o
     room_for = record { none = room_none; only_then = only; enough = room_enough }
       where
-        by : (tag' : List ℕ) (t : Bool) → ltb (size_of tag) frames ≡ t → lifted_of tag user amount ≡ (Raised.Refused 20, tag') → size_of tag < frames
+        by : (tag' : List ℕ) (t : Bool) → ltb (size_of tag) frames ≡ t → lifted_of tag user amount ≡ (Err (refusal 20), tag') → size_of tag < frames
         by tag' true e f = ltb-true _ _ e
         by tag' false e f =
-            let r : Raised.Counts value ≡ Raised.Refused 20 = sym (room_enough (ltb-false _ _ e)) ∙ ap (λ (x : Answer). x.0) f in
+            let r : Ok value ≡ Err (refusal 20) = sym (room_enough (ltb-false _ _ e)) ∙ ap (λ (x : Answer). x.0) f in
             absurd (let z : ◌≡◌ {A = ℕ} 0 1 = cc in omega arith)
 
-        only : (tag' : List ℕ) → lifted_of tag user amount ≡ (Raised.Refused 20, tag') → size_of tag < frames
+        only : (tag' : List ℕ) → lifted_of tag user amount ≡ (Err (refusal 20), tag') → size_of tag < frames
         only tag' e = by tag' (ltb (size_of tag) frames) refl e
 
 pub lift_adds : LiftAdds

@@ -11,19 +11,16 @@ use Rattle.format.specs.Bytes.{pick, zero_at, zeros}
 use Rattle.format.specs.Header.{size_of, is_whole, cut_of, header_refusal, region_start}
 use Rattle.format.specs.Popularimeter.{rating_in, counter_of}
 use Rattle.format.specs.Record.{Rec}
-use Rattle.format.specs.Looks.{is_simple, tag_look}
+use Rattle.format.specs.Looks.{is_simple, tag_look, Look}
 use Rattle.format.specs.declared.Version.{Version}
-use Rattle.format.specs.declared.Look.{Look}
 use Rattle.format.proofs.Popularimeter.{taken_counted}
 use Rattle.writer.specs.declared.between.Gap.{Gap}
 use Rattle.writer.specs.Between.{placed_of}
 use Rattle.blocks.specs.Blocks.{joined, region_in}
 use Rattle.blocks.proofs.Edits.{joined_append}
 use Rattle.blocks.proofs.Places.{joined_split}
-use Rattle.raise.specs.declared.Raised.{Raised}
-use Rattle.raise.specs.declared.frames.Framed.{Framed}
 use Rattle.raise.specs.declared.seeking.Sought.{Sought}
-use Rattle.raise.specs.Frames.{framed_of, looked_as}
+use Rattle.raise.specs.Frames.{framed_of, looked_as, framed_with}
 use Rattle.raise.specs.Raise.{user_of, body_in, is_mine, field_in, field_at, places_from, block_at, place_of, counted_tag, Answer, on_tag, tag_version, tag_blocks}
 use Rattle.raise.specs.Promises.{counted}
 use Rattle.raise.specs.Seeks.{sought_by, sought_on, sought_of, raised_at}
@@ -36,6 +33,10 @@ use Rattle.edit.specs.Edit.{put_in}
 use Rattle.edit.specs.Lift.{meter_id, recounted, counts_in, lift_to, lift_places, lifted_of}
 use Rattle.edit.specs.Lifting.{byte_before, gap_of, outgrown_in, outgrown_at, or_else, lifted_at, lifted_by}
 use Rattle.edit.proofs.Places.{gap_at, placed_put}
+use Rattle.std.specs.Prelude.{Result, Ok, Err}
+use Rattle.format.specs.declared.refusals.Refusal.{Refusal}
+use Rattle.format.specs.Refusals.{refusal}
+use Rattle.raise.specs.declared.frames.Framed.{Framed}
 
 -- ---- a block of a plain tag
 
@@ -80,18 +81,18 @@ module _ {tag : List ℕ} (t : Plain tag) (i : ℕ) (lt : i < length (tag_blocks
       ∙ get_or-append b rest 0 k le
 
 -- the frames of a plain tag end with the bytes that its header counts
-framed_plain : {tag : List ℕ} → Plain tag → framed_of tag ≡ Framed.Frames (tag_version tag) (region_start tag) (10 + size_of tag) (not (is_simple tag))
+framed_plain : {tag : List ℕ} → Plain tag → framed_of tag ≡ Ok (framed_with (tag_version tag) (region_start tag) (10 + size_of tag) (not (is_simple tag)))
 unfolding framed_of
 framed_plain {tag} t =
     let ends : length (cut_of tag) ≡ 10 + size_of tag = length-take-le (10 + size_of tag) tag t.is.all_there in
-    let found : Framed = Framed.Frames (tag_version tag) (region_start tag) (length (cut_of tag)) (not (is_simple tag)) in
-    let known : pick (eqb (header_refusal tag) 0) (pick (is_whole tag) (Framed.Refused 40) found) (Framed.Refused (header_refusal tag)) ≡ found =
+    let found : Result Framed Refusal = Ok (framed_with (tag_version tag) (region_start tag) (length (cut_of tag)) (not (is_simple tag))) in
+    let known : pick (eqb (header_refusal tag) 0) (pick (is_whole tag) (Err (refusal 40)) found) (Err (refusal (header_refusal tag))) ≡ found =
     rw (t.is.taken, t.is.no_whole) in
-    known ∙ ap (λ (n : ℕ). Framed.Frames (tag_version tag) (region_start tag) n (not (is_simple tag))) ends
+    known ∙ ap (λ (n : ℕ). Ok (framed_with (tag_version tag) (region_start tag) n (not (is_simple tag)))) ends
 
 -- ---- the one popularimeter of a user
 
-module _ (tag user : List ℕ) (looks : tag_look tag ≡ Look.Plain) (i : ℕ) (is : places_from (tag_version tag) user 0 (tag_blocks tag) ≡ i ∷ []) where
+module _ (tag user : List ℕ) (looks : tag_look tag ≡ Ok true) (i : ℕ) (is : places_from (tag_version tag) user 0 (tag_blocks tag) ≡ i ∷ []) where
   abbrev t : Plain tag
   t = tag_plain tag looks
 
@@ -167,8 +168,8 @@ module _ (tag user : List ℕ) (looks : tag_look tag ≡ Look.Plain) (i : ℕ) (
       rw (n, there, outgrown_put value) (by (ltb value (2 ^ 64)) (ltb value (256 ^ (stop - start))) _ _ _)
     where
       by : (small fits : Bool) (n : ℕ) (s : List ℕ) (on : Answer)
-          → pick small (pick fits (Raised.Counts n, s) on) (Raised.Refused 43, tag)
-          ≡ or_else (pick small (pick fits (Raised.Counts n, s) (Raised.Refused 44, tag)) (Raised.Refused 43, tag)) on
+          → pick small (pick fits (Ok n, s) on) (Err (refusal 43), tag)
+          ≡ or_else (pick small (pick fits (Ok n, s) (Err (refusal 44), tag)) (Err (refusal 43), tag)) on
       by true true n s on = refl
       by true false n s on = refl
       by false fits n s on = refl
@@ -176,7 +177,7 @@ module _ (tag user : List ℕ) (looks : tag_look tag ≡ Look.Plain) (i : ℕ) (
 -- ---- the lift by what was sought
 
 module _ (tag user : List ℕ) (amount : ℕ) where
-  lifted_places : (l : List ℕ) → places_from (tag_version tag) user 0 (tag_blocks tag) ≡ l → tag_look tag ≡ Look.Plain
+  lifted_places : (l : List ℕ) → places_from (tag_version tag) user 0 (tag_blocks tag) ≡ l → tag_look tag ≡ Ok true
       → lift_places (tag_version tag) (tag_blocks tag) amount tag l
       ≡ lifted_by (sought_by (found_at (tag_version tag) 10 (tag_blocks tag) l) (10 + length (joined (tag_blocks tag)))) user amount tag
   lifted_places [] is looks = refl
@@ -185,13 +186,19 @@ module _ (tag user : List ℕ) (amount : ℕ) where
 
   lifted_look : (x : Look) → tag_look tag ≡ x
       → on_tag tag (lift_places (tag_version tag) (tag_blocks tag) amount tag (places_from (tag_version tag) user 0 (tag_blocks tag))) x
-      ≡ lifted_by (looked_as Sought.Refused x (sought_on (tag_version tag) user 10 (tag_blocks tag))) user amount tag
+      ≡ lifted_by (looked_as x (sought_on (tag_version tag) user 10 (tag_blocks tag))) user amount tag
   unfolding sought_on
-  lifted_look (Look.Stops k) e = refl
-  lifted_look Look.Odd e = refl
-  lifted_look Look.Plain e =
+  lifted_look (Err k) e = refl
+  lifted_look (Ok false) e = refl
+  lifted_look (Ok true) e =
       rw (found_places (tag_version tag) user 10 (tag_blocks tag)) (lifted_places (places_from (tag_version tag) user 0 (tag_blocks tag)) refl e)
 
-  pub lifted_sought : lifted_of tag user amount ≡ lifted_by (sought_of tag user) user amount tag
+  lifted_sought : lifted_of tag user amount ≡ lifted_by (sought_of tag user) user amount tag
   unfolding lifted_of sought_of
   lifted_sought = lifted_look (tag_look tag) refl
+
+  pub lift_unsought : {k : Refusal} → sought_of tag user ≡ Err k → ◌≡◌ {A = Answer} (Err k, tag) (lifted_of tag user amount)
+  lift_unsought e = ap (λ (o : Result Sought Refusal). lifted_by o user amount tag) (sym e) ∙ sym lifted_sought
+
+  pub lift_sought : {o : Sought} → sought_of tag user ≡ Ok o → lifted_at o.begin o.start o.stop o.counter o.last user amount tag ≡ lifted_of tag user amount
+  lift_sought e = ap (λ (o : Result Sought Refusal). lifted_by o user amount tag) (sym e) ∙ sym lifted_sought

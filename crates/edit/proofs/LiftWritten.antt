@@ -15,14 +15,12 @@ use Rattle.format.specs.Looks.{tag_look}
 use Rattle.format.specs.declared.Version.{Version}
 use Rattle.format.specs.declared.Mode.{Mode}
 use Rattle.format.specs.declared.Mode.TheVariants.{Off}
-use Rattle.format.specs.declared.Look.{Look}
 use Rattle.promises.specs.Reading.{Reading}
 use Rattle.promises.specs.Written.{Written}
 use Rattle.blocks.specs.Blocks.{PlainTag}
 use Rattle.blocks.proofs.Encoded.{encoded}
 use Rattle.blocks.proofs.Plain.{plain_reads}
 use Rattle.blocks.proofs.Writes.{written_plain}
-use Rattle.raise.specs.declared.Raised.{Raised}
 use Rattle.raise.specs.Raise.{body_in, field_in, places_from, block_at, Answer, tag_version, tag_blocks}
 use Rattle.raise.specs.Promises.{counted, records_from, PlainRuns}
 use Rattle.raise.proofs.Plainness.{plain_at, records_of, records_at, tag_plain}
@@ -36,6 +34,7 @@ use Rattle.edit.proofs.LiftMeters.{meter_of, found_meter, meter_reads, meter_aga
 use Rattle.edit.proofs.LiftAccepting.{fits_in, lift_in}
 use Rattle.edit.proofs.LiftGrows.{joined_set}
 use Rattle.edit.proofs.LiftRooms.{grown_meter, frames_is, lift_no_room}
+use Rattle.std.specs.Prelude.{Ok}
 
 -- the parts of a popularimeter's record
 same_parts : {id id' rating rating' counter counter' : ℕ} {user : List ℕ} → counted id user rating counter ≡ counted id' user rating' counter'
@@ -53,7 +52,7 @@ module _ {version padding : ℕ} {records : List Rec} {tag user : List ℕ} {i i
   f : Framed padding records tag
   f = (framed version padding records tag w).1
 
-  looks : tag_look tag ≡ Look.Plain
+  looks : tag_look tag ≡ Ok true
   looks = written_looks version padding records tag w runs
 
   written_place : places_from (tag_version tag) user 0 (tag_blocks tag) ≡ i ∷ []
@@ -95,7 +94,7 @@ module _ {version padding : ℕ} {records : List Rec} {tag user : List ℕ} {i i
     lower : sum_in tag i amount < 2 ^ 64
     lower = subst (λ (n : ℕ). n < 2 ^ 64) (sym sum_is) fits
 
-    wide_lifts : 256 ^ length (field_in u b) ≤ sum_in tag i amount → (lifted_of tag user amount).0 ≡ Raised.Counts (sum_in tag i amount)
+    wide_lifts : 256 ^ length (field_in u b) ≤ sum_in tag i amount → (lifted_of tag user amount).0 ≡ Ok (sum_in tag i amount)
     wide_lifts wide =
         let o : Outgrows tag user amount = record { looks = looks; i = i; only = written_place; small = lower; wide = wide } in
         let m = grown_meter o in
@@ -111,12 +110,12 @@ module _ {version padding : ℕ} {records : List Rec} {tag user : List ℕ} {i i
         let sum = joined_set (tag_blocks tag) i (encode u Off (lift_rec tag i amount)) lt in
         (lift_no_room tag user amount o fine).enough (omega (arith, frames_is o, f.size))
 
-    lifts_by : (t : Bool) → fits_in u b (sum_in tag i amount) ≡ t → (lifted_of tag user amount).0 ≡ Raised.Counts (sum_in tag i amount)
+    lifts_by : (t : Bool) → fits_in u b (sum_in tag i amount) ≡ t → (lifted_of tag user amount).0 ≡ Ok (sum_in tag i amount)
     lifts_by true e = ap (λ (x : Answer). x.0) (lift_in tag user amount i looks written_place lower (ltb-true _ _ e)).0
     lifts_by false e = wide_lifts (ltb-false _ _ e)
 
-    lifts : (lifted_of tag user amount).0 ≡ Raised.Counts (counter + amount)
-    lifts = lifts_by (fits_in u b (sum_in tag i amount)) refl ∙ ap Raised.Counts sum_is
+    lifts : (lifted_of tag user amount).0 ≡ Ok (counter + amount)
+    lifts = lifts_by (fits_in u b (sum_in tag i amount)) refl ∙ ap Ok sum_is
 
 pub written_lifts : WrittenLifts
 written_lifts version padding records tag user i id rating counter amount w runs only is fits room taken = lifts w runs only is amount fits room taken

@@ -11,13 +11,14 @@ use Rattle.format.specs.Header.{edition_of, version_of, is_whole, header_refusal
 use Rattle.format.specs.Frame.{frame_checks, is_end, head_of}
 use Rattle.format.specs.Record.{body_refusal, run_of}
 use Rattle.format.specs.Walk.{is_resynced, shown_kind}
-use Rattle.format.specs.Looks.{both, plain_if, unless, all_zero, frame_look, on_look, look_for, look_at, is_simple, tag_look}
+use Rattle.format.specs.Looks.{both, plain_if, unless, all_zero, frame_look, on_look, look_for, look_at, is_simple, tag_look, Look}
 use Rattle.format.specs.declared.Version.{Version}
 use Rattle.format.specs.declared.Kind.{Kind}
 use Rattle.format.specs.declared.Head.{Head}
-use Rattle.format.specs.declared.Look.{Look}
 use Rattle.format.proofs.Checks.{of_picked}
 use Rattle.format.proofs.CheckNumbers.{of_header, of_frame, of_body}
+use Rattle.std.specs.Prelude.{Result, Option, Ok, Err}
+use Rattle.format.specs.declared.refusals.Refusal.{Refusal}
 
 -- ---- the headers and the bodies
 
@@ -36,9 +37,9 @@ body_under kind b = of_body Under41 (omega arith) kind b
 -- ---- looks
 
 data Under : Look → Type 0 where
-  stops : {k : ℕ} → k < 41 → Under (Look.Stops k)
-  odd : Under Look.Odd
-  plain : Under Look.Plain
+  stops : {k : Refusal} → k.number < 41 → Under (Err k)
+  odd : Under (Ok false)
+  plain : Under (Ok true)
 
 under_both : {x y : Look} → Under x → Under y → Under (both x y)
 under_both (Under.stops h) b = Under.stops h
@@ -64,8 +65,8 @@ frame_under v go id c f short b h =
 head_under : (v : Version) (go : ℕ → List ℕ → Look) (depth : ℕ) (s : List ℕ) → ((d : ℕ) (t : List ℕ) → Under (go d t)) → Under (on_look v go depth s (head_of v depth s))
 unfolding on_look head_of
 head_under v go depth s h =
-    of_picked (λ (x : Head). Under (on_look v go depth s x)) (is_end v s) (λ e. under_if (ltb 1 depth || all_zero s))
-    (λ e. of_picked (λ (x : Head). Under (on_look v go depth s x)) (eqb (first (frame_checks v depth s)) 0)
+    of_picked (λ (x : Result (Option Head) Refusal). Under (on_look v go depth s x)) (is_end v s) (λ e. under_if (ltb 1 depth || all_zero s))
+    (λ e. of_picked (λ (x : Result (Option Head) Refusal). Under (on_look v go depth s x)) (eqb (first (frame_checks v depth s)) 0)
     (λ f. under_both (frame_under v (go (depth + 1)) _ _ _ _ _ (h (depth + 1))) (h depth _))
     (λ f. Under.stops (frame_checks_lem v depth s)))
 
@@ -82,8 +83,8 @@ tag_under tag =
     (of_picked Under (is_whole tag) (λ e. Under.stops (omega arith)) (λ e. under_both (look_under v (length (region_of tag)) 1 (region_of tag)) (under_if (is_simple tag))))
 
 -- A look stops with a number up to 40.
-pub look_most : (tag : List ℕ) (k : ℕ) → tag_look tag ≡ Look.Stops k → k < 41
-look_most tag k e = by (subst Under e (tag_under tag))
+pub look_most : (tag : List ℕ) {k : Refusal} → tag_look tag ≡ Err k → k.number < 41
+look_most tag {k} e = by (subst Under e (tag_under tag))
   where
-    by : Under (Look.Stops k) → k < 41
+    by : Under (Err k) → k.number < 41
     by (Under.stops h) = h

@@ -2,7 +2,7 @@
 use mathlib.Core.Path.{◌≡◌, refl, sym, ap, ◌∙◌}
 use Prim.Native.Nat.{ℕ, suc, ◌<◌}
 use native.Mathlib.Omega.{arith}
-use mathlib.Core.Bool.{false}
+use mathlib.Core.Bool.{false, true}
 use mathlib.Core.List.{List, [], ◌∷◌, ◌++◌, append-nil}
 use lib.ListN.{length, take, get_or, set, length-append, drop_of_length-le}
 use lib.Seq.{take_at, set_split, split_at, set_comm}
@@ -12,8 +12,6 @@ use Rattle.format.specs.Encode.{refusal_of, encode}
 use Rattle.format.specs.Looks.{tag_look}
 use Rattle.format.specs.declared.Version.{Version}
 use Rattle.format.specs.declared.Mode.{Mode}
-use Rattle.format.specs.declared.Look.{Look}
-use Rattle.writer.specs.declared.Edited.{Edited}
 use Rattle.promises.specs.Reading.{Reading, ended, read_all}
 use Rattle.blocks.specs.Blocks.{joined, splice, with_blocks}
 use Rattle.blocks.proofs.Edits.{splice_one}
@@ -26,6 +24,8 @@ use Rattle.edit.proofs.OtherBlocks.{with_again, with_same}
 use Rattle.edit.proofs.After.{padding_is, was, front_same, then_blocks, edit_reads, below, replace_reads, edited_last}
 use Rattle.edit.proofs.StaysPlain.{still_plain, remove_plain}
 use Rattle.edit.proofs.Rooms.{no_room, splice_long, one_long, removal_fits}
+use Rattle.std.specs.Prelude.{Ok}
+use Rattle.format.specs.Refusals.{refusal}
 
 -- ---- lists
 
@@ -42,11 +42,11 @@ set_same l i x lt e = set_split l i x lt ∙ sym (split_at l i x lt ∙ rw e)
 -- ---- removed
 
 -- what a removal gives
-removed_is : (tag : List ℕ) (i : ℕ) → tag_look tag ≡ Look.Plain → i < length (tag_blocks tag) → removed_of tag i ≡ (Edited.Done, tag_then tag (removing i))
+removed_is : (tag : List ℕ) (i : ℕ) → tag_look tag ≡ Ok true → i < length (tag_blocks tag) → removed_of tag i ≡ (Ok tt, tag_then tag (removing i))
 removed_is tag i looks lt =
-    let done : (removed_of tag i).0 ≡ Edited.Done = (no_room (removing i) tag looks (λ le. omega arith) refl).1.1 (removal_fits tag i looks) in
-    let e : removed_of tag i ≡ (Edited.Done, (removed_of tag i).1) = (λ j. (done j, (removed_of tag i).1)) in
-    e ∙ ap {B = Edit} (λ (t : List ℕ). (Edited.Done, t)) (accepted tag (removing i) e).1
+    let done : (removed_of tag i).0 ≡ (Ok tt) = (no_room (removing i) tag looks (λ le. omega arith) refl).1.1 (removal_fits tag i looks) in
+    let e : removed_of tag i ≡ (Ok tt, (removed_of tag i).1) = (λ j. (done j, (removed_of tag i).1)) in
+    e ∙ ap {B = Edit} (λ (t : List ℕ). (Ok tt, t)) (accepted tag (removing i) e).1
 
 pub remove_appended : RemoveAppended
 remove_appended tag t r f u e =
@@ -56,7 +56,7 @@ remove_appended tag t r f u e =
     let g = accepted tag c e in
     let a = g.0 in
     let blocks : tag_blocks t ≡ bs ++ (frame_for tag r ∷ []) = ap tag_blocks g.1 ∙ then_blocks a f ∙ edited_last (frame_for tag r) bs in
-    let looks : tag_look t ≡ Look.Plain = still_plain c tag t f u e in
+    let looks : tag_look t ≡ (Ok true) = still_plain c tag t f u e in
     let lt : n < length (tag_blocks t) = omega (arith, ap length blocks, length-append bs (frame_for tag r ∷ [])) in
     let back : splice n (suc n) [] (tag_blocks t) ≡ bs = ap (splice n (suc n) []) blocks ∙ last_removed (frame_for tag r) bs in
     let same : tag_then t (removing n) ≡ tag =
@@ -64,7 +64,7 @@ remove_appended tag t r f u e =
     ∙ ap (with_blocks bs) g.1
     ∙ with_again tag (was a).is.all_there (blocks_then tag c) a.fits bs
     ∙ with_same tag bs (padding_is (was a).is) in
-    removed_is t n looks lt ∙ ap {B = Edit} (λ (s : List ℕ). (Edited.Done, s)) same
+    removed_is t n looks lt ∙ ap {B = Edit} (λ (s : List ℕ). (Ok tt, s)) same
 
 -- ---- replaced by what was read
 
@@ -102,7 +102,7 @@ freed_serves tag t i r e refusal room =
 -- ---- two frames replaced
 
 -- what one replacement after another leaves
-twice : (tag t s : List ℕ) (i j : ℕ) (r q : Rec) → Fits r.content → replaced_of tag i r ≡ (Edited.Done, t) → replaced_of t j q ≡ (Edited.Done, s)
+twice : (tag t s : List ℕ) (i j : ℕ) (r q : Rec) → Fits r.content → replaced_of tag i r ≡ (Ok tt, t) → replaced_of t j q ≡ (Ok tt, s)
     → s ≡ with_blocks (set (set (tag_blocks tag) i (frame_for tag r)) j (frame_for tag q)) tag
 twice tag t s i j r q f e h =
     let bs = tag_blocks tag in

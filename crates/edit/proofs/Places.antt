@@ -16,7 +16,6 @@ use Rattle.format.specs.Record.{Rec}
 use Rattle.format.specs.Encode.{refusal_of, encode}
 use Rattle.format.specs.declared.Mode.{Mode}
 use Rattle.moves.specs.Moves.{shifted}
-use Rattle.writer.specs.declared.Edited.{Edited}
 use Rattle.writer.specs.declared.between.Gap.{Gap}
 use Rattle.writer.specs.Between.{is_ordered, has_room, refitted, refit_of, placed_of}
 use Rattle.blocks.specs.Blocks.{joined, splice, region_in, with_blocks}
@@ -26,6 +25,9 @@ use Rattle.raise.specs.Raise.{tag_version, tag_blocks}
 use Rattle.raise.proofs.Plainness.{Plain}
 use Rattle.edit.specs.Edit.{Edit, fitted, put_in}
 use Rattle.edit.proofs.OtherBlocks.{drop_zeros}
+use Rattle.std.specs.Prelude.{Ok, Err}
+use Rattle.format.specs.Refusals.{refusal}
+use Rattle.format.specs.Frame.{head}
 
 -- ---- bytes
 
@@ -223,8 +225,8 @@ module _ {tag : List ℕ} (t : Plain tag) (i j : ℕ) (le : i ≤ j) where
   refit_fitted new = rw (in_order, room_same new) (by (leb (length (joined (splice i j new bs))) (size_of tag)) refl)
     where
       by : (t : Bool) → leb (length (joined (splice i j new bs))) (size_of tag) ≡ t
-          → ◌≡◌ {A = Edit} (pick t (Edited.Done, refitted (gap_at i j tag) (joined new) tag) (Edited.Refused 20, tag))
-          (pick t (Edited.Done, with_blocks (splice i j new bs) tag) (Edited.Refused 20, tag))
+          → ◌≡◌ {A = Edit} (pick t (Ok tt, refitted (gap_at i j tag) (joined new) tag) (Err (refusal 20), tag))
+          (pick t (Ok tt, with_blocks (splice i j new bs) tag) (Err (refusal 20), tag))
       by true e = rw (refitted_blocks new (leb-true _ _ e))
       by false e = refl
 
@@ -242,7 +244,7 @@ module _ {tag : List ℕ} (t : Plain tag) (i j : ℕ) (le : i ≤ j) where
       by false x y = refl
 
   -- Those blocks away, and what follows them moved to their place.
-  pub shifted_away : ◌≡◌ {A = Edit} (Edited.Done, shifted (gap_at i j tag).to (gap_at i j tag).last (gap_at i j tag).from tag) (fitted (splice i j [] bs) tag)
+  pub shifted_away : ◌≡◌ {A = Edit} (Ok tt, shifted (gap_at i j tag).to (gap_at i j tag).last (gap_at i j tag).from tag) (fitted (splice i j [] bs) tag)
   unfolding shifted fitted refitted
   shifted_away =
       let fits : length (joined (splice i j [] bs)) ≤ size_of tag = omega (arith, new_long [], plain_size t.is, all_long) in

@@ -8,11 +8,10 @@ use mathlib.Core.List.{List}
 use lib.ListN.{length}
 use lib.Dec.{leb, eqb}
 use borrow.Author.Tests.{leb-false, eqb-true, eqb-false}
+use Rattle.laws.proofs.Results.{ok_same, ok_not_err, err_not_ok}
 use Rattle.format.specs.Bytes.{pick}
 use Rattle.format.specs.Header.{size_of}
-use Rattle.format.specs.Looks.{tag_look}
-use Rattle.format.specs.declared.Look.{Look}
-use Rattle.writer.specs.declared.Edited.{Edited}
+use Rattle.format.specs.Looks.{tag_look, Look}
 use Rattle.promises.specs.Reading.{refused, read_all}
 use Rattle.blocks.specs.Blocks.{joined}
 use Rattle.raise.specs.Raise.{tag_blocks}
@@ -22,14 +21,17 @@ use Rattle.edit.specs.Promises.{Change, edited_of, Missing, long_then, Why, Addi
 use Rattle.edit.proofs.Accepting.{check_of, blocks_then, answered, edited_is, check_missing, check_there}
 use Rattle.edit.proofs.Adding.{Adds, adding_numbers}
 use Rattle.edit.proofs.Rooms.{missing_or_there}
+use Rattle.std.specs.Prelude.{Ok, Err}
+use Rattle.format.specs.declared.refusals.Refusal.{Refusal}
+use Rattle.format.specs.Refusals.{refusal, number_in}
 
 -- ---- the answers that are refusals
 
 same_number : (j k : ℕ) (s t : List ℕ) → ◌≡◌ {A = Edit} (refuse j s) (refuse k t) → (j ≡ k) × (t ≡ s)
-same_number j k s t e = let r : Edited.Refused j ≡ Edited.Refused k = ap (λ (o : Edit). o.0) e in ((cc), sym (ap (λ (o : Edit). o.1) e))
+same_number j k s t e = (ap (λ (o : Edit). number_in o.0) e, sym (ap (λ (o : Edit). o.1) e))
 
-done_not : {A : Type 0} (k : ℕ) (s t : List ℕ) → ◌≡◌ {A = Edit} (Edited.Done, s) (refuse k t) → A
-done_not k s t e = absurd (let r : Edited.Done ≡ Edited.Refused k = ap (λ (o : Edit). o.0) e in let z : ◌≡◌ {A = ℕ} 0 1 = cc in omega arith)
+done_not : {A : Type 0} (k : ℕ) (s t : List ℕ) → ◌≡◌ {A = Edit} (Ok tt, s) (refuse k t) → A
+done_not k s t e = ok_not_err (ap (λ (o : Edit). o.0) e)
 
 -- the blocks do not fit
 fitted_refuses : (bs : List (List ℕ)) (tag t : List ℕ) (k : ℕ) → fitted bs tag ≡ refuse k t
@@ -37,7 +39,7 @@ fitted_refuses : (bs : List (List ℕ)) (tag t : List ℕ) (k : ℕ) → fitted 
 unfolding fitted
 fitted_refuses bs tag t k e = by (leb (length (joined bs)) (size_of tag)) refl _ e
   where
-    by : (p : Bool) → leb (length (joined bs)) (size_of tag) ≡ p → (s : List ℕ) → ◌≡◌ {A = Edit} (pick p (Edited.Done, s) (refuse 20 tag)) (refuse k t)
+    by : (p : Bool) → leb (length (joined bs)) (size_of tag) ≡ p → (s : List ℕ) → ◌≡◌ {A = Edit} (pick p (Ok tt, s) (refuse 20 tag)) (refuse k t)
         → (20 ≡ k) × (t ≡ tag) × (size_of tag < length (joined bs))
     by true h s e = done_not k s t e
     by false h s e = let q = same_number 20 k tag t e in (q.0, q.1, leb-false _ _ h)
@@ -55,9 +57,9 @@ answered_refuses tag t c k e = by (eqb (check_of tag c) 0) refl e
 -- ---- the tag as it was
 
 plain_same : (tag t : List ℕ) (k : ℕ) (on : Edit) (x : Look) → (on ≡ refuse k t → t ≡ tag) → on_plain tag on x ≡ refuse k t → t ≡ tag
-plain_same tag t k on (Look.Stops j) h e = (same_number j k tag t e).1
-plain_same tag t k on Look.Odd h e = (same_number 40 k tag t e).1
-plain_same tag t k on Look.Plain h e = h e
+plain_same tag t k on (Err j) h e = (same_number j.number k tag t e).1
+plain_same tag t k on (Ok false) h e = (same_number 40 k tag t e).1
+plain_same tag t k on (Ok true) h e = h e
 
 pub edit_refused_same : EditRefusedSame
 edit_refused_same c tag k tag' e =
@@ -65,26 +67,26 @@ edit_refused_same c tag k tag' e =
 
 -- ---- why
 
-stops_why : (c : Change) (tag : List ℕ) (k : ℕ) → tag_look tag ≡ Look.Stops k → Why c tag k
-stops_why c tag k e = by (eqb k 40) refl
+stops_why : (c : Change) (tag : List ℕ) {k : Refusal} → tag_look tag ≡ Err k → Why c tag k.number
+stops_why c tag {k} e = by (eqb k.number 40) refl
   where
-    not_plain : tag_look tag ≡ Look.Plain → ⊥
-    not_plain p = let z : Look.Stops k ≡ Look.Plain = sym e ∙ p in let y : ◌≡◌ {A = ℕ} 0 1 = cc in omega arith
+    not_plain : tag_look tag ≡ Ok true → ⊥
+    not_plain p = err_not_ok (sym e ∙ p)
 
-    by : (t : Bool) → eqb k 40 ≡ t → Why c tag k
-    by true h = subst (Why c tag) (sym (eqb-true k 40 h)) (Why.not_plain not_plain)
-    by false h = Why.as_reading (λ work. look_reads tag work k e (eqb-false k 40 h))
+    by : (t : Bool) → eqb k.number 40 ≡ t → Why c tag k.number
+    by true h = subst (Why c tag) (sym (eqb-true k.number 40 h)) (Why.not_plain not_plain)
+    by false h = Why.as_reading (λ work. look_reads tag work e (eqb-false k.number 40 h))
 
-check_why : (c : Change) (tag : List ℕ) (k : ℕ) → tag_look tag ≡ Look.Plain → check_of tag c ≡ k → (k ≡ 0 → ⊥) → Missing (length (tag_blocks tag)) c ⊎ (Missing (length (tag_blocks tag)) c → ⊥) → Why c tag k
+check_why : (c : Change) (tag : List ℕ) (k : ℕ) → tag_look tag ≡ Ok true → check_of tag c ≡ k → (k ≡ 0 → ⊥) → Missing (length (tag_blocks tag)) c ⊎ (Missing (length (tag_blocks tag)) c → ⊥) → Why c tag k
 check_why c tag k p e ne (inl m) = subst (Why c tag) (sym (check_missing tag c m) ∙ e) (Why.no_number p m)
 check_why c tag zero p e ne (inr there) = absurd (ne refl)
 check_why c tag (suc k) p e ne (inr there) = Why.as_adding p there (sym (check_there tag c there) ∙ e)
 
-room_why : (c : Change) (tag : List ℕ) → tag_look tag ≡ Look.Plain → check_of tag c ≡ 0 → size_of tag < long_then tag c → Missing (length (tag_blocks tag)) c ⊎ (Missing (length (tag_blocks tag)) c → ⊥) → Why c tag 20
+room_why : (c : Change) (tag : List ℕ) → tag_look tag ≡ Ok true → check_of tag c ≡ 0 → size_of tag < long_then tag c → Missing (length (tag_blocks tag)) c ⊎ (Missing (length (tag_blocks tag)) c → ⊥) → Why c tag 20
 room_why c tag p e lt (inl m) = absurd (let z : ◌≡◌ {A = ℕ} 46 0 = sym (check_missing tag c m) ∙ e in omega arith)
 room_why c tag p e lt (inr there) = Why.no_room p there (sym (check_there tag c there) ∙ e) lt
 
-plain_why : (c : Change) (tag t : List ℕ) (k : ℕ) → tag_look tag ≡ Look.Plain → answered tag c ≡ refuse k t → Why c tag k
+plain_why : (c : Change) (tag t : List ℕ) (k : ℕ) → tag_look tag ≡ Ok true → answered tag c ≡ refuse k t → Why c tag k
 plain_why c tag t k p e = by (answered_refuses tag t c k e).1
   where
     by : ((check_of tag c ≡ 0) × (20 ≡ k) × (size_of tag < long_then tag c)) ⊎ ((check_of tag c ≡ k) × (k ≡ 0 → ⊥)) → Why c tag k
@@ -95,11 +97,11 @@ pub edit_refused_why : EditRefusedWhy
 edit_refused_why c tag k tag' e = by (tag_look tag) refl (sym (edited_is tag c) ∙ e)
   where
     by : (x : Look) → tag_look tag ≡ x → on_plain tag (answered tag c) x ≡ refuse k tag' → Why c tag k
-    by (Look.Stops j) h e = subst (Why c tag) (same_number j k tag tag' e).0 (stops_why c tag j h)
-    by Look.Odd h e =
+    by (Err j) h e = subst (Why c tag) (same_number j.number k tag tag' e).0 (stops_why c tag h)
+    by (Ok false) h e =
         subst (Why c tag) (same_number 40 k tag tag' e).0
-        (Why.not_plain (λ p. let z : Look.Odd ≡ Look.Plain = sym h ∙ p in let y : ◌≡◌ {A = ℕ} 0 1 = cc in omega arith))
-    by Look.Plain h e = plain_why c tag tag' k h e
+        (Why.not_plain (λ p. let z : false ≡ true = ok_same (sym h ∙ p) in let y : ◌≡◌ {A = ℕ} 0 1 = cc in omega arith))
+    by (Ok true) h e = plain_why c tag tag' k h e
 
 -- ---- the numbers
 
@@ -111,9 +113,9 @@ edit_refused_number c tag k tag' e = by (tag_look tag) refl (sym (edited_is tag 
     on (inr q) = let ne : k ≡ 0 → ⊥ = q.1 in omega arith
 
     by : (x : Look) → tag_look tag ≡ x → on_plain tag (answered tag c) x ≡ refuse k tag' → 0 < k
-    by (Look.Stops j) h e = omega (arith, (same_number j k tag tag' e).0, look_some tag j h)
-    by Look.Odd h e = omega (arith, (same_number 40 k tag tag' e).0)
-    by Look.Plain h e = on (answered_refuses tag tag' c k e).1
+    by (Err j) h e = omega (arith, (same_number j.number k tag tag' e).0, look_some tag h)
+    by (Ok false) h e = omega (arith, (same_number 40 k tag tag' e).0)
+    by (Ok true) h e = on (answered_refuses tag tag' c k e).1
 
 adding_number : (k : ℕ) → Adds (suc k) → AddingNumbers (suc k)
 adding_number k (inl e) = absurd (omega arith)
@@ -132,12 +134,12 @@ edit_refused_as_reading c tag k tag' work e lt ne = why_reading c tag work k (ed
 
 -- ---- where reading is refused
 
-stopped : (c : Change) (tag : List ℕ) (k : ℕ) → tag_look tag ≡ Look.Stops k → edited_of tag c ≡ refuse k tag
-stopped c tag k e = edited_is tag c ∙ rw e
+stopped : (c : Change) (tag : List ℕ) {k : Refusal} → tag_look tag ≡ Err k → edited_of tag c ≡ (Err k, tag)
+stopped c tag e = edited_is tag c ∙ rw e
 
 pub edit_reading_refused : EditReadingRefused
 edit_reading_refused c tag k work e = by (reads_look tag work k e)
   where
-    by : (tag_look tag ≡ Look.Stops k) ⊎ (tag_look tag ≡ Look.Stops 40) → (edited_of tag c ≡ refuse k tag) ⊎ (edited_of tag c ≡ refuse 40 tag)
-    by (inl f) = inl (stopped c tag k f)
-    by (inr f) = inr (stopped c tag 40 f)
+    by : (tag_look tag ≡ Err (refusal k)) ⊎ (tag_look tag ≡ Err (refusal 40)) → (edited_of tag c ≡ refuse k tag) ⊎ (edited_of tag c ≡ refuse 40 tag)
+    by (inl f) = inl (stopped c tag f)
+    by (inr f) = inr (stopped c tag f)

@@ -9,11 +9,10 @@ use lib.ListN.{length, take, drop, get_or, length-append, take-append-drop}
 use lib.Seq.{drop-drop, drop-cons}
 use lib.Dec.{ltb, leb, eqb}
 use borrow.Author.Tests.{ltb-true, ltb-false, leb-true, leb-false}
+use Rattle.laws.proofs.Results.{ok_not_err, err_not_ok}
 use Rattle.format.specs.Bytes.{pick}
 use Rattle.format.specs.Header.{size_of}
 use Rattle.format.specs.Looks.{tag_look}
-use Rattle.format.specs.declared.Look.{Look}
-use Rattle.writer.specs.declared.Edited.{Edited}
 use Rattle.promises.specs.Reading.{Reading, read_all}
 use Rattle.blocks.specs.Blocks.{joined, splice}
 use Rattle.blocks.proofs.Edits.{joined_append}
@@ -25,36 +24,35 @@ use Rattle.edit.specs.Edit.{Edit, refuse, fitted}
 use Rattle.edit.specs.Promises.{Change, replacing, removing, appending, edited_of, frames_for, from_of, up_to, Missing, adding_of, long_then, NoNumber, NoRoom, LengthsThen, RemoveDone}
 use Rattle.edit.proofs.Accepting.{check_of, blocks_then, answered, edited_is, check_missing, check_there, put_plain}
 use Rattle.edit.proofs.Adding.{Adds, adding_numbers}
+use Rattle.std.specs.Prelude.{Ok, Err}
+use Rattle.format.specs.Refusals.{refusal, number_in}
 
 -- ---- the frames that are counted are the records that are read
 
-pub read_length : (tag work : List ℕ) → tag_look tag ≡ Look.Plain → length (tag_blocks tag) ≡ length (read_all tag work).0
+pub read_length : (tag work : List ℕ) → tag_look tag ≡ Ok true → length (tag_blocks tag) ≡ length (read_all tag work).0
 read_length tag work e =
     let p = tag_plain tag e in
     reads_length p.is.reads ∙ ap (λ (o : Reading). length o.0) (sym (plain_reads p.is work))
 
 -- ---- 20
 
-refused_not_done : (k : ℕ) → Edited.Refused k ≡ Edited.Done → ⊥
-refused_not_done k e = let z : ◌≡◌ {A = ℕ} 0 1 = cc in omega arith
-
-fits_or_not : (n m : ℕ) (s tag : List ℕ) → let o : Edit = pick (leb n m) (Edited.Done, s) (refuse 20 tag) in
-    ((o.0 ≡ Edited.Refused 20) ↔ (m < n)) × ((o.0 ≡ Edited.Done) ↔ (n ≤ m))
+fits_or_not : (n m : ℕ) (s tag : List ℕ) → let o : Edit = pick (leb n m) (Ok tt, s) (refuse 20 tag) in
+    ((o.0 ≡ Err (refusal 20)) ↔ (m < n)) × ((o.0 ≡ Ok tt) ↔ (n ≤ m))
 fits_or_not n m s tag = by (leb n m) refl
   where
-    by : (t : Bool) → leb n m ≡ t → let o : Edit = pick t (Edited.Done, s) (refuse 20 tag) in
-        ((o.0 ≡ Edited.Refused 20) ↔ (m < n)) × ((o.0 ≡ Edited.Done) ↔ (n ≤ m))
+    by : (t : Bool) → leb n m ≡ t → let o : Edit = pick t (Ok tt, s) (refuse 20 tag) in
+        ((o.0 ≡ Err (refusal 20)) ↔ (m < n)) × ((o.0 ≡ Ok tt) ↔ (n ≤ m))
     by true e =
         let le = leb-true n m e in
-        ((λ r. absurd (refused_not_done 20 (sym r)), λ lt. absurd (omega arith)), (λ r. le, λ h. refl))
+        ((λ r. ok_not_err r, λ lt. absurd (omega arith)), (λ r. le, λ h. refl))
     by false e =
         let lt = leb-false n m e in
-        ((λ r. lt, λ h. refl), (λ r. absurd (refused_not_done 20 r), λ h. absurd (omega arith)))
+        ((λ r. lt, λ h. refl), (λ r. err_not_ok r, λ h. absurd (omega arith)))
 
 pub no_room : NoRoom
 unfolding fitted
 no_room c tag looks there added =
-    subst (λ (o : Edit). ((o.0 ≡ Edited.Refused 20) ↔ (size_of tag < long_then tag c)) × ((o.0 ≡ Edited.Done) ↔ (long_then tag c ≤ size_of tag)))
+    subst (λ (o : Edit). ((o.0 ≡ Err (refusal 20)) ↔ (size_of tag < long_then tag c)) × ((o.0 ≡ Ok tt) ↔ (long_then tag c ≤ size_of tag)))
     (sym (put_plain tag c looks there added)) (fits_or_not (long_then tag c) (size_of tag) _ tag)
 
 -- ---- the lengths
@@ -127,39 +125,36 @@ module _ (tag : List ℕ) where
       at (inr le) = inl le
   missing_or_there (appending r) = inr (λ h. h)
 
-same_refused : (j k : ℕ) → Edited.Refused j ≡ Edited.Refused k → j ≡ k
-same_refused j k e = cc
-
-answered_46 : (k : ℕ) (done : Edit) (tag : List ℕ) → (done.0 ≡ Edited.Refused 46 → ⊥) → (pick (eqb k 0) done (refuse k tag)).0 ≡ Edited.Refused 46 → k ≡ 46
+answered_46 : (k : ℕ) (done : Edit) (tag : List ℕ) → (done.0 ≡ Err (refusal 46) → ⊥) → (pick (eqb k 0) done (refuse k tag)).0 ≡ Err (refusal 46) → k ≡ 46
 answered_46 k done tag h e = by (eqb k 0) e
   where
-    by : (t : Bool) → (pick t done (refuse k tag)).0 ≡ Edited.Refused 46 → k ≡ 46
+    by : (t : Bool) → (pick t done (refuse k tag)).0 ≡ Err (refusal 46) → k ≡ 46
     by true e = absurd (h e)
-    by false e = same_refused k 46 e
+    by false e = ap number_in e
 
-fitted_not_46 : (bs : List (List ℕ)) (tag : List ℕ) → (fitted bs tag).0 ≡ Edited.Refused 46 → ⊥
+fitted_not_46 : (bs : List (List ℕ)) (tag : List ℕ) → (fitted bs tag).0 ≡ Err (refusal 46) → ⊥
 unfolding fitted
 fitted_not_46 bs tag e = by (leb (length (joined bs)) (size_of tag)) _ e
   where
-    by : (t : Bool) (s : List ℕ) → (pick {A = Edit} t (Edited.Done, s) (refuse 20 tag)).0 ≡ Edited.Refused 46 → ⊥
-    by true s e = refused_not_done 46 (sym e)
-    by false s e = let z : ◌≡◌ {A = ℕ} 20 46 = same_refused 20 46 e in omega arith
+    by : (t : Bool) (s : List ℕ) → (pick {A = Edit} t (Ok tt, s) (refuse 20 tag)).0 ≡ Err (refusal 46) → ⊥
+    by true s e = ok_not_err e
+    by false s e = let z : ◌≡◌ {A = ℕ} 20 46 = ap number_in e in omega arith
 
 pub no_number : NoNumber
 no_number c tag work looks =
     let n = read_length tag work looks in
     let is : edited_of tag c ≡ answered tag c = edited_is tag c ∙ rw looks in
-    let refused : (edited_of tag c).0 ≡ Edited.Refused 46 → Missing (length (tag_blocks tag)) c =
+    let refused : (edited_of tag c).0 ≡ Err (refusal 46) → Missing (length (tag_blocks tag)) c =
     λ e. ⊎_elim (λ m. m) (λ there. absurd (by_adding (adding_of tag c) (adding_numbers tag c) (sym (check_there tag c there)
     ∙ answered_46 (check_of tag c) (fitted (blocks_then tag c) tag) tag (fitted_not_46 (blocks_then tag c) tag) (ap (λ (o : Edit). o.0) (sym is) ∙ e)))) (missing_or_there tag c) in
-    let missing : Missing (length (tag_blocks tag)) c → (edited_of tag c).0 ≡ Edited.Refused 46 = λ m. ap (λ (o : Edit). o.0) is ∙ rw (check_missing tag c m) in (
+    let missing : Missing (length (tag_blocks tag)) c → (edited_of tag c).0 ≡ Err (refusal 46) = λ m. ap (λ (o : Edit). o.0) is ∙ rw (check_missing tag c m) in (
       λ e. subst (λ (k : ℕ). Missing k c) n (refused e),
       λ m. missing (subst (λ (k : ℕ). Missing k c) (sym n) m),
     )
 
 -- ---- a removal has room
 
-pub removal_fits : (tag : List ℕ) (i : ℕ) → tag_look tag ≡ Look.Plain → long_then tag (removing i) ≤ size_of tag
+pub removal_fits : (tag : List ℕ) (i : ℕ) → tag_look tag ≡ Ok true → long_then tag (removing i) ≤ size_of tag
 removal_fits tag i looks =
     let p = tag_plain tag looks in
     let shorter = splice_long i (suc i) [] (tag_blocks tag) (omega arith) in

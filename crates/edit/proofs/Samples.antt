@@ -22,13 +22,13 @@ use Rattle.format.specs.declared.Mode.{Mode}
 use Rattle.writer.specs.Writer.{begin_of, add_of, finish_of}
 use Rattle.writer.specs.Answers.{begun_writer, added_number, added_writer, finished_number, finished_count}
 use Rattle.writer.specs.declared.Writer.{Writer}
-use Rattle.writer.specs.declared.Finished.{Finished}
-use Rattle.writer.specs.declared.Edited.{Edited}
 use Rattle.raise.specs.Promises.{PlainRuns}
 use Rattle.raise.proofs.Samples.{runs_22, runs_23, runs_24}
 use Rattle.edit.specs.Edit.{replaced_of, removed_of, appended_of}
 use Rattle.edit.specs.Promises.{replacing, removing, appending, HasRoom}
 use Rattle.edit.proofs.Written.{written_edits, written_freed}
+use Rattle.std.specs.Prelude.{Result, Ok}
+use Rattle.format.specs.declared.refusals.Refusal.{Refusal}
 
 -- the empty user's counter, of two bytes, becomes one of four, which no raise could write there
 abbrev larger : ℕ → Rec
@@ -46,43 +46,43 @@ room_24 : HasRoom (version_of 4) 3 (sample_of (version_of 4)) (replacing 7 (larg
 unfolding first zero_at digits onto unsync all_id_bytes kind_of stripped counter_bytes body_bytes encode refusal_of
 room_24 = (omega arith, refl, omega arith)
 
-pub replaced_22 : (replaced_of off_22.tag 5 (larger (named "POP"))).0 ≡ Edited.Done
+pub replaced_22 : (replaced_of off_22.tag 5 (larger (named "POP"))).0 ≡ Ok tt
 replaced_22 = written_edits 2 3 (sample_of (version_of 2)) off_22.tag (replacing 5 (larger (named "POP"))) off_22.is_written runs_22 room_22
 
-pub replaced_23 : (replaced_of off_23.tag 7 (larger (named "POPM"))).0 ≡ Edited.Done
+pub replaced_23 : (replaced_of off_23.tag 7 (larger (named "POPM"))).0 ≡ Ok tt
 replaced_23 = written_edits 3 3 (sample_of (version_of 3)) off_23.tag (replacing 7 (larger (named "POPM"))) off_23.is_written runs_23 room_23
 
-pub replaced_24 : (replaced_of off_24.tag 7 (larger (named "POPM"))).0 ≡ Edited.Done
+pub replaced_24 : (replaced_of off_24.tag 7 (larger (named "POPM"))).0 ≡ Ok tt
 replaced_24 = written_edits 4 3 (sample_of (version_of 4)) off_24.tag (replacing 7 (larger (named "POPM"))) off_24.is_written runs_24 room_24
 
 -- a chapter goes, or in 2.2 a table
-pub removed_22 : (removed_of off_22.tag 1).0 ≡ Edited.Done
+pub removed_22 : (removed_of off_22.tag 1).0 ≡ Ok tt
 removed_22 = written_edits 2 3 (sample_of (version_of 2)) off_22.tag (removing 1) off_22.is_written runs_22 (omega arith)
 
-pub removed_23 : (removed_of off_23.tag 3).0 ≡ Edited.Done
+pub removed_23 : (removed_of off_23.tag 3).0 ≡ Ok tt
 removed_23 = written_edits 3 3 (sample_of (version_of 3)) off_23.tag (removing 3) off_23.is_written runs_23 (omega arith)
 
-pub removed_24 : (removed_of off_24.tag 3).0 ≡ Edited.Done
+pub removed_24 : (removed_of off_24.tag 3).0 ≡ Ok tt
 removed_24 = written_edits 4 3 (sample_of (version_of 4)) off_24.tag (removing 3) off_24.is_written runs_24 (omega arith)
 
 -- ---- one more
 
 -- in the place that it left, and that the padding adds to, another stands, after the last
 freed : (version padding : ℕ) (records : List Rec) (tag : List ℕ) (i : ℕ) (r : Rec) → Written version 0 padding records tag → PlainRuns (version_of version) records
-    → (removed_of tag i).0 ≡ Edited.Done → HasRoom (version_of version) padding records (replacing i r) → (appended_of (removed_of tag i).1 r).0 ≡ Edited.Done
+    → (removed_of tag i).0 ≡ Ok tt → HasRoom (version_of version) padding records (replacing i r) → (appended_of (removed_of tag i).1 r).0 ≡ Ok tt
 freed version padding records tag i r w runs e h = written_freed version padding records tag (removed_of tag i).1 i r w runs (λ j. (e j, (removed_of tag i).1)) h
 
-pub freed_22 : (appended_of (removed_of off_22.tag 5).1 (larger (named "POP"))).0 ≡ Edited.Done
+pub freed_22 : (appended_of (removed_of off_22.tag 5).1 (larger (named "POP"))).0 ≡ Ok tt
 freed_22 =
     freed 2 3 (sample_of (version_of 2)) off_22.tag 5 (larger (named "POP")) off_22.is_written runs_22
     (written_edits 2 3 (sample_of (version_of 2)) off_22.tag (removing 5) off_22.is_written runs_22 (omega arith)) room_22
 
-pub freed_23 : (appended_of (removed_of off_23.tag 7).1 (larger (named "POPM"))).0 ≡ Edited.Done
+pub freed_23 : (appended_of (removed_of off_23.tag 7).1 (larger (named "POPM"))).0 ≡ Ok tt
 freed_23 =
     freed 3 3 (sample_of (version_of 3)) off_23.tag 7 (larger (named "POPM")) off_23.is_written runs_23
     (written_edits 3 3 (sample_of (version_of 3)) off_23.tag (removing 7) off_23.is_written runs_23 (omega arith)) room_23
 
-pub freed_24 : (appended_of (removed_of off_24.tag 7).1 (larger (named "POPM"))).0 ≡ Edited.Done
+pub freed_24 : (appended_of (removed_of off_24.tag 7).1 (larger (named "POPM"))).0 ≡ Ok tt
 freed_24 =
     freed 4 3 (sample_of (version_of 4)) off_24.tag 7 (larger (named "POPM")) off_24.is_written runs_24
     (written_edits 4 3 (sample_of (version_of 4)) off_24.tag (removing 7) off_24.is_written runs_24 (omega arith)) room_24
@@ -101,7 +101,7 @@ module _ (version : ℕ) (r : Rec) where
   abbrev last : Writer
   last = added_writer (add_of begun r sevens).0
 
-  abbrev finished : Finished × List ℕ
+  abbrev finished : Result ℕ Refusal × List ℕ
   finished = finish_of last 24 (add_of begun r sevens).1 sevens
 
   abbrev padded : List ℕ
@@ -125,21 +125,21 @@ module _ (version : ℕ) (r : Rec) where
 abbrev title : ℕ → Rec
 title id = plain id (text 0 (ascii "t"))
 
-pub appended_22 : (appended_of (padded 2 (larger (named "POP"))) (title (named "TT2"))).0 ≡ Edited.Done
+pub appended_22 : (appended_of (padded 2 (larger (named "POP"))) (title (named "TT2"))).0 ≡ Ok tt
 unfolding
     first zero_at digits onto unsync all_id_bytes kind_of trimmed closing zero_pair_at stripped counter_bytes body_bytes encode refusal_of tag_of begin_of add_of finish_of look_at look_for
 appended_22 =
     written_edits 2 24 (larger (named "POP") ∷ []) (padded 2 (larger (named "POP"))) (appending (title (named "TT2")))
     (padded_written 2 (larger (named "POP")) refl (omega arith) refl refl) (PlainRuns.also refl PlainRuns.none) (refl, omega arith)
 
-pub appended_23 : (appended_of (padded 3 (larger (named "POPM"))) (title (named "TIT2"))).0 ≡ Edited.Done
+pub appended_23 : (appended_of (padded 3 (larger (named "POPM"))) (title (named "TIT2"))).0 ≡ Ok tt
 unfolding
     first zero_at digits onto unsync all_id_bytes kind_of trimmed closing zero_pair_at stripped counter_bytes body_bytes encode refusal_of tag_of begin_of add_of finish_of look_at look_for
 appended_23 =
     written_edits 3 24 (larger (named "POPM") ∷ []) (padded 3 (larger (named "POPM"))) (appending (title (named "TIT2")))
     (padded_written 3 (larger (named "POPM")) refl (omega arith) refl refl) (PlainRuns.also refl PlainRuns.none) (refl, omega arith)
 
-pub appended_24 : (appended_of (padded 4 (larger (named "POPM"))) (title (named "TIT2"))).0 ≡ Edited.Done
+pub appended_24 : (appended_of (padded 4 (larger (named "POPM"))) (title (named "TIT2"))).0 ≡ Ok tt
 unfolding
     first zero_at digits onto unsync all_id_bytes kind_of trimmed closing zero_pair_at stripped counter_bytes body_bytes encode refusal_of tag_of begin_of add_of finish_of look_at look_for
 appended_24 =

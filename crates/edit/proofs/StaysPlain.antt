@@ -3,7 +3,7 @@ use mathlib.Core.Path.{◌≡◌, refl, sym, ap, ◌∙◌}
 use mathlib.Core.Logic.{◌⊎◌, inl, inr}
 use Prim.Native.Nat.{ℕ, zero, suc, ◌+◌, ◌-◌}
 use native.Mathlib.Omega.{arith}
-use mathlib.Core.Bool.{false}
+use mathlib.Core.Bool.{false, true}
 use mathlib.Core.List.{List, [], ◌∷◌, ◌++◌, append_assoc}
 use lib.ListN.{length, take, drop}
 use borrow.Author.Tests.{le-leb}
@@ -12,8 +12,6 @@ use Rattle.format.specs.Header.{edition_of, flags_of, size_of, version_of, regio
 use Rattle.format.specs.Record.{Rec}
 use Rattle.format.specs.Looks.{both, look_at, tag_look}
 use Rattle.format.specs.declared.Version.{Version}
-use Rattle.format.specs.declared.Look.{Look}
-use Rattle.writer.specs.declared.Edited.{Edited}
 use Rattle.walk.proofs.Looks.{both_end}
 use Rattle.blocks.specs.Blocks.{Block, joined, splice, PlainTag}
 use Rattle.blocks.proofs.Edits.{joined_append}
@@ -26,6 +24,7 @@ use Rattle.edit.specs.Promises.{Change, replacing, removing, appending, edited_o
 use Rattle.edit.proofs.Accepting.{blocks_then, tag_then, Accepted, accepted}
 use Rattle.edit.proofs.Runs.{PlainOrOdd, run_looks}
 use Rattle.edit.proofs.After.{sound, was, front_same, then_plain}
+use Rattle.std.specs.Prelude.{Ok}
 
 -- ---- parts of plain blocks
 
@@ -52,7 +51,7 @@ look_front {v} t (AllPlain.also {b} {bs} q ps) =
     ap (look_at v 1) (append_assoc b (joined bs) t) ∙ look_block q.block (joined bs ++ t) ∙ rw q.looks (look_front t ps)
 
 module _ {v : Version} {bs : List (List ℕ)} (i j p : ℕ) (ps : AllPlain v bs) where
-  look_without : look_at v 1 (joined (splice i j [] bs) ++ zeros p) ≡ Look.Plain
+  look_without : look_at v 1 (joined (splice i j [] bs) ++ zeros p) ≡ Ok true
   look_without = joined_plain p (plain_append (plain_take i ps) (plain_drop j ps))
 
   -- one block among plain ones
@@ -91,13 +90,13 @@ module _ {tag : List ℕ} {c : Change} (a : Accepted tag c) (f : AllFit c) where
       tag_looks (then_plain a f) (ap (has 0x80) flags ∙ (was a).unflagged)
 
 as_run : (v : Version) (run tag : List ℕ) → tag_look tag ≡ look_at v 2 run → PlainOrOdd v 2 run
-    → ((tag_look tag ≡ Look.Plain) × Uncompressed v 2 run) ⊎ ((tag_look tag ≡ Look.Odd) × (Uncompressed v 2 run → ⊥))
+    → ((tag_look tag ≡ Ok true) × Uncompressed v 2 run) ⊎ ((tag_look tag ≡ Ok false) × (Uncompressed v 2 run → ⊥))
 as_run v run tag e (inl p) = inl (e ∙ p.0, p.1)
 as_run v run tag e (inr p) = inr (e ∙ p.0, p.1)
 
 abbrev Looking : List ℕ → Change → Type 0
 Looking tag c =
-    ((tag_look (tag_then tag c) ≡ Look.Plain) × GivenUncompressed (tag_version tag) c) ⊎ ((tag_look (tag_then tag c) ≡ Look.Odd) × (GivenUncompressed (tag_version tag) c → ⊥))
+    ((tag_look (tag_then tag c) ≡ Ok true) × GivenUncompressed (tag_version tag) c) ⊎ ((tag_look (tag_then tag c) ≡ Ok false) × (GivenUncompressed (tag_version tag) c → ⊥))
 
 then_again : (tag : List ℕ) (c : Change) (a : Accepted tag c) → AllFit c → Looking tag c
 then_again tag (replacing i r) a f =
@@ -121,10 +120,10 @@ plain_again c tag tag' f e =
     rw g.1 (then_again tag c g.0 f)
 
 -- where no compressed subframe is given
-pub still_plain : (c : Change) (tag tag' : List ℕ) → AllFit c → GivenUncompressed (tag_version tag) c → edited_of tag c ≡ (Edited.Done, tag') → tag_look tag' ≡ Look.Plain
+pub still_plain : (c : Change) (tag tag' : List ℕ) → AllFit c → GivenUncompressed (tag_version tag) c → edited_of tag c ≡ (Ok tt, tag') → tag_look tag' ≡ Ok true
 still_plain c tag tag' f u e = by (plain_again c tag tag' f e)
   where
-    by : ((tag_look tag' ≡ Look.Plain) × GivenUncompressed (tag_version tag) c) ⊎ ((tag_look tag' ≡ Look.Odd) × (GivenUncompressed (tag_version tag) c → ⊥)) → tag_look tag' ≡ Look.Plain
+    by : ((tag_look tag' ≡ Ok true) × GivenUncompressed (tag_version tag) c) ⊎ ((tag_look tag' ≡ Ok false) × (GivenUncompressed (tag_version tag) c → ⊥)) → tag_look tag' ≡ Ok true
     by (inl p) = p.0
     by (inr p) = absurd (p.1 u)
 

@@ -10,7 +10,6 @@ use Rattle.format.specs.Encode.{encode}
 use Rattle.format.specs.Looks.{tag_look}
 use Rattle.format.specs.declared.Version.{Version}
 use Rattle.format.specs.declared.Mode.TheVariants.{Off}
-use Rattle.format.specs.declared.Look.{Look}
 use Rattle.promises.specs.Written.{Written}
 use Rattle.blocks.specs.Blocks.{joined, blocks_in, region_in}
 use Rattle.blocks.proofs.Encoded.{encoded}
@@ -20,9 +19,10 @@ use Rattle.blocks.proofs.Writes.{written_plain}
 use Rattle.raise.specs.Raise.{tag_version, tag_blocks}
 use Rattle.raise.proofs.Written.{encoded_at, written_looks}
 use Rattle.edit.specs.Promises.{Change, replacing, removing, appending, edited_of, HasRoom, WrittenEdits, WrittenFreed}
-use Rattle.writer.specs.declared.Edited.{Edited}
 use Rattle.edit.proofs.Rooms.{no_room, splice_long, one_long, removal_fits}
 use Rattle.edit.proofs.Pairs.{freed_serves}
+use Rattle.std.specs.Prelude.{Ok}
+use mathlib.Core.Bool.{true}
 
 -- ---- its frames
 
@@ -51,7 +51,7 @@ module _ (padding : ℕ) (records : List Rec) (tag : List ℕ) (f : Framed paddi
   old_long : (i : ℕ) (r : Rec) → i < length records → length (get_or (tag_blocks tag) i []) ≡ length (encode (tag_version tag) Off (get_or records i r))
   old_long i r lt = ap (λ (l : List (List ℕ)). length (get_or l i [])) f.blocks ∙ ap length (encoded_at (tag_version tag) records i r lt)
 
-  has_room_lem : tag_look tag ≡ Look.Plain → (c : Change) → HasRoom (tag_version tag) padding records c → (edited_of tag c).0 ≡ Edited.Done
+  has_room_lem : tag_look tag ≡ Ok true → (c : Change) → HasRoom (tag_version tag) padding records c → (edited_of tag c).0 ≡ Ok tt
   has_room_lem looks (replacing i r) h =
       let bs = tag_blocks tag in
       let v = tag_version tag in

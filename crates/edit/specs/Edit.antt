@@ -1,26 +1,26 @@
 -- One frame of the top level of a plain tag replaced, removed, or added after the last, the header as it was (document 01, "Room inside the tag"; request j). Assumes nothing.
-use Rattle.std.specs.Prelude.{ℕ, suc, false, List, [], ◌∷◌, length, ltb, leb, eqb}
+use Rattle.std.specs.Prelude.{ℕ, suc, false, List, [], ◌∷◌, length, ltb, leb, eqb, Result, Ok, Err, true}
 use Rattle.format.specs.Bytes.{pick}
 use Rattle.format.specs.Header.{size_of}
 use Rattle.format.specs.Record.{Rec}
 use Rattle.format.specs.Encode.{refusal_of, encode}
-use Rattle.format.specs.Looks.{tag_look}
-use Rattle.format.specs.declared.Look.{Look}
+use Rattle.format.specs.Looks.{tag_look, Look}
 use Rattle.format.specs.declared.Mode.{Mode}
-use Rattle.writer.specs.declared.Edited.{Edited}
 use Rattle.blocks.specs.Blocks.{joined, splice, with_blocks}
 use Rattle.raise.specs.Raise.{tag_version, tag_blocks}
+use Rattle.format.specs.declared.refusals.Refusal.{Refusal}
+use Rattle.format.specs.Refusals.{refusal}
 
 -- the answer, and the tag then
 abbrev pub Edit : Type 0
-Edit = Edited × List ℕ
+Edit = Result Unit Refusal × List ℕ
 
 abbrev pub refuse : ℕ → List ℕ → Edit
-refuse k tag = (Edited.Refused k, tag)
+refuse k tag = (Err (refusal k), tag)
 
 -- 20: the frames together are longer than the bytes that the header's size gives them; else they stand there, and zeros after them
 unfoldable pub fitted : List (List ℕ) → List ℕ → Edit
-fitted bs tag = pick (leb (length (joined bs)) (size_of tag)) (Edited.Done, with_blocks bs tag) (refuse 20 tag)
+fitted bs tag = pick (leb (length (joined bs)) (size_of tag)) (Ok tt, with_blocks bs tag) (refuse 20 tag)
 
 -- the frame of a record, as adding writes it with mode off
 abbrev pub frame_for : List ℕ → Rec → List ℕ
@@ -38,9 +38,9 @@ numbered i tag on = pick (ltb i (length (tag_blocks tag))) on (refuse 46 tag)
 
 -- those of reading, and 40
 abbrev pub on_plain : List ℕ → Edit → Look → Edit
-on_plain tag on (Look.Stops k) = refuse k tag
-on_plain tag on Look.Odd = refuse 40 tag
-on_plain tag on Look.Plain = on
+on_plain tag on (Err k) = refuse k.number tag
+on_plain tag on (Ok false) = refuse 40 tag
+on_plain tag on (Ok true) = on
 
 -- ---- the three edits
 

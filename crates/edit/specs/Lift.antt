@@ -1,15 +1,14 @@
 -- A counter raised in its bytes, or where these are too few in a frame that takes more room (document 01, "Room inside the tag"; request j). Assumes nothing.
-use Rattle.std.specs.Prelude.{ℕ, suc, ◌+◌, ◌^◌, false, List, [], ◌∷◌, length, ltb}
+use Rattle.std.specs.Prelude.{ℕ, suc, ◌+◌, ◌^◌, false, List, [], ◌∷◌, length, ltb, Ok, Err}
 use Rattle.format.specs.Bytes.{pick, named}
 use Rattle.format.specs.Popularimeter.{rating_in, counter_of}
 use Rattle.format.specs.Record.{Rec, popularimeter}
 use Rattle.format.specs.Looks.{tag_look}
 use Rattle.format.specs.declared.Version.{Version}
 use Rattle.format.specs.declared.Version.TheVariants.{Id3v22, Id3v23, Id3v24}
-use Rattle.writer.specs.declared.Edited.{Edited}
-use Rattle.raise.specs.declared.Raised.{Raised}
 use Rattle.raise.specs.Raise.{user_of, body_in, field_in, places_from, block_at, counted_tag, Answer, on_tag, tag_version, tag_blocks}
 use Rattle.edit.specs.Edit.{Edit, put_in}
+use Rattle.format.specs.Refusals.{refusal}
 
 abbrev pub meter_id : Version → ℕ
 meter_id Id3v22 = named "POP"
@@ -27,22 +26,22 @@ recounted v block value = record {
 
 -- the counter then, where the edit was accepted
 abbrev pub counts_in : ℕ → Edit → Answer
-counts_in value (Edited.Done, tag) = (Raised.Counts value, tag)
-counts_in value (Edited.Refused k, tag) = (Raised.Refused k, tag)
+counts_in value (Ok tt, tag) = (Ok value, tag)
+counts_in value (Err k, tag) = (Err k, tag)
 
 -- 43; then in the counter's bytes, or where a raise answers 44 the frame is replaced
 unfoldable pub lift_to : Version → List (List ℕ) → ℕ → ℕ → List ℕ → Answer
 lift_to v bs i value tag =
     pick (ltb value (2 ^ 64))
-    (pick (ltb value (256 ^ length (field_in v (block_at bs i)))) (Raised.Counts value, counted_tag v bs i value tag)
+    (pick (ltb value (256 ^ length (field_in v (block_at bs i)))) (Ok value, counted_tag v bs i value tag)
     (counts_in value (put_in i (suc i) (recounted v (block_at bs i) value) tag)))
-    (Raised.Refused 43, tag)
+    (Err (refusal 43), tag)
 
 -- 41, none; 42, two or more
 abbrev pub lift_places : Version → List (List ℕ) → ℕ → List ℕ → List ℕ → Answer
-lift_places v bs amount tag [] = (Raised.Refused 41, tag)
+lift_places v bs amount tag [] = (Err (refusal 41), tag)
 lift_places v bs amount tag (i ∷ []) = lift_to v bs i (counter_of (field_in v (block_at bs i)) + amount) tag
-lift_places v bs amount tag (i ∷ j ∷ l) = (Raised.Refused 42, tag)
+lift_places v bs amount tag (i ∷ j ∷ l) = (Err (refusal 42), tag)
 
 unfoldable pub lifted_of : List ℕ → List ℕ → ℕ → Answer
 lifted_of tag user amount =

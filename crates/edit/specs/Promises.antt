@@ -1,17 +1,14 @@
 -- What is promised of the edits of a plain tag, on the definitions alone (document 01, "Room inside the tag"; request j). Assumes nothing.
-use Rattle.std.specs.Prelude.{◌≡◌, ◌↔◌, ◌⊎◌, ℕ, suc, ◌+◌, ◌-◌, ◌≤◌, ◌<◌, Bool, false, List, [], ◌∷◌, ◌++◌, length, take, drop, get_or, set}
+use Rattle.std.specs.Prelude.{◌≡◌, ◌↔◌, ◌⊎◌, ℕ, suc, ◌+◌, ◌-◌, ◌≤◌, ◌<◌, Bool, false, List, [], ◌∷◌, ◌++◌, length, take, drop, get_or, set, Ok, Err, Some, None, true}
 use Rattle.format.specs.Bytes.{zeros}
 use Rattle.format.specs.Header.{size_of, version_of}
-use Rattle.format.specs.Frame.{head_of}
+use Rattle.format.specs.Frame.{head_of, head}
 use Rattle.format.specs.Record.{Rec, Fits, run_of}
 use Rattle.format.specs.Walk.{shown_kind}
 use Rattle.format.specs.Encode.{refusal_of, encode}
 use Rattle.format.specs.Looks.{tag_look}
 use Rattle.format.specs.declared.Version.{Version}
 use Rattle.format.specs.declared.Mode.{Mode}
-use Rattle.format.specs.declared.Head.{Head}
-use Rattle.format.specs.declared.Look.{Look}
-use Rattle.writer.specs.declared.Edited.{Edited}
 use Rattle.promises.specs.Reading.{ended, refused, read_all}
 use Rattle.promises.specs.Promises.{NoneShort}
 use Rattle.promises.specs.Written.{Written}
@@ -19,6 +16,7 @@ use Rattle.blocks.specs.Blocks.{joined, Reads, splice, region_in}
 use Rattle.raise.specs.Raise.{tag_version, tag_blocks}
 use Rattle.raise.specs.Promises.{run_within, PlainRuns}
 use Rattle.edit.specs.Edit.{Edit, frame_for, replaced_of, removed_of, appended_of}
+use Rattle.format.specs.Refusals.{refusal}
 
 -- ---- the three edits as one
 
@@ -105,28 +103,28 @@ pub record Editing (c : Change) (tag tag' : List ℕ) : Type 0 where
   pub padding_after : region_in tag' ≡ joined (tag_blocks tag') ++ zeros (size_of tag - length (joined (tag_blocks tag')))
 
 abbrev pub EditReads : Type 0
-EditReads = (c : Change) (tag tag' : List ℕ) → AllFit c → edited_of tag c ≡ (Edited.Done, tag') → Editing c tag tag'
+EditReads = (c : Change) (tag tag' : List ℕ) → AllFit c → edited_of tag c ≡ (Ok tt, tag') → Editing c tag tag'
 
 -- The same of each edit by itself: the given record in the place of the i-th; the list without the i-th; the given record after the last.
 abbrev pub ReplaceReads : Type 0
-ReplaceReads = (tag tag' : List ℕ) (i : ℕ) (r : Rec) (work : List ℕ) → Fits r.content → replaced_of tag i r ≡ (Edited.Done, tag')
+ReplaceReads = (tag tag' : List ℕ) (i : ℕ) (r : Rec) (work : List ℕ) → Fits r.content → replaced_of tag i r ≡ (Ok tt, tag')
     → (i < length (read_all tag work).0) × (read_all tag' work ≡ (set (read_all tag work).0 i r, ended))
 
 abbrev pub RemoveReads : Type 0
-RemoveReads = (tag tag' : List ℕ) (i : ℕ) (work : List ℕ) → removed_of tag i ≡ (Edited.Done, tag') → let records = (read_all tag work).0 in
+RemoveReads = (tag tag' : List ℕ) (i : ℕ) (work : List ℕ) → removed_of tag i ≡ (Ok tt, tag') → let records = (read_all tag work).0 in
     (i < length records) × (read_all tag' work ≡ (take i records ++ drop (suc i) records, ended))
 
 abbrev pub AppendReads : Type 0
-AppendReads = (tag tag' : List ℕ) (r : Rec) (work : List ℕ) → Fits r.content → appended_of tag r ≡ (Edited.Done, tag')
+AppendReads = (tag tag' : List ℕ) (r : Rec) (work : List ℕ) → Fits r.content → appended_of tag r ≡ (Ok tt, tag')
     → read_all tag' work ≡ ((read_all tag work).0 ++ (r ∷ []), ended)
 
 -- ---- the tag is plain again
 
 -- No frame of these bytes, and none in the runs inside them, is compressed.
 pub data Uncompressed (v : Version) : ℕ → List ℕ → Type 0 where
-  ends : {depth : ℕ} {s : List ℕ} → head_of v depth s ≡ Head.Nothing → Uncompressed v depth s
-  stops : {depth k : ℕ} {s : List ℕ} → head_of v depth s ≡ Head.Refused k → Uncompressed v depth s
-  frame : {depth id start len : ℕ} {flagged short : Bool} {s : List ℕ} → head_of v depth s ≡ Head.Found id false flagged short start len
+  ends : {depth : ℕ} {s : List ℕ} → head_of v depth s ≡ Ok None → Uncompressed v depth s
+  stops : {depth k : ℕ} {s : List ℕ} → head_of v depth s ≡ Err (refusal k) → Uncompressed v depth s
+  frame : {depth id start len : ℕ} {flagged short : Bool} {s : List ℕ} → head_of v depth s ≡ Ok (Some (head id false flagged short start len))
       → Uncompressed v (depth + 1) (run_of (shown_kind v id false) (take len (drop start s)))
       → Uncompressed v depth (drop (start + len) s) → Uncompressed v depth s
 
@@ -139,56 +137,56 @@ GivenUncompressed v (appending r) = Uncompressed v 2 (run_within r.content)
 -- After an accepted edit the tag is plain, so that edits go on, with one exception: a run that is given may have a compressed subframe,
 -- which 29 lets pass, and then the tag is odd. So a removal always leaves a plain tag.
 abbrev pub PlainAgain : Type 0
-PlainAgain = (c : Change) (tag tag' : List ℕ) → AllFit c → edited_of tag c ≡ (Edited.Done, tag')
-    → ((tag_look tag' ≡ Look.Plain) × GivenUncompressed (tag_version tag) c) ⊎ ((tag_look tag' ≡ Look.Odd) × (GivenUncompressed (tag_version tag) c → ⊥))
+PlainAgain = (c : Change) (tag tag' : List ℕ) → AllFit c → edited_of tag c ≡ (Ok tt, tag')
+    → ((tag_look tag' ≡ Ok true) × GivenUncompressed (tag_version tag) c) ⊎ ((tag_look tag' ≡ Ok false) × (GivenUncompressed (tag_version tag) c → ⊥))
 
 abbrev pub RemovePlain : Type 0
-RemovePlain = (tag tag' : List ℕ) (i : ℕ) → removed_of tag i ≡ (Edited.Done, tag') → tag_look tag' ≡ Look.Plain
+RemovePlain = (tag tag' : List ℕ) (i : ℕ) → removed_of tag i ≡ (Ok tt, tag') → tag_look tag' ≡ Ok true
 
 -- ---- refusals
 
 -- A refused edit leaves the tag as it was.
 abbrev pub EditRefusedSame : Type 0
-EditRefusedSame = (c : Change) (tag : List ℕ) (k : ℕ) (tag' : List ℕ) → edited_of tag c ≡ (Edited.Refused k, tag') → tag' ≡ tag
+EditRefusedSame = (c : Change) (tag : List ℕ) (k : ℕ) (tag' : List ℕ) → edited_of tag c ≡ (Err (refusal k), tag') → tag' ≡ tag
 
 -- A refusal has a number: none is 0.
 abbrev pub EditRefusedNumber : Type 0
-EditRefusedNumber = (c : Change) (tag : List ℕ) (k : ℕ) (tag' : List ℕ) → edited_of tag c ≡ (Edited.Refused k, tag') → 0 < k
+EditRefusedNumber = (c : Change) (tag : List ℕ) (k : ℕ) (tag' : List ℕ) → edited_of tag c ≡ (Err (refusal k), tag') → 0 < k
 
 -- Why an edit is refused, in this order: as reading is, whatever the work buffer; 40; and in a plain tag 46, what adding refuses, or 20.
 pub data Why (c : Change) (tag : List ℕ) : ℕ → Type 0 where
   as_reading : {k : ℕ} → ((work : List ℕ) → (read_all tag work).1 ≡ refused k) → Why c tag k
-  not_plain : (tag_look tag ≡ Look.Plain → ⊥) → Why c tag 40
-  no_number : tag_look tag ≡ Look.Plain → Missing (length (tag_blocks tag)) c → Why c tag 46
-  as_adding : {k : ℕ} → tag_look tag ≡ Look.Plain → (Missing (length (tag_blocks tag)) c → ⊥) → adding_of tag c ≡ suc k → Why c tag (suc k)
-  no_room : tag_look tag ≡ Look.Plain → (Missing (length (tag_blocks tag)) c → ⊥) → adding_of tag c ≡ 0 → size_of tag < long_then tag c → Why c tag 20
+  not_plain : (tag_look tag ≡ Ok true → ⊥) → Why c tag 40
+  no_number : tag_look tag ≡ Ok true → Missing (length (tag_blocks tag)) c → Why c tag 46
+  as_adding : {k : ℕ} → tag_look tag ≡ Ok true → (Missing (length (tag_blocks tag)) c → ⊥) → adding_of tag c ≡ suc k → Why c tag (suc k)
+  no_room : tag_look tag ≡ Ok true → (Missing (length (tag_blocks tag)) c → ⊥) → adding_of tag c ≡ 0 → size_of tag < long_then tag c → Why c tag 20
 
 abbrev pub EditRefusedWhy : Type 0
-EditRefusedWhy = (c : Change) (tag : List ℕ) (k : ℕ) (tag' : List ℕ) → edited_of tag c ≡ (Edited.Refused k, tag') → Why c tag k
+EditRefusedWhy = (c : Change) (tag : List ℕ) (k : ℕ) (tag' : List ℕ) → edited_of tag c ≡ (Err (refusal k), tag') → Why c tag k
 
 -- Adding's numbers are 12 and those from 21 to 34; so any other below 20, and those from 35 to 39, are the ones that reading the tag is refused with, whatever the work buffer.
 abbrev pub AddingNumbers : ℕ → Type 0
 AddingNumbers k = (k ≡ 12) ⊎ ((20 ≤ k) × (k < 35))
 
 abbrev pub EditRefusedAsReading : Type 0
-EditRefusedAsReading = (c : Change) (tag : List ℕ) (k : ℕ) (tag' work : List ℕ) → edited_of tag c ≡ (Edited.Refused k, tag') → k < 40 → (AddingNumbers k → ⊥)
+EditRefusedAsReading = (c : Change) (tag : List ℕ) (k : ℕ) (tag' work : List ℕ) → edited_of tag c ≡ (Err (refusal k), tag') → k < 40 → (AddingNumbers k → ⊥)
     → (read_all tag work).1 ≡ refused k
 
 -- Where reading the tag is refused, with whatever work buffer, so is every edit, before 46 and all that follows: with that number, or with 40 at once.
 abbrev pub EditReadingRefused : Type 0
 EditReadingRefused = (c : Change) (tag : List ℕ) (k : ℕ) (work : List ℕ) → (read_all tag work).1 ≡ refused k
-    → (edited_of tag c ≡ (Edited.Refused k, tag)) ⊎ (edited_of tag c ≡ (Edited.Refused 40, tag))
+    → (edited_of tag c ≡ (Err (refusal k), tag)) ⊎ (edited_of tag c ≡ (Err (refusal 40), tag))
 
 -- In a plain tag 46 is the answer exactly when there is no such number among the records that are read.
 abbrev pub NoNumber : Type 0
-NoNumber = (c : Change) (tag work : List ℕ) → tag_look tag ≡ Look.Plain
-    → ((edited_of tag c).0 ≡ Edited.Refused 46) ↔ Missing (length (read_all tag work).0) c
+NoNumber = (c : Change) (tag work : List ℕ) → tag_look tag ≡ Ok true
+    → ((edited_of tag c).0 ≡ Err (refusal 46)) ↔ Missing (length (read_all tag work).0) c
 
 -- In a plain tag, where the number is there and adding refuses nothing, 20 is the answer exactly when the frames together after the edit
 -- are longer than the header's size, and else the edit is done.
 abbrev pub NoRoom : Type 0
-NoRoom = (c : Change) (tag : List ℕ) → tag_look tag ≡ Look.Plain → (Missing (length (tag_blocks tag)) c → ⊥) → adding_of tag c ≡ 0
-    → (((edited_of tag c).0 ≡ Edited.Refused 20) ↔ (size_of tag < long_then tag c)) × (((edited_of tag c).0 ≡ Edited.Done) ↔ (long_then tag c ≤ size_of tag))
+NoRoom = (c : Change) (tag : List ℕ) → tag_look tag ≡ Ok true → (Missing (length (tag_blocks tag)) c → ⊥) → adding_of tag c ≡ 0
+    → (((edited_of tag c).0 ≡ Err (refusal 20)) ↔ (size_of tag < long_then tag c)) × (((edited_of tag c).0 ≡ Ok tt) ↔ (long_then tag c ≤ size_of tag))
 
 -- That length is the sum of the old ones, without the frame that goes and with the one that comes.
 abbrev pub LengthsThen : Type 0
@@ -197,38 +195,38 @@ LengthsThen = (c : Change) (tag : List ℕ) → let bs = tag_blocks tag in let n
 
 -- So a removal always has room.
 abbrev pub RemoveDone : Type 0
-RemoveDone = (tag : List ℕ) (i : ℕ) (work : List ℕ) → tag_look tag ≡ Look.Plain → i < length (read_all tag work).0 → (removed_of tag i).0 ≡ Edited.Done
+RemoveDone = (tag : List ℕ) (i : ℕ) (work : List ℕ) → tag_look tag ≡ Ok true → i < length (read_all tag work).0 → (removed_of tag i).0 ≡ Ok tt
 
 -- ---- two edits
 
 -- To remove what was just added gives the old tag back, byte by byte.
 abbrev pub RemoveAppended : Type 0
-RemoveAppended = (tag t : List ℕ) (r : Rec) → Fits r.content → Uncompressed (tag_version tag) 2 (run_within r.content) → appended_of tag r ≡ (Edited.Done, t)
-    → removed_of t (length (tag_blocks tag)) ≡ (Edited.Done, tag)
+RemoveAppended = (tag t : List ℕ) (r : Rec) → Fits r.content → Uncompressed (tag_version tag) 2 (run_within r.content) → appended_of tag r ≡ (Ok tt, t)
+    → removed_of t (length (tag_blocks tag)) ≡ (Ok tt, tag)
 
 -- The room that a removal frees serves the next addition: a frame that is no longer than the padding and the frame that went together is added.
 abbrev pub FreedServes : Type 0
-FreedServes = (tag t : List ℕ) (i : ℕ) (r : Rec) → removed_of tag i ≡ (Edited.Done, t) → refusal_of (tag_version tag) Mode.Off false r ≡ 0
-    → length (joined (tag_blocks tag)) + length (frame_for tag r) ≤ size_of tag + length (get_or (tag_blocks tag) i []) → (appended_of t r).0 ≡ Edited.Done
+FreedServes = (tag t : List ℕ) (i : ℕ) (r : Rec) → removed_of tag i ≡ (Ok tt, t) → refusal_of (tag_version tag) Mode.Off false r ≡ 0
+    → length (joined (tag_blocks tag)) + length (frame_for tag r) ≤ size_of tag + length (get_or (tag_blocks tag) i []) → (appended_of t r).0 ≡ Ok tt
 
 -- To replace a frame by what was read of it, where that is not refused, reads the same.
 abbrev pub ReplaceSame : Type 0
-ReplaceSame = (tag t : List ℕ) (i : ℕ) (r : Rec) (work : List ℕ) → Fits r.content → get_or (read_all tag work).0 i r ≡ r → replaced_of tag i r ≡ (Edited.Done, t)
+ReplaceSame = (tag t : List ℕ) (i : ℕ) (r : Rec) (work : List ℕ) → Fits r.content → get_or (read_all tag work).0 i r ≡ r → replaced_of tag i r ≡ (Ok tt, t)
     → read_all t work ≡ read_all tag work
 
 -- Two frames replaced in either order, where both orders are accepted: the same tag, byte by byte.
 abbrev pub ReplacesCommute : Type 0
 ReplacesCommute = (tag t s t' s' : List ℕ) (i j : ℕ) (r q : Rec) → (i ≡ j → ⊥) → Fits r.content → Fits q.content
-    → replaced_of tag i r ≡ (Edited.Done, t) → replaced_of t j q ≡ (Edited.Done, s)
-    → replaced_of tag j q ≡ (Edited.Done, t') → replaced_of t' i r ≡ (Edited.Done, s') → s ≡ s'
+    → replaced_of tag i r ≡ (Ok tt, t) → replaced_of t j q ≡ (Ok tt, s)
+    → replaced_of tag j q ≡ (Ok tt, t') → replaced_of t' i r ≡ (Ok tt, s') → s ≡ s'
 
 -- ---- any run of edits
 
 -- From a tag the edits that are done are just these, in this order, and leave that tag. Between them may stand edits that are refused.
 pub data Edits : List ℕ → List Change → List ℕ → Type 0 where
   none : {tag : List ℕ} → Edits tag [] tag
-  done : {tag t tag' : List ℕ} {c : Change} {cs : List Change} → AllFit c → edited_of tag c ≡ (Edited.Done, t) → Edits t cs tag' → Edits tag (c ∷ cs) tag'
-  declined : {tag t tag' : List ℕ} {cs : List Change} {k : ℕ} (c : Change) → edited_of tag c ≡ (Edited.Refused k, t) → Edits t cs tag' → Edits tag cs tag'
+  done : {tag t tag' : List ℕ} {c : Change} {cs : List Change} → AllFit c → edited_of tag c ≡ (Ok tt, t) → Edits t cs tag' → Edits tag (c ∷ cs) tag'
+  declined : {tag t tag' : List ℕ} {cs : List Change} {k : ℕ} (c : Change) → edited_of tag c ≡ (Err (refusal k), t) → Edits t cs tag' → Edits tag cs tag'
 
 -- the list with these edits, one after the other
 abbrev pub edited_all : List Change → List Rec → List Rec
@@ -253,9 +251,9 @@ HasRoom v padding records (appending r) = (refusal_of v Mode.Off false r ≡ 0) 
 -- In a tag that was written with mode off, in each edition, any such edit is done.
 abbrev pub WrittenEdits : Type 0
 WrittenEdits = (version padding : ℕ) (records : List Rec) (tag : List ℕ) (c : Change) → Written version 0 padding records tag → PlainRuns (version_of version) records
-    → HasRoom (version_of version) padding records c → (edited_of tag c).0 ≡ Edited.Done
+    → HasRoom (version_of version) padding records c → (edited_of tag c).0 ≡ Ok tt
 
 -- And where one of its frames was removed, a frame that is no longer than the padding and that one together is added.
 abbrev pub WrittenFreed : Type 0
 WrittenFreed = (version padding : ℕ) (records : List Rec) (tag t : List ℕ) (i : ℕ) (r : Rec) → Written version 0 padding records tag → PlainRuns (version_of version) records
-    → removed_of tag i ≡ (Edited.Done, t) → HasRoom (version_of version) padding records (replacing i r) → (appended_of t r).0 ≡ Edited.Done
+    → removed_of tag i ≡ (Ok tt, t) → HasRoom (version_of version) padding records (replacing i r) → (appended_of t r).0 ≡ Ok tt

@@ -3,38 +3,28 @@ ghost use Rattle.std.specs.Prelude.{◌≡◌};
 ghost use Rattle.edit.specs.Locating.{located_of};
 
 use format::Version;
-use raise::scanning::{Aim, Scanned, scan};
+use format::refusals::Refusal;
+use raise::scanning::{Aim, scan};
 
-// A refusal, or what was found of the frame, where the last frame ends, and where the room for frames ends.
-#[derive(Drop)]
-pub(crate) enum Located {
-    Refused(u8),
-    Frames {
-        version: Version,
-        aim: Aim,
-        last: usize,
-        end: usize,
-    },
+// What was found of a frame with a number, where the last frame ends, and where the room for frames ends.
+#[derive(Clone, Copy)]
+pub(crate) struct Located {
+    pub(crate) version: Version,
+    pub(crate) aim: Aim,
+    pub(crate) last: usize,
+    pub(crate) end: usize,
 }
 
 // Where the frame with a number lies in a plain tag, and where its frames end.
-pub(crate) fn locate(tag: &[u8], number: usize) -> Located
+#[tactic(auto, using(crate::proofs::Finding::locate_refused, crate::proofs::Finding::locate_found))]
+pub(crate) fn locate(tag: &[u8], number: usize) -> Result<Located, Refusal>
     ensures { result ≡ located_of tag.now number }
 {
-    let scanned = scan(tag, &[0u8; 0], number);
-    match scanned {
-        Scanned::Refused(k) => Located::Refused(k),
-        Scanned::Frames {
-            version,
-            found: _,
-            aim,
-            last,
-            end,
-        } => Located::Frames {
-            version,
-            aim,
-            last,
-            end,
-        },
-    }
+    let scanned = scan(tag, &[], number)?;
+    Ok(Located {
+        version: scanned.version,
+        aim: scanned.aim,
+        last: scanned.last,
+        end: scanned.end,
+    })
 }

@@ -21,14 +21,14 @@ use Rattle.format.specs.declared.Head.{Head}
 use Rattle.format.proofs.Checks.{not_first, none_of, none_refused, then_at, of_first}
 use Rattle.format.proofs.Heads.{stands, lies}
 use Rattle.format.proofs.Fronts.{SameHead, same_front, head_stands, same_head}
+use Rattle.std.specs.Prelude.{Ok, Err, Some, None}
+use Rattle.std.specs.Prelude.{Result, Option}
+use Rattle.format.specs.declared.refusals.Refusal.{Refusal}
+use Rattle.format.specs.Refusals.{refusal}
+use Rattle.laws.proofs.Results.{found_same, ok_not_err}
+use Rattle.format.specs.Frame.{head}
 
 -- ---- a frame that is refused
-
-nothing_not : (k : ℕ) → Head.Nothing ≡ Head.Refused k → ⊥
-nothing_not k e = let z : ◌≡◌ {A = ℕ} 0 1 = cc in omega arith
-
-found_not : (k id start len : ℕ) (c f h : Bool) → Head.Found id c f h start len ≡ Head.Refused k → ⊥
-found_not k id start len c f h e = let z : ◌≡◌ {A = ℕ} 0 1 = cc in omega arith
 
 -- a header is there, and the first of its checks that fails gives the number
 pub record Refuses (v : Version) (depth : ℕ) (s : List ℕ) (k : ℕ) : Type 0 where
@@ -36,11 +36,11 @@ pub record Refuses (v : Version) (depth : ℕ) (s : List ℕ) (k : ℕ) : Type 0
   pub fails : k ≡ 0 → ⊥
   pub is : first (frame_checks v depth s) ≡ k
 
-pub head_refuses : (v : Version) (depth : ℕ) (s : List ℕ) {k : ℕ} → head_of v depth s ≡ Head.Refused k → Refuses v depth s k
+pub head_refuses : (v : Version) (depth : ℕ) (s : List ℕ) {k : ℕ} → head_of v depth s ≡ Err (refusal k) → Refuses v depth s k
 unfolding head_of
 head_refuses v depth s {k} e =
-    let p = not_first _ _ _ _ e (nothing_not k) in
-    let q = not_first _ _ _ _ p.1 (found_not k _ _ _ _ _ _) in
+    let p = not_first _ _ _ _ e ok_not_err in
+    let q = not_first _ _ _ _ p.1 ok_not_err in
     let is : first (frame_checks v depth s) ≡ k = ap head_number q.1 in
     record { more = p.0; fails = λ z. eqb-false _ _ q.0 (is ∙ z); is = is }
 
@@ -63,7 +63,7 @@ module _ (v : Version) (n : ℕ) (s : List ℕ) (more : is_end v (take n s) ≡ 
 pub record OfWhole (v : Version) (depth : ℕ) (s : List ℕ) (id : ℕ) (compressed flagged : Bool) (start len : ℕ) : Type 0 where
   pub short : Bool
   pub long : ℕ
-  pub head : head_of v depth s ≡ Head.Found id compressed flagged short start long
+  pub head : head_of v depth s ≡ Ok (Some (head id compressed flagged short start long))
   pub longer : len ≤ long
 
 whole_too : (t : Bool) (a b : Bool) → (a ≡ false → b ≡ false) → (t && a) ≡ false → (t && b) ≡ (t && a)
@@ -72,7 +72,7 @@ whole_too false a b h e = refl
 
 -- A frame of which the header is found in a front part is found in the whole, with the same header and at least as many bytes.
 pub of_whole : (v : Version) (depth n : ℕ) (s : List ℕ) {id : ℕ} {c f short : Bool} {start len : ℕ}
-    → head_of v depth (take n s) ≡ Head.Found id c f short start len → OfWhole v depth s id c f start len
+    → head_of v depth (take n s) ≡ Ok (Some (head id c f short start len)) → OfWhole v depth s id c f start len
 of_whole v depth n s {id} {c} {f} {short} {start} {len} found =
     let t = take n s in
     let k = stands v depth t id c f short start len found in
@@ -112,16 +112,17 @@ of_whole v depth n s {id} {c} {f} {short} {start} {len} found =
 -- ---- a frame that is cut
 
 -- A frame that is there whole, cut before its last byte, is not found whole: where one is found at all, it is marked short.
-pub cut_short : (v : Version) (depth : ℕ) (s : List ℕ) {id : ℕ} {c f : Bool} {start len : ℕ} → head_of v depth s ≡ Head.Found id c f false start len
-    → (n : ℕ) → n < start + len → {id' : ℕ} {c' f' short : Bool} {start' len' : ℕ} → head_of v depth (take n s) ≡ Head.Found id' c' f' short start' len'
+pub cut_short : (v : Version) (depth : ℕ) (s : List ℕ) {id : ℕ} {c f : Bool} {start len : ℕ} → head_of v depth s ≡ Ok (Some (head id c f false start len))
+    → (n : ℕ) → n < start + len → {id' : ℕ} {c' f' short : Bool} {start' len' : ℕ} → head_of v depth (take n s) ≡ Ok (Some (head id' c' f' short start' len'))
     → short ≡ true
 cut_short v depth s e n lt {short = true} e' = refl
 cut_short v depth s {start = start} {len = len} e n lt {id'} {c'} {f'} {short = false} {start'} {len'} e' =
     let l = lies (stands v depth (take n s) id' c' f' false start' len' e') in
     let inside : start' + len' ≤ n = omega (arith, l.within, length-take n s) in
     let found = sym (same_head v depth (take n s) s e' (take-take (start' + len') n s inside)) ∙ e in
-    let a : start' ≡ start = cc in
-    let z : len' ≡ len = cc in
+    let same = found_same found in
+    let a : start' ≡ start = ap (λ (x : Head). x.start) same in
+    let z : len' ≡ len = ap (λ (x : Head). x.len) same in
     absurd (omega arith)
 
 abbrev ByFive : ℕ → Type 0
@@ -135,7 +136,7 @@ five_or_not t = then_at ByFive t (inl refl) (inr refl)
 
 -- A front part of a frame that is found is refused, if at all, because bytes are missing.
 pub cut_refused : (v : Version) (depth n : ℕ) (s : List ℕ) {id : ℕ} {c f short : Bool} {start len k : ℕ}
-    → head_of v depth s ≡ Head.Found id c f short start len → head_of v depth (take n s) ≡ Head.Refused k → k ≡ 5
+    → head_of v depth s ≡ Ok (Some (head id c f short start len)) → head_of v depth (take n s) ≡ Err (refusal k) → k ≡ 5
 cut_refused v depth n s {id} {c} {f} {short} {start} {len} {k} found refused =
     let t = take n s in
     let w = stands v depth s id c f short start len found in
@@ -167,7 +168,7 @@ cut_refused v depth n s {id} {c} {f} {short} {start} {len} {k} found refused =
     five (inr z) is fails = sym is ∙ z
 
 -- In 2.3 no frame is found short.
-pub never_short : (depth : ℕ) (s : List ℕ) {id : ℕ} {c f short : Bool} {start len : ℕ} → head_of Id3v23 depth s ≡ Head.Found id c f short start len → short ≡ false
+pub never_short : (depth : ℕ) (s : List ℕ) {id : ℕ} {c f short : Bool} {start len : ℕ} → head_of Id3v23 depth s ≡ Ok (Some (head id c f short start len)) → short ≡ false
 never_short depth s {id} {c} {f} {short} {start} {len} found =
     let k = stands Id3v23 depth s id c f short start len found in
     k.is_short_lem ∙ none_refused (is_short Id3v23 s) 4 (none_of (frame_checks Id3v23 depth s) k.passed 6)

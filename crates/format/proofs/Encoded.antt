@@ -24,6 +24,8 @@ use Rattle.format.specs.declared.Head.{Head}
 use Rattle.format.proofs.Checks.{none_of, none_refused}
 use Rattle.format.proofs.Numbers.{number_back, synchsafe_back}
 use Rattle.format.proofs.Ids.{id_back, id_is_utf8, id_starts}
+use Rattle.std.specs.Prelude.{Ok, Some}
+use Rattle.format.specs.Frame.{head}
 
 -- whether a frame is flagged 0002 when it is written
 abbrev pub flagged_by : Version → Mode → Bool
@@ -89,7 +91,7 @@ flags_there Id3v24 Standard id size more = search
 -- a header without a data length, and its body there whole
 pub head_found : (v : Version) (depth : ℕ) (s : List ℕ) (id size : ℕ) (flagged : Bool) → depth ≤ 8 → eqb (get_or s 0 0) 0 ≡ false
     → is_utf8 (take (id_len v) s) ≡ true → number (take (id_len v) s) ≡ id → frame_size v s ≡ size → Flags v flagged s → head_len v + size ≤ length s
-    → head_of v depth s ≡ Head.Found id false flagged false (head_len v) size
+    → head_of v depth s ≡ Ok (Some (head id false flagged false (head_len v) size))
 unfolding head_of first
 head_found v depth s id size flagged shallow starts utf8 is_id_lem is-size flags whole =
     let least : min size (length s - head_len v) ≡ size = omega arith in
@@ -145,7 +147,7 @@ module _ (v : Version) (m : Mode) (r : Rec) where
 
 pub head_back : (v : Version) (m : Mode) (depth : ℕ) (r : Rec) (rest : List ℕ) → depth ≤ 8 → is_id v r.id ≡ true → first (size_checks v m r) ≡ 0
     → head_of v depth (encode v m r ++ rest)
-    ≡ Head.Found r.id false (flagged_by v m) false (head_len v) (length (stored_of v m (body_bytes r.content)))
+    ≡ Ok (Some (head r.id false (flagged_by v m) false (head_len v) (length (stored_of v m (body_bytes r.content)))))
 head_back v m depth r rest shallow is passed =
     let id = r.id in
     let body : List ℕ = stored v m r in

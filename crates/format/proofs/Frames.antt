@@ -22,12 +22,14 @@ use Rattle.format.specs.declared.Mode.TheVariants.{Off, Crate, Standard}
 use Rattle.format.specs.declared.Kind.{Kind}
 use Rattle.format.specs.declared.Head.{Head}
 use Rattle.format.specs.declared.Record.{Record}
-use Rattle.format.specs.declared.Shown.{Shown}
+use Rattle.format.specs.Walk.{Shown}
 use Rattle.format.proofs.Unsynch.{back, unsync_off}
 use Rattle.format.proofs.Encoded.{flagged_by, head_back, body_there}
 use Rattle.format.proofs.ReadBack.{ReadBack, seen}
 use Rattle.format.proofs.Strict.{strict_read, inside_run}
 use Rattle.format.proofs.Accepted.{Sound}
+use Rattle.std.specs.Prelude.{Ok, Some}
+use Rattle.format.specs.Frame.{head}
 
 -- ---- the body
 
@@ -80,18 +82,18 @@ module _ (v : Version) (m : Mode) (r : Rec) (sound : Sound v m r) where
     abbrev pub next : ℕ
     next = at + (head_len v + length (stored_of v m body))
 
-    head_is : head_of v 1 s ≡ Head.Found r.id false (flagged_by v m) false (head_len v) (length (stored_of v m body))
+    head_is : head_of v 1 s ≡ Ok (Some (head r.id false (flagged_by v m) false (head_len v) (length (stored_of v m body))))
     head_is = head_back v m 1 r rest (omega arith) sound.is_id_lem sound.sizes
 
     -- A frame that is not flagged is shown where it lies, and the room stays as it is.
     pub frame_plain : (inWork : Bool) (room : List ℕ) → flagged_by v m ≡ false
-        → frame_of v inWork begin at s room ≡ (Shown.Frame (record_at inWork (at - begin) (at + head_len v)) next, room)
+        → frame_of v inWork begin at s room ≡ (Ok (Some ((record_at inWork (at - begin) (at + head_len v)), next)), room)
     unfolding frame_of on_shown
     frame_plain inWork room e = rw (head_is, e, body_there v m r rest, plain_stored v m body e, inside_back room)
 
     -- A flagged one is shown at the front of the room.
     pub frame_flagged : (room : List ℕ) → flagged_by v m ≡ true → length body ≤ length room
-        → frame_of v false begin at s room ≡ (Shown.Frame (record_at true (at - begin) 0) next, put_front body room)
+        → frame_of v false begin at s room ≡ (Ok (Some ((record_at true (at - begin) 0), next)), put_front body room)
     unfolding frame_of on_shown resynced_of
     frame_flagged room e h =
         rw (head_is, e, body_there v m r rest, flagged_stored v m body e, le-ltb (length room) (length body) h, inside_back (drop (length body) room))

@@ -16,6 +16,12 @@ use Rattle.format.specs.declared.Version.{Version}
 use Rattle.format.specs.declared.Version.TheVariants.{Id3v22, Id3v23, Id3v24}
 use Rattle.format.specs.declared.Head.{Head}
 use Rattle.format.proofs.Checks.{not_first, not_second, none_of, none_refused}
+use Rattle.std.specs.Prelude.{Ok, Err, Some, None}
+use Rattle.std.specs.Prelude.{Ok, Some}
+use Rattle.laws.proofs.Results.{found_same, none_not_found, err_not_ok}
+use Rattle.format.specs.declared.refusals.Refusal.{Refusal}
+use Rattle.format.specs.Refusals.{refusal}
+use Rattle.format.specs.Frame.{head}
 
 pub record Stands (v : Version) (depth : ℕ) (s : List ℕ) (id : ℕ) (compressed flagged short : Bool) (start len : ℕ) : Type 0 where
   pub more : is_end v s ≡ false
@@ -27,28 +33,22 @@ pub record Stands (v : Version) (depth : ℕ) (s : List ℕ) (id : ℕ) (compres
   pub is_start : start ≡ body_start v s
   pub is_len : len ≡ min (body_size v s) (length s - body_start v s)
 
-nothing_not : (id start len : ℕ) (c f h : Bool) → Head.Nothing ≡ Head.Found id c f h start len → ⊥
-nothing_not id start len c f h e = let z : ◌≡◌ {A = ℕ} 0 1 = cc in omega arith
-
-refused_not : (k id start len : ℕ) (c f h : Bool) → Head.Refused k ≡ Head.Found id c f h start len → ⊥
-refused_not k id start len c f h e = let z : ◌≡◌ {A = ℕ} 0 1 = cc in omega arith
-
-pub stands : (v : Version) (depth : ℕ) (s : List ℕ) (id : ℕ) (c f h : Bool) (start len : ℕ) → head_of v depth s ≡ Head.Found id c f h start len
+pub stands : (v : Version) (depth : ℕ) (s : List ℕ) (id : ℕ) (c f h : Bool) (start len : ℕ) → head_of v depth s ≡ Ok (Some (head id c f h start len))
     → Stands v depth s id c f h start len
 unfolding head_of
 stands v depth s id c f h start len e =
-    let p = not_first _ _ _ _ e (nothing_not id start len c f h) in
-    let q = not_second _ _ _ _ p.1 (refused_not _ id start len c f h) in
-    let e' = q.1 in
+    let p = not_first _ _ _ _ e none_not_found in
+    let q = not_second _ _ _ _ p.1 err_not_ok in
+    let same = sym (found_same q.1) in
     record {
       more = p.0;
       passed = eqb-true _ _ q.0;
-      is_id_lem = cc;
-      is_compressed_lem = cc;
-      is_flagged_lem = cc;
-      is_short_lem = cc;
-      is_start = cc;
-      is_len = cc;
+      is_id_lem = ap (λ (x : Head). x.id) same;
+      is_compressed_lem = ap (λ (x : Head). x.compressed) same;
+      is_flagged_lem = ap (λ (x : Head). x.flagged) same;
+      is_short_lem = ap (λ (x : Head). x.short) same;
+      is_start = ap (λ (x : Head). x.start) same;
+      is_len = ap (λ (x : Head). x.len) same;
     }
 
 -- ---- lengths

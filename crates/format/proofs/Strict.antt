@@ -16,6 +16,9 @@ use Rattle.format.specs.declared.Kind.{Kind}
 use Rattle.format.specs.declared.Head.{Head}
 use Rattle.format.proofs.Heads.{stands, lies}
 use Rattle.format.proofs.Walks.{run_shorter, walk_nothing, walk_refused, walk_found}
+use Rattle.std.specs.Prelude.{Result, Option, Ok, Err, Some, None}
+use Rattle.format.specs.declared.refusals.Refusal.{Refusal}
+use Rattle.format.specs.Frame.{head}
 
 -- ---- one after the other
 
@@ -55,7 +58,7 @@ pub record Accepted (v : Version) (depth : ℕ) (s room : List ℕ) (id : ℕ) (
   pub after : List ℕ
   pub rest : (walked true v depth (drop (start + len) s) after).0 ≡ 0
 
-module _ (v : Version) (depth : ℕ) (s room : List ℕ) {id : ℕ} {c f short : Bool} {start len : ℕ} (e : head_of v depth s ≡ Head.Found id c f short start len) where
+module _ (v : Version) (depth : ℕ) (s room : List ℕ) {id : ℕ} {c f short : Bool} {start len : ℕ} (e : head_of v depth s ≡ Ok (Some (head id c f short start len))) where
   pub accepted : (walked true v depth s room).0 ≡ 0 → Accepted v depth s room id c f short start len
   accepted a =
       let go = walked true v (depth + 1) in
@@ -76,19 +79,19 @@ module _ (v : Version) (depth : ℕ) (s room : List ℕ) {id : ℕ} {c f short :
 
 module _ (v : Version) (depth : ℕ) (s room room' : List ℕ)
     (h : (d : ℕ) (t r r' : List ℕ) → length t < length s → (walked true v d t r).0 ≡ 0 → walked false v d t r' ≡ (0, r')) where
-  strict_head : (x : Head) → head_of v depth s ≡ x → (walked true v depth s room).0 ≡ 0 → walked false v depth s room' ≡ (0, room')
-  strict_head Head.Nothing e a = walk_nothing false v depth s room' e
-  strict_head (Head.Refused k) e a =
-      let z : k ≡ 0 = cc (walk_refused true v depth s room e) in
+  strict_head : (x : Result (Option Head) Refusal) → head_of v depth s ≡ x → (walked true v depth s room).0 ≡ 0 → walked false v depth s room' ≡ (0, room')
+  strict_head (Ok None) e a = walk_nothing false v depth s room' e
+  strict_head (Err k) e a =
+      let z : k.number ≡ 0 = cc (walk_refused true v depth s room e) in
       rw (walk_refused false v depth s room' e, z)
-  strict_head (Head.Found id c f short start len) e a =
-      let l = lies (stands v depth s id c f short start len e) in
+  strict_head (Ok (Some h')) e a =
+      let l = lies (stands v depth s h'.id h'.compressed h'.flagged h'.short h'.start h'.len e) in
       let t = accepted v depth s room e a in
-      let kind = shown_kind v id c in
-      let b = take len (drop start s) in
+      let kind = shown_kind v h'.id h'.compressed in
+      let b = take h'.len (drop h'.start s) in
       let run = h (depth + 1) (run_of kind b) room room'
-      (omega (arith, l.six, l.within, run_shorter kind b, length-take len (drop start s), length-drop start s)) t.run in
-      let rest = h depth (drop (start + len) s) t.after room' (omega (arith, l.six, l.within, length-drop (start + len) s)) t.rest in
+      (omega (arith, l.six, l.within, run_shorter kind b, length-take h'.len (drop h'.start s), length-drop h'.start s)) t.run in
+      let rest = h depth (drop (h'.start + h'.len) s) t.after room' (omega (arith, l.six, l.within, length-drop (h'.start + h'.len) s)) t.rest in
       read_found v depth s room' e t.unflagged t.body ∙ rw (run, rest)
 
 -- with a count that bounds the length

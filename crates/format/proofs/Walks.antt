@@ -18,6 +18,10 @@ use Rattle.format.specs.declared.Kind.{Kind}
 use Rattle.format.specs.declared.Head.{Head}
 use Rattle.format.proofs.Unsynch.{resync_shorter}
 use Rattle.format.proofs.Heads.{stands, lies}
+use Rattle.std.specs.Prelude.{Result, Option, Ok, Err, Some, None}
+use Rattle.format.specs.declared.refusals.Refusal.{Refusal}
+use Rattle.format.specs.Refusals.{refusal}
+use Rattle.format.specs.Frame.{head}
 
 pub run_shorter : (kind : Kind) (b : List ℕ) → length (run_of kind b) ≤ length b
 unfolding run_of
@@ -46,18 +50,18 @@ module _ (go go' : List ℕ → List ℕ → Out) (kind : Kind) where
 
 module _ (strict : Bool) (v : Version) (go go' : ℕ → List ℕ → List ℕ → Out) (depth : ℕ) (s room : List ℕ)
     (h : (d : ℕ) (t r : List ℕ) → length t < length s → go d t r ≡ go' d t r) where
-  head_cong : (x : Head) → head_of v depth s ≡ x → on_head strict v go depth s room x ≡ on_head strict v go' depth s room x
+  head_cong : (x : Result (Option Head) Refusal) → head_of v depth s ≡ x → on_head strict v go depth s room x ≡ on_head strict v go' depth s room x
   unfolding on_head
-  head_cong Head.Nothing e = refl
-  head_cong (Head.Refused k) e = refl
-  head_cong (Head.Found id c f sh start len) e =
-      let l = lies (stands v depth s id c f sh start len e) in
-      let b = take len (drop start s) in
-      let rest = drop (start + len) s in
-      let eb : body_of (is_resynced c f) (go (depth + 1)) (shown_kind v id c) b room ≡ body_of (is_resynced c f) (go' (depth + 1)) (shown_kind v id c) b room =
-      body_cong (go (depth + 1)) (go' (depth + 1)) (shown_kind v id c) (is_resynced c f) b room
-      (λ t r le. h (depth + 1) t r (omega (arith, l.six, l.within, length-take len (drop start s), length-drop start s))) in
-      let er : go depth rest ≡ go' depth rest = (λ i r. h depth rest r (omega (arith, l.six, l.within, length-drop (start + len) s)) i) in
+  head_cong (Ok None) e = refl
+  head_cong (Err k) e = refl
+  head_cong (Ok (Some h')) e =
+      let l = lies (stands v depth s h'.id h'.compressed h'.flagged h'.short h'.start h'.len e) in
+      let b = take h'.len (drop h'.start s) in
+      let rest = drop (h'.start + h'.len) s in
+      let eb : body_of (is_resynced h'.compressed h'.flagged) (go (depth + 1)) (shown_kind v h'.id h'.compressed) b room ≡ body_of (is_resynced h'.compressed h'.flagged) (go' (depth + 1)) (shown_kind v h'.id h'.compressed) b room =
+      body_cong (go (depth + 1)) (go' (depth + 1)) (shown_kind v h'.id h'.compressed) (is_resynced h'.compressed h'.flagged) b room
+      (λ t r le. h (depth + 1) t r (omega (arith, l.six, l.within, length-take h'.len (drop h'.start s), length-drop h'.start s))) in
+      let er : go depth rest ≡ go' depth rest = (λ i r. h depth rest r (omega (arith, l.six, l.within, length-drop (h'.start + h'.len) s)) i) in
       rw (eb, er)
 
   step_cong : step_of strict v go depth s room ≡ step_of strict v go' depth s room
@@ -67,7 +71,7 @@ module _ (strict : Bool) (v : Version) (go go' : ℕ → List ℕ → List ℕ �
 -- ---- counts that suffice agree
 
 -- of nothing no frame begins
-pub none_begins : (v : Version) (depth : ℕ) → head_of v depth [] ≡ Head.Nothing
+pub none_begins : (v : Version) (depth : ℕ) → head_of v depth [] ≡ Ok None
 unfolding head_of
 none_begins Id3v22 depth = refl
 none_begins Id3v23 depth = refl
@@ -101,23 +105,23 @@ walked_eq strict v depth (x ∷ s) room =
 -- ---- the walk for what begins
 
 module _ (strict : Bool) (v : Version) (depth : ℕ) (s room : List ℕ) where
-  walk_head : (x : Head) → head_of v depth s ≡ x → walked strict v depth s room ≡ on_head strict v (walked strict v) depth s room x
+  walk_head : (x : Result (Option Head) Refusal) → head_of v depth s ≡ x → walked strict v depth s room ≡ on_head strict v (walked strict v) depth s room x
   unfolding step_of
   walk_head x e = walked_eq strict v depth s room ∙ rw e
 
   -- no frame begins
-  pub walk_nothing : head_of v depth s ≡ Head.Nothing → walked strict v depth s room ≡ (left_over strict s, room)
+  pub walk_nothing : head_of v depth s ≡ Ok None → walked strict v depth s room ≡ (left_over strict s, room)
   unfolding on_head
-  walk_nothing e = walk_head Head.Nothing e
+  walk_nothing e = walk_head (Ok None) e
 
-  pub walk_refused : {k : ℕ} → head_of v depth s ≡ Head.Refused k → walked strict v depth s room ≡ (k, room)
+  pub walk_refused : {k : ℕ} → head_of v depth s ≡ Err (refusal k) → walked strict v depth s room ≡ (k, room)
   unfolding on_head
-  walk_refused {k} e = walk_head (Head.Refused k) e
+  walk_refused {k} e = walk_head (Err (refusal k)) e
 
   -- a frame: its body, and then what follows it
-  pub walk_found : {id : ℕ} {c f short : Bool} {start len : ℕ} → head_of v depth s ≡ Head.Found id c f short start len
+  pub walk_found : {id : ℕ} {c f short : Bool} {start len : ℕ} → head_of v depth s ≡ Ok (Some (head id c f short start len))
       → walked strict v depth s room ≡ pick (unfit strict short f) (29, room)
       (and_then (body_of (is_resynced c f) (walked strict v (depth + 1)) (shown_kind v id c) (take len (drop start s)) room)
       (walked strict v depth (drop (start + len) s)))
   unfolding on_head
-  walk_found {id} {c} {f} {short} {start} {len} e = walk_head (Head.Found id c f short start len) e
+  walk_found {id} {c} {f} {short} {start} {len} e = walk_head (Ok (Some (head id c f short start len))) e

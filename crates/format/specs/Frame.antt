@@ -7,6 +7,9 @@ use Rattle.format.specs.Ids.{id_len, is_utf8}
 use Rattle.format.specs.declared.Version.{Version}
 use Rattle.format.specs.declared.Version.TheVariants.{Id3v22, Id3v23, Id3v24}
 use Rattle.format.specs.declared.Head.{Head}
+use Rattle.std.specs.Prelude.{Result, Option, Ok, Err, Some, None}
+use Rattle.format.specs.declared.refusals.Refusal.{Refusal}
+use Rattle.format.specs.Refusals.{refusal}
 
 -- ---- the header's bytes; s is what is left from the frame's first byte on
 
@@ -89,9 +92,14 @@ frame_checks v depth s =
 abbrev pub is_end : Version → List ℕ → Bool
 is_end v s = ltb (length s) (head_len v) || eqb (get_or s 0 0) 0
 
-unfoldable pub head_of : Version → ℕ → List ℕ → Head
+-- a frame's header by its fields
+abbrev pub head : ℕ → Bool → Bool → Bool → ℕ → ℕ → Head
+head id compressed flagged short start len = record { id = id; compressed = compressed; flagged = flagged; short = short; start = start; len = len }
+
+-- nothing more, a refusal, or a header
+unfoldable pub head_of : Version → ℕ → List ℕ → Result (Option Head) Refusal
 head_of v depth s =
-    pick (is_end v s) Head.Nothing
+    pick (is_end v s) (Ok None)
     (pick (eqb (first (frame_checks v depth s)) 0)
-    (Head.Found (number (take (id_len v) s)) (is_compressed v s) (is_flagged v s) (is_short v s) (body_start v s) (min (body_size v s) (length s - body_start v s)))
-    (Head.Refused (first (frame_checks v depth s))))
+    (Ok (Some (head (number (take (id_len v) s)) (is_compressed v s) (is_flagged v s) (is_short v s) (body_start v s) (min (body_size v s) (length s - body_start v s)))))
+    (Err (refusal (first (frame_checks v depth s)))))

@@ -1,5 +1,6 @@
 -- The metered tag as definitions on lists of bytes, from document 01 and the ID3v2 texts.
 pub mod Bytes
+pub mod Refusals
 pub mod Numbers
 pub mod Unsynch
 pub mod Ids

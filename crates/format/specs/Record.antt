@@ -11,6 +11,7 @@ use Rattle.format.specs.declared.Span.{Span}
 use Rattle.format.specs.declared.Fields.{Fields}
 use Rattle.format.specs.declared.Parts.{Parts}
 use Rattle.format.specs.declared.Heading.{Heading}
+use Rattle.format.specs.declared.Given.{Given}
 use Rattle.format.specs.declared.Record.{Record}
 
 -- ---- a body of a kind
@@ -112,6 +113,13 @@ rec_of h name names rest deviations = record {
   compressed = h.compressed;
   content = content_of h.fields name names rest deviations;
 }
+
+-- the same of what is given in one struct
+abbrev pub given_content : Fields → Given → Content
+given_content fields g = content_of fields g.name.now g.names.now g.rest.now g.deviations.now
+
+abbrev pub given_rec : Heading → Given → Rec
+given_rec h g = rec_of h g.name.now g.names.now g.rest.now g.deviations.now
 
 -- the deviations that the packed references of a table hold
 abbrev pub deviations_of : Fields → List ℕ → List ℕ

@@ -10,7 +10,9 @@ use Rattle.format.specs.declared.Kind.{Kind}
 use Rattle.format.specs.declared.Parts.{Parts}
 use Rattle.format.specs.declared.Record.{Record}
 use Rattle.format.specs.declared.Head.{Head}
-use Rattle.format.specs.declared.Shown.{Shown}
+use Rattle.std.specs.Prelude.{Result, Option, Ok, Err, Some, None}
+use Rattle.format.specs.declared.refusals.Refusal.{Refusal}
+use Rattle.format.specs.Refusals.{refusal}
 
 -- a refusal, 0 for none, and what the room holds then
 abbrev pub Out : Type 0
@@ -62,15 +64,15 @@ abbrev pub left_over : Bool → List ℕ → ℕ
 left_over strict s = pick (strict && not (eqb (length s) 0)) 29 0
 
 -- one frame and what follows it
-unfoldable pub on_head : Bool → Version → (ℕ → List ℕ → List ℕ → Out) → ℕ → List ℕ → List ℕ → Head → Out
-on_head strict v go depth s room Head.Nothing = (left_over strict s, room)
-on_head strict v go depth s room (Head.Refused k) = (k, room)
-on_head strict v go depth s room (Head.Found id compressed flagged short start len) =
+unfoldable pub on_head : Bool → Version → (ℕ → List ℕ → List ℕ → Out) → ℕ → List ℕ → List ℕ → Result (Option Head) Refusal → Out
+on_head strict v go depth s room (Ok None) = (left_over strict s, room)
+on_head strict v go depth s room (Err k) = (k.number, room)
+on_head strict v go depth s room (Ok (Some h)) =
     let on =
     and_then
-    (body_of (is_resynced compressed flagged) (go (depth + 1)) (shown_kind v id compressed) (take len (drop start s)) room)
-    (go depth (drop (start + len) s)) in
-    pick (unfit strict short flagged) (29, room) on
+    (body_of (is_resynced h.compressed h.flagged) (go (depth + 1)) (shown_kind v h.id h.compressed) (take h.len (drop h.start s)) room)
+    (go depth (drop (h.start + h.len) s)) in
+    pick (unfit strict h.short h.flagged) (29, room) on
 
 unfoldable pub step_of : Bool → Version → (ℕ → List ℕ → List ℕ → Out) → ℕ → List ℕ → List ℕ → Out
 step_of strict v go depth s room = on_head strict v go depth s room (head_of v depth s)
@@ -97,24 +99,28 @@ record_of id short compressed place inWork at len p = record {
   rest = p.rest;
 }
 
+-- nothing more, a refusal, or one frame as a record with the place after it
+abbrev pub Shown : Type 0
+Shown = Result (Option (Record × ℕ)) Refusal
+
 -- the answer after a body's outcome
 abbrev pub shown_of : ℕ → Record → ℕ → Shown
-shown_of k r next = pick (eqb k 0) (Shown.Frame r next) (Shown.Refused k)
+shown_of k r next = pick (eqb k 0) (Ok (Some (r, next))) (Err (refusal k))
 
 -- What stands at `at` of a buffer, whose bytes from there on are s. The frames begin at `begin`; inWork says that the buffer is the work buffer.
-unfoldable pub on_shown : Version → Bool → ℕ → ℕ → List ℕ → List ℕ → Head → Shown × List ℕ
-on_shown v inWork begin at s room Head.Nothing = (Shown.Nothing, room)
-on_shown v inWork begin at s room (Head.Refused k) = (Shown.Refused k, room)
-on_shown v inWork begin at s room (Head.Found id compressed flagged short start len) =
-    let stored = take len (drop start s) in
-    let resynced = is_resynced compressed flagged in
-    let kind = shown_kind v id compressed in
+unfoldable pub on_shown : Version → Bool → ℕ → ℕ → List ℕ → List ℕ → Result (Option Head) Refusal → Shown × List ℕ
+on_shown v inWork begin at s room (Ok None) = ((Ok None), room)
+on_shown v inWork begin at s room (Err k) = (Err k, room)
+on_shown v inWork begin at s room (Ok (Some h)) =
+    let stored = take h.len (drop h.start s) in
+    let resynced = is_resynced h.compressed h.flagged in
+    let kind = shown_kind v h.id h.compressed in
     let b = shown_body resynced stored in
-    let place = pick resynced 0 (at + start) in
+    let place = pick resynced 0 (at + h.start) in
     let o = body_of resynced (walked false v 2) kind stored room in (
       shown_of o.0
-          (record_of id short compressed (at - begin) (resynced || inWork) place (length b) (parts_of v kind place b))
-          (at + (start + len)),
+          (record_of h.id h.short h.compressed (at - begin) (resynced || inWork) place (length b) (parts_of v kind place b))
+          (at + (h.start + h.len)),
       o.1,
     )
 

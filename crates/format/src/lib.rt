@@ -7,7 +7,7 @@ pub mod refusals;
 pub mod small;
 
 // The editions of ID3v2.
-#[derive(Clone, Copy)]
+#[derive(Clone, Copy, PartialEq, Eq)]
 pub enum Version {
     Id3v22,
     Id3v23,
@@ -15,7 +15,7 @@ pub enum Version {
 }
 
 // What is done against false synchronisation: nothing, as the crate id3 does, or as the 2.4.0 text says.
-#[derive(Clone, Copy)]
+#[derive(Clone, Copy, PartialEq, Eq)]
 pub enum Mode {
     Off,
     Crate,
@@ -23,7 +23,7 @@ pub enum Mode {
 }
 
 // What a frame's id says of its body.
-#[derive(Clone, Copy)]
+#[derive(Clone, Copy, PartialEq, Eq)]
 pub enum Kind {
     Text,
     Popularimeter,
@@ -34,14 +34,14 @@ pub enum Kind {
 }
 
 // A part of a buffer.
-#[derive(Clone, Copy)]
+#[derive(Clone, Copy, PartialEq, Eq)]
 pub struct Span {
     pub start: usize,
     pub len: usize,
 }
 
 // A record's kind with its numbers.
-#[derive(Clone, Copy)]
+#[derive(Clone, Copy, PartialEq, Eq)]
 pub enum Fields {
     Text {
         encoding: u8,
@@ -71,7 +71,7 @@ pub enum Fields {
 }
 
 // What a record is apart from its bytes. The id is its bytes as one number, highest first.
-#[derive(Clone, Copy)]
+#[derive(Clone, Copy, PartialEq, Eq)]
 pub struct Heading {
     pub id: u32,
     pub short: bool,
@@ -79,9 +79,18 @@ pub struct Heading {
     pub fields: Fields,
 }
 
+// The bytes and numbers that are given with the heading of a record that is to be written. What its kind lacks is not looked at.
+#[derive(Clone, Copy)]
+pub struct Given<'a> {
+    pub name: &'a [u8],
+    pub names: &'a [u8],
+    pub rest: &'a [u8],
+    pub deviations: &'a [u32],
+}
+
 // The fields of a body and the places of its parts: name is the user or the element id, names the children,
 // rest the text, the packed references, the run of subframes or the raw body. What a kind lacks is an empty span.
-#[derive(Clone, Copy)]
+#[derive(Clone, Copy, PartialEq, Eq)]
 pub struct Parts {
     pub fields: Fields,
     pub name: Span,
@@ -101,34 +110,14 @@ pub struct Record {
     pub rest: Span,
 }
 
-// What stands where a frame may begin: nothing more, a refusal, or a frame whose body, as stored, has `len` bytes
-// from `start` on, counted from the frame's first byte.
-#[derive(Drop)]
-pub enum Head {
-    Nothing,
-    Refused(u8),
-    Found {
-        id: u32,
-        compressed: bool,
-        flagged: bool,
-        short: bool,
-        start: usize,
-        len: usize,
-    },
-}
-
-// What a look at frames comes to: it stops with a number, or it goes to their end, and something was odd or all is plain.
-#[derive(Drop)]
-pub enum Look {
-    Stops(u8),
-    Odd,
-    Plain,
-}
-
-// One frame as a record, with the place after it.
-#[derive(Drop)]
-pub enum Shown {
-    Nothing,
-    Refused(u8),
-    Frame(Record, usize),
+// The header of a frame. Its body, as stored, has `len` bytes from `start` on, counted from the frame's first byte; a short one has
+// fewer than the header says.
+#[derive(Clone, Copy)]
+pub struct Head {
+    pub id: u32,
+    pub compressed: bool,
+    pub flagged: bool,
+    pub short: bool,
+    pub start: usize,
+    pub len: usize,
 }

@@ -2,8 +2,9 @@
 ghost use Rattle.std.specs.Prelude.{◌≡◌, ◌≤◌};
 ghost use Rattle.format.specs.Header.{version_of};
 ghost use Rattle.format.specs.Frame.{head_len};
-ghost use Rattle.format.specs.Numbered.{version_number, is_version, mode_of, mode_number, is_mode};
+ghost use Rattle.format.specs.Numbered.{version_number, is_version, version_said, mode_number, mode_said};
 
+use crate::refusals::{Refusal, UNKNOWN_VERSION};
 use crate::{Mode, Version};
 
 // The edition that a number says; a number that says none is taken for 4.
@@ -24,17 +25,6 @@ pub fn is_version(n: u64) -> bool
     (2 <= n) & (n <= 4)
 }
 
-// The number of an edition.
-pub fn version_number(version: Version) -> u8
-    ensures { result ≡ version_number version }
-{
-    match version {
-        Version::Id3v22 => 2,
-        Version::Id3v23 => 3,
-        Version::Id3v24 => 4,
-    }
-}
-
 // How many bytes a frame's header has.
 pub fn head_len(version: Version) -> usize
     ensures { (result ≡ head_len version) × (result ≤ 10) }
@@ -46,31 +36,60 @@ pub fn head_len(version: Version) -> usize
     }
 }
 
-// The mode that a number says; a number that says none is taken for 2.
-pub fn mode_of(n: u64) -> Mode
-    ensures { result ≡ mode_of n }
-{
-    match n {
-        0 => Mode::Off,
-        1 => Mode::Crate,
-        _ => Mode::Standard,
+// The edition that a number says.
+impl TryFrom<u64> for Version {
+    type Error = Refusal;
+
+    ghost try_from_gives = { λ n r. r ≡ version_said n };
+
+    fn try_from(n: u64) -> Result<Version, Refusal> {
+        match n {
+            2 => Ok(Version::Id3v22),
+            3 => Ok(Version::Id3v23),
+            4 => Ok(Version::Id3v24),
+            _ => Err(UNKNOWN_VERSION),
+        }
     }
 }
 
-// Whether a number says a mode.
-pub fn is_mode(n: u64) -> bool
-    ensures { result ≡ is_mode n }
-{
-    n <= 2
+// The number of an edition.
+impl From<Version> for u8 {
+    ghost from_gives = { λ version n. n ≡ version_number version };
+
+    fn from(version: Version) -> u8 {
+        match version {
+            Version::Id3v22 => 2,
+            Version::Id3v23 => 3,
+            Version::Id3v24 => 4,
+        }
+    }
+}
+
+// The mode that a number says.
+impl TryFrom<u64> for Mode {
+    type Error = Refusal;
+
+    ghost try_from_gives = { λ n r. r ≡ mode_said n };
+
+    fn try_from(n: u64) -> Result<Mode, Refusal> {
+        match n {
+            0 => Ok(Mode::Off),
+            1 => Ok(Mode::Crate),
+            2 => Ok(Mode::Standard),
+            _ => Err(UNKNOWN_VERSION),
+        }
+    }
 }
 
 // The number of a mode.
-pub fn mode_number(mode: Mode) -> u8
-    ensures { result ≡ mode_number mode }
-{
-    match mode {
-        Mode::Off => 0,
-        Mode::Crate => 1,
-        Mode::Standard => 2,
+impl From<Mode> for u8 {
+    ghost from_gives = { λ mode n. n ≡ mode_number mode };
+
+    fn from(mode: Mode) -> u8 {
+        match mode {
+            Mode::Off => 0,
+            Mode::Crate => 1,
+            Mode::Standard => 2,
+        }
     }
 }

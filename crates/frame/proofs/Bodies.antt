@@ -23,21 +23,22 @@ use Rattle.format.specs.declared.Kind.{Kind}
 use Rattle.format.specs.declared.Fields.{Fields}
 use Rattle.format.specs.declared.Parts.{Parts}
 use Rattle.format.specs.declared.Span.{Span}
-use Rattle.frame.specs.declared.body.Parsed.{Parsed}
 use Rattle.frame.specs.Bodies.{parsed_of}
 use Rattle.frame.proofs.Children.{names_within}
+use Rattle.std.specs.Prelude.{Ok, Err}
+use Rattle.format.specs.Refusals.{refusal}
 
 -- ---- any kind, of a body that was taken from its buffer
 
 module _ (v : Version) (kind : Kind) (at : ℕ) (b body : List ℕ) (same : b ≡ body) where
-  pub refused_as : (k : ℕ) → body_refusal kind b ≡ k → (k ≡ 0 → ⊥) → Parsed.Refused k ≡ parsed_of v kind at body
+  pub refused_as : (k : ℕ) → body_refusal kind b ≡ k → (k ≡ 0 → ⊥) → Err (refusal k) ≡ parsed_of v kind at body
   unfolding parsed_of
   refused_as k e some = rw (← same, e, ne_eqb k 0 some)
 
-  pub refused : (k : ℕ) → body_refusal kind b ≡ suc k → Parsed.Refused (suc k) ≡ parsed_of v kind at body
+  pub refused : (k : ℕ) → body_refusal kind b ≡ suc k → Err (refusal (suc k)) ≡ parsed_of v kind at body
   refused k e = refused_as (suc k) e (λ z. omega arith)
 
-  pub accepted : (p : Parts) → body_refusal kind b ≡ 0 → p ≡ parts_of v kind at b → Parsed.Parts p ≡ parsed_of v kind at body
+  pub accepted : (p : Parts) → body_refusal kind b ≡ 0 → p ≡ parts_of v kind at b → Ok p ≡ parsed_of v kind at body
   unfolding parsed_of
   accepted p e f = rw (← same, e, f)
 

@@ -1,41 +1,35 @@
--- Names each closed by a zero, counted at places of a slice. Assumes nothing.
+-- Names each closed by a zero. Assumes nothing.
 use mathlib.Core.Path.{◌≡◌, refl}
-use Prim.Native.Nat.{ℕ, zero, suc, ◌+◌, ◌-◌, ◌≤◌, ◌<◌}
+use Prim.Native.Nat.{ℕ, zero, suc, ◌+◌, ◌≤◌, ◌<◌}
 use native.Mathlib.Omega.{arith}
 use mathlib.Core.Bool.{Bool, true, false}
 use mathlib.Core.List.{List, [], ◌∷◌}
-use lib.ListN.{length, drop, get_or}
-use lib.Dec.{eqb, leb}
-use borrow.Author.Tests.{ne_eqb, le-leb, lt-leb}
-use Rattle.laws.proofs.Cuts.{drop_next}
-use Rattle.format.specs.Bytes.{pick, zeros_in}
+use lib.ListN.{length, drop}
+use lib.Dec.{eqb, leb, eqb-suc-zero}
+use borrow.Author.Tests.{le-leb, lt-leb}
+use Rattle.format.specs.Bytes.{pick, zero_at, zeros_in}
 use Rattle.format.specs.Chapter.{names_len}
-use Rattle.frame.specs.declared.chapter.Names.{Names}
 use Rattle.frame.specs.Bodies.{names_of}
+use Rattle.std.specs.Prelude.{Some, None}
 
--- ---- a byte of the names
+-- ---- a name
 
-module _ (s : List ℕ) (i : ℕ) (lt : i < length s) where
-  -- a zero closes a name
-  pub name_closed : (k : ℕ) → 0 < k → get_or s i 0 ≡ 0
-      → (zeros_in (drop i s) ≡ suc (zeros_in (drop (i + 1) s))) × (names_len k (drop i s) ≡ suc (names_len (k - 1) (drop (i + 1) s)))
-  unfolding zeros_in names_len
-  name_closed zero h z = absurd (omega arith)
-  name_closed (suc k) h z =
-      let e : suc k - 1 ≡ k = omega arith in
-      rw (drop_next s i lt, z, e) (refl, refl)
+-- a zero closes the first name, and other names come after it
+pub name_closed : (k : ℕ) (s : List ℕ) → zero_at s < length s
+    → (zeros_in s ≡ suc (zeros_in (drop (suc (zero_at s)) s))) × (names_len (suc k) s ≡ suc (zero_at s) + names_len k (drop (suc (zero_at s)) s))
+unfolding zero_at zeros_in names_len
+name_closed k [] h = absurd (omega arith)
+name_closed k (zero ∷ s) h = (refl, omega arith)
+name_closed k (suc x ∷ s) h =
+    let more = name_closed k s (omega (arith, (rw eqb-suc-zero at h))) in
+    rw eqb-suc-zero (more.0, omega (arith, more.1))
 
-  -- any other byte does not
-  pub name_goes_on : (k : ℕ) → 0 < k → (get_or s i 0 ≡ 0 → ⊥)
-      → (zeros_in (drop i s) ≡ zeros_in (drop (i + 1) s)) × (names_len k (drop i s) ≡ suc (names_len k (drop (i + 1) s)))
-  unfolding zeros_in names_len
-  name_goes_on zero h z = absurd (omega arith)
-  name_goes_on (suc k) h z = rw (drop_next s i lt, ne_eqb (get_or s i 0) 0 z) (refl, refl)
-
-pub no_zeros : (s : List ℕ) → length s ≡ 0 → zeros_in s ≡ 0
-unfolding zeros_in
-no_zeros [] h = refl
-no_zeros (x ∷ s) h = absurd (omega arith)
+-- the last name is not closed
+pub name_open : (s : List ℕ) → length s ≤ zero_at s → zeros_in s ≡ 0
+unfolding zero_at zeros_in
+name_open [] h = refl
+name_open (zero ∷ s) h = absurd (omega arith)
+name_open (suc x ∷ s) h = rw eqb-suc-zero (name_open s (omega (arith, (rw eqb-suc-zero at h))))
 
 pub no_names : (k : ℕ) (s : List ℕ) → k ≡ 0 → names_len k s ≡ 0
 unfolding names_len
@@ -53,27 +47,27 @@ names_within (suc k) (x ∷ s) = omega (arith, names_within (pick (eqb x 0) k (s
 -- ---- the answer
 
 module _ (k : ℕ) (s : List ℕ) where
-  pub names_there : (n : ℕ) → k ≤ zeros_in s → n ≡ names_len k s → Names.Whole n ≡ names_of k s
+  pub names_there : (n : ℕ) → k ≤ zeros_in s → n ≡ names_len k s → Some n ≡ names_of k s
   unfolding names_of
   names_there n h e = rw (le-leb k (zeros_in s) h, e)
 
-  pub names_missing : zeros_in s < k → Names.Cut ≡ names_of k s
+  pub names_missing : zeros_in s < k → None ≡ names_of k s
   unfolding names_of
   names_missing h = rw (lt-leb k (zeros_in s) h)
 
   -- what an answer says
-  pub names_whole : (n : ℕ) → Names.Whole n ≡ names_of k s → (leb k (zeros_in s) ≡ true) × (n ≡ names_len k s)
+  pub names_whole : (n : ℕ) → Some n ≡ names_of k s → (leb k (zeros_in s) ≡ true) × (n ≡ names_len k s)
   unfolding names_of
   names_whole n e = by_count (leb k (zeros_in s)) e
     where
-      by_count : (t : Bool) → Names.Whole n ≡ pick t (Names.Whole (names_len k s)) Names.Cut → (t ≡ true) × (n ≡ names_len k s)
+      by_count : (t : Bool) → Some n ≡ pick t (Some (names_len k s)) None → (t ≡ true) × (n ≡ names_len k s)
       by_count true h = (refl, cc)
       by_count false h = absurd (let z : ◌≡◌ {A = ℕ} 0 1 = cc in omega arith)
 
-  pub names_cut : Names.Cut ≡ names_of k s → leb k (zeros_in s) ≡ false
+  pub names_cut : None ≡ names_of k s → leb k (zeros_in s) ≡ false
   unfolding names_of
   names_cut e = by_count (leb k (zeros_in s)) e
     where
-      by_count : (t : Bool) → Names.Cut ≡ pick t (Names.Whole (names_len k s)) Names.Cut → t ≡ false
+      by_count : (t : Bool) → None ≡ pick t (Some (names_len k s)) None → t ≡ false
       by_count true h = absurd (let z : ◌≡◌ {A = ℕ} 0 1 = cc in omega arith)
       by_count false h = refl

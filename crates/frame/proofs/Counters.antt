@@ -24,8 +24,8 @@ module _ (from to : ℕ) (s : List ℕ) (within : to ≤ length s) where
 
       pub skip : get_or s i 0 ≡ 0 → Skipped from to s (i + 1)
       unfolding onto
-      skip zero =
-          let e : number (slice i to s) ≡ number (slice (i + 1) to s) = rw (next, zero) refl in
+      skip z =
+          let e : number (slice i to s) ≡ number (slice (i + 1) to s) = rw (next, z) refl in
           record { order = omega arith; same = sym e ∙ h.same }
 
       -- a byte other than 0 before eight others

@@ -1,14 +1,8 @@
--- How many references fit whole. Assumes nothing.
+-- How many references fit whole, without the product of the length. Assumes nothing.
 use mathlib.Core.Path.{◌≡◌, sym, ap, ◌∙◌}
 use Prim.Native.Nat.{ℕ, ◌+◌, ◌-◌, ◌*◌, ◌/◌, ◌%◌, ◌^◌, ◌≤◌, ◌<◌, min}
 use native.Mathlib.Nat.{mul_right_comm, mul-add-div_right, div-lt_iff_lt-mul, div-add-mod', mod-lt}
 use native.Mathlib.Omega.{arith}
-use mathlib.Core.Bool.{false, ◌&&◌}
-use Rattle.format.specs.Table.{is_width}
-use Rattle.frame.specs.References.{references_in}
-use Rattle.frame.proofs.Widths.{Widths}
-
--- ---- the count without the product of the length
 
 module _ (n s : ℕ) (pos : 0 < s) where
   -- what the part below the eights gives
@@ -25,14 +19,3 @@ module _ (n s : ℕ) (pos : 0 < s) where
 
   pub count_capped : 2 ^ 61 ≤ n / s → 2 ^ 64 - 1 ≡ min (8 * n / s) (2 ^ 64 - 1)
   count_capped h = omega (arith, count_parts)
-
--- ---- the answer
-
-module _ (v w : ℕ) where
-  pub counts_none : (n : ℕ) → (is_width v && is_width w) ≡ false → 0 ≡ references_in v w n
-  unfolding references_in
-  counts_none n h = rw h
-
-  pub counts : (n sum k : ℕ) → Widths v w sum → k ≡ min (8 * n / sum) (2 ^ 64 - 1) → k ≡ references_in v w n
-  unfolding references_in
-  counts n sum k d e = rw (d.both, ← d.is) e

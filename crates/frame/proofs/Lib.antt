@@ -9,3 +9,4 @@ mod Counts
 mod Unpacking
 mod Counters
 pub mod Bodies
+pub mod Passes

@@ -1,11 +1,11 @@
 -- Numbers at a place among the bits of bytes. Assumes nothing.
 use mathlib.Core.Path.{◌≡◌, refl, sym, ap, ◌∙◌}
 use Prim.Native.Nat.{ℕ, zero, suc, ◌+◌, ◌-◌, ◌*◌, ◌/◌, ◌%◌, ◌^◌, ◌≤◌, ◌<◌}
-use native.Mathlib.Nat.{zero-mul, suc-mul, mod-eq_of_lt, lt_of_lt_of_le}
+use native.Mathlib.Nat.{zero-mul, suc-mul, mod-eq_of_lt}
 use native.Mathlib.Omega.{arith}
 use mathlib.Core.List.{List, [], ◌∷◌}
-use lib.Bits.{bit_and, and_mask, mask_lt}
-use lib.Pow.{pow_pos, pow_mono, shl_exact}
+use lib.Bits.{bit_and, and_mask}
+use lib.Pow.{shl_exact}
 use lib.ListN.{length, take, drop, length-take, length-drop, length-append, take-append-drop}
 use lib.Seq.{slice, take_all, drop-drop, take-append-add, drop-append-add, take-nil, drop-nil}
 use Rattle.laws.proofs.Parts.{each_take, each_drop}
@@ -90,12 +90,6 @@ bits_read s k n r w d inside h =
 
 pub mask : (w : ℕ) → w ≤ 32 → 1 * 2 ^ w % 2 ^ 64 ≡ 2 ^ w
 mask w h = shl_exact {a = 1} 1 w 64 (omega arith) (omega arith) ∙ omega arith
-
-pub mask_pos : (w : ℕ) → w ≤ 32 → 1 ≤ 1 * 2 ^ w % 2 ^ 64
-mask_pos w h = rw (mask w h) (pow_pos w)
-
-pub masked_small : (x w : ℕ) → w ≤ 32 → bit_and x (1 * 2 ^ w % 2 ^ 64 - 1) < 2 ^ 32
-masked_small x w h = rw (mask w h) (lt_of_lt_of_le (mask_lt x w) (pow_mono h))
 
 pub bits_masked : (s : List ℕ) (k r w x : ℕ) → Digits 256 s → r < 8 → w ≤ 32 → k * 8 + r + w ≤ 8 * length s
     → x ≡ number (take 8 (slice k (k + (r + w + 7) / 8) s))

@@ -5,18 +5,20 @@ use native.Mathlib.Nat.{zero-mul, suc-mul, le-div_iff_mul-le}
 use native.Mathlib.Numerals.{add-one}
 use native.Mathlib.Omega.{arith}
 use mathlib.Core.Bool.{false, ◌&&◌}
-use mathlib.Core.List.{List, ◌∷◌, ◌++◌}
-use lib.ListN.{length, take, drop, set, length-set}
+use mathlib.Core.List.{List, [], ◌∷◌, ◌++◌, append-nil}
+use lib.ListN.{length, take, drop, set, length-set, length-take, drop_of_length-le}
 use lib.Seq.{sets, sets-eq, drop-drop}
 use borrow.Author.Tests.{le-leb, lt-leb}
 use Rattle.format.specs.Bytes.{put_front}
 use Rattle.format.specs.Numbers.{onto}
 use Rattle.format.specs.Table.{is_width, count_of, spread, gathered, unpack}
 use Rattle.format.proofs.Table.{length_gathered}
-use Rattle.frame.specs.declared.table.Unpacked.{Unpacked}
-use Rattle.frame.specs.References.{references_in, unpack_of}
+use Rattle.frame.specs.References.{unpack_of}
 use Rattle.frame.proofs.Widths.{Widths}
 use Rattle.frame.proofs.Packed.{gathered_next, gathered_none}
+use Rattle.std.specs.Prelude.{Result, Ok, Err}
+use Rattle.format.specs.declared.refusals.Refusal.{Refusal}
+use Rattle.format.specs.Refusals.{refusal}
 
 -- ---- the bits that numbers of two widths by turns take
 
@@ -84,23 +86,34 @@ module _ {o₀ : List ℕ} {v w : ℕ} {b : List ℕ} {n : ℕ} {o : List ℕ} {
         same = ap (λ (j : ℕ). sets (set o i x) j rest) (add-one i) ∙ ap (sets o i) (sym split) ∙ p.same;
       }
 
-  pub done : n * 2 ≤ i → o ≡ sets o₀ 0 (gathered (n * 2) v w (spread 8 8 b))
-  done h =
+  put : n * 2 ≤ i → o ≡ sets o₀ 0 (gathered (n * 2) v w (spread 8 8 b))
+  put h =
       let e : n * 2 - i ≡ 0 = omega arith in
       ap (sets o i) (sym (gathered_none (n * 2 - i) width other (drop (k * 8 + r) (spread 8 8 b)) e)) ∙ p.same
 
+-- a part in front that was put whole
+sets_front : (m : ℕ) (l o : List ℕ) → length l ≡ m → m ≤ length o → sets (take m o) 0 l ++ drop m o ≡ sets o 0 l
+sets_front m l o e h =
+    let z : 0 + length l ≡ m = omega arith in
+    let none : drop m (take m o) ≡ [] = drop_of_length-le (take m o) {i = m} (omega (arith, length-take m o)) in
+    rw (sets-eq l (take m o) 0 (omega (arith, length-take m o)), sets-eq l o 0 (omega arith), z, none, append-nil)
+
+module _ (out : List ℕ) {v w : ℕ} {b : List ℕ} {n : ℕ} {o : List ℕ} {width other k r i : ℕ} (room : n * 2 ≤ length out) (p : Putting (take (n * 2) out) v w b n o width other k r i) where
+  pub done : n * 2 ≤ i → o ++ drop (n * 2) out ≡ sets out 0 (gathered (n * 2) v w (spread 8 8 b))
+  done h =
+      rw (put p h) (sets_front (n * 2) (gathered (n * 2) v w (spread 8 8 b)) out (length_gathered (n * 2) v w (spread 8 8 b)) room)
+
 -- ---- the answer
 
-pub unpack_refused : (v w : ℕ) (b out : List ℕ) → (is_width v && is_width w) ≡ false → ◌≡◌ {A = Unpacked × List ℕ} (Unpacked.Refused 30, out) (unpack_of v w b out)
+pub unpack_refused : (v w : ℕ) (b out : List ℕ) → (is_width v && is_width w) ≡ false → ◌≡◌ {A = Result ℕ Refusal × List ℕ} (Err (refusal 30), out) (unpack_of v w b out)
 unfolding unpack_of
 unpack_refused v w b out h = rw h
 
 module _ (v w : ℕ) (b body : List ℕ) (same : b ≡ body) (out : List ℕ) where
-  module _ (sum : ℕ) (d : Widths v w sum) (n : ℕ) (e : n ≡ references_in v w (length b)) where
+  module _ (sum : ℕ) (d : Widths v w sum) (n : ℕ) (e : n ≡ min (8 * length b / sum) (2 ^ 64 - 1)) where
     -- the count, which has a largest value
     counted_as_lem : n ≡ min (count_of v w (length b)) (2 ^ 64 - 1)
-    unfolding references_in
-    counted_as_lem = rw d.both at e
+    counted_as_lem = rw d.is at e
 
     length_unpack : length (unpack v w b) ≡ count_of v w (length b) * 2
     unfolding unpack
@@ -113,7 +126,7 @@ module _ (v w : ℕ) (b body : List ℕ) (same : b ≡ body) (out : List ℕ) wh
         (le-div_iff_mul-le pos).0 le
 
     module _ (fits : length out < 2 ^ 64) where
-      pub unpack_full : length out / 2 < n → ◌≡◌ {A = Unpacked × List ℕ} (Unpacked.Refused 20, out) (unpack_of v w body out)
+      pub unpack_full : length out / 2 < n → ◌≡◌ {A = Result ℕ Refusal × List ℕ} (Err (refusal 20), out) (unpack_of v w body out)
       unfolding unpack_of
       unpack_full h =
           let more : length out < length (unpack v w b) = omega (arith, counted_as_lem, length_unpack) in
@@ -128,7 +141,7 @@ module _ (v w : ℕ) (b body : List ℕ) (same : b ≡ body) (out : List ℕ) wh
         all_numbers = ap (λ (j : ℕ). gathered (j * 2) v w (spread 8 8 b)) exact
 
         pub unpack_done : (r : ℕ) (o : List ℕ) → r ≡ n * 2 → o ≡ sets out 0 (gathered (n * 2) v w (spread 8 8 b))
-            → ◌≡◌ {A = Unpacked × List ℕ} (Unpacked.Numbers r, o) (unpack_of v w body out)
+            → ◌≡◌ {A = Result ℕ Refusal × List ℕ} (Ok r, o) (unpack_of v w body out)
         unfolding unpack_of
         unpack_done r o er eo =
             let u : List ℕ = unpack v w b in

@@ -5,6 +5,7 @@ use native.Mathlib.Omega.{arith}
 use mathlib.Core.Bool.{Bool, true, false, not, ◌&&◌, ◌||◌}
 use mathlib.Core.List.{List, [], ◌∷◌}
 use lib.Dec.{ltb, eqb, eqb-suc-zero}
+use Rattle.std.specs.List.{fold}
 use lib.Bits.{bit_or, or_add_and, and_le_l, and_le_r}
 use borrow.Author.Tests.{lt-ltb, le-leb, lt-leb, eqb-true, eqb-false}
 use Rattle.format.specs.Bytes.{pick}
@@ -89,17 +90,12 @@ ascii : (b : ℕ) (s : List ℕ) → b < 0x80 → is_utf8 (b ∷ s) ≡ is_utf8 
 unfolding utf8_from
 ascii b s h = rw (lt-ltb b 0x80 h)
 
-pub ascii_3 : (a b c : ℕ) → bit_or (bit_or a b) c < 0x80 → is_utf8 (a ∷ b ∷ c ∷ []) ≡ true
-unfolding utf8_from
-ascii_3 a b c h =
-    let p = or_below (bit_or a b) c 0x80 h in
-    let q = or_below a b 0x80 p.0 in
-    ascii a (b ∷ c ∷ []) q.0 ∙ ascii b (c ∷ []) q.1 ∙ ascii c [] p.1
+-- all their bits, joined by or, lie below 80
+joined_below : (l : List ℕ) (n : ℕ) → fold bit_or n l < 0x80 → n < 0x80
+joined_below [] n h = h
+joined_below (x ∷ l) n h = (or_below n x 0x80 (joined_below l (bit_or n x) h)).0
 
-pub ascii_4 : (a b c d : ℕ) → bit_or (bit_or (bit_or a b) c) d < 0x80 → is_utf8 (a ∷ b ∷ c ∷ d ∷ []) ≡ true
+pub all_ascii : (l : List ℕ) (n : ℕ) → fold bit_or n l < 0x80 → is_utf8 l ≡ true
 unfolding utf8_from
-ascii_4 a b c d h =
-    let p = or_below (bit_or (bit_or a b) c) d 0x80 h in
-    let q = or_below (bit_or a b) c 0x80 p.0 in
-    let r = or_below a b 0x80 q.0 in
-    ascii a (b ∷ c ∷ d ∷ []) r.0 ∙ ascii b (c ∷ d ∷ []) r.1 ∙ ascii c (d ∷ []) q.1 ∙ ascii d [] p.1
+all_ascii [] n h = refl
+all_ascii (x ∷ l) n h = ascii x l (or_below n x 0x80 (joined_below l (bit_or n x) h)).1 ∙ all_ascii l (bit_or n x) h

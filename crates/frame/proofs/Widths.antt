@@ -1,18 +1,20 @@
 -- The widths of a table's deviations. Assumes nothing.
-use mathlib.Core.Path.{◌≡◌, refl, sym, ◌∙◌}
+use mathlib.Core.Path.{◌≡◌, refl}
 use Prim.Native.Nat.{ℕ, ◌+◌, ◌%◌, ◌≤◌}
 use native.Mathlib.Omega.{arith}
 use mathlib.Core.Bool.{Bool, true, false, ◌&&◌}
 use lib.Dec.{leb}
 use borrow.Author.Tests.{leb-true, le-leb, eq-eqb, ne_eqb}
+use Rattle.std.specs.Prelude.{Option, Some, None}
+use Rattle.laws.proofs.Results.{some_same, some_not_none, none_not_some}
 use Rattle.laws.proofs.Bools.{and_true}
 use Rattle.format.specs.Bytes.{pick, first}
 use Rattle.format.specs.Table.{is_width, width_checks}
 
--- ---- the sum of two widths, or 0
+-- ---- the sum of two widths
 
-abbrev pub sum_of : ℕ → ℕ → ℕ
-sum_of v w = pick (is_width v && is_width w) (v + w) 0
+abbrev pub sum_of : ℕ → ℕ → Option ℕ
+sum_of v w = pick (is_width v && is_width w) (Some (v + w)) None
 
 width_bounds : (v : ℕ) → is_width v ≡ true → (1 ≤ v) × (v ≤ 32)
 width_bounds v h =
@@ -34,19 +36,19 @@ both_widths v w h =
     let b = width_bounds w t.1 in
     record { both = h; is = refl; first_least = a.0; first_most = a.1; second_most = b.1 }
 
-by_test : (v w sum : ℕ) (t : Bool) → (is_width v && is_width w) ≡ t → sum ≡ pick t (v + w) 0 → (sum ≡ 0 → ⊥) → Widths v w sum
-by_test v w sum true h e some = rw e (both_widths v w h)
-by_test v w sum false h e some = absurd (some e)
-
-pub widths : (v w sum : ℕ) → sum ≡ sum_of v w → (sum ≡ 0 → ⊥) → Widths v w sum
-widths v w sum e some = by_test v w sum (is_width v && is_width w) refl e some
-
-pub no_widths : (v w sum : ℕ) → sum ≡ sum_of v w → sum ≡ 0 → (is_width v && is_width w) ≡ false
-no_widths v w sum e none = by_widths (is_width v && is_width w) refl (sym e ∙ none)
+pub widths : (v w : ℕ) {sum : ℕ} → Some sum ≡ sum_of v w → Widths v w sum
+widths v w {sum} e = by_widths (is_width v && is_width w) refl e
   where
-    by_widths : (t : Bool) → (is_width v && is_width w) ≡ t → pick t (v + w) 0 ≡ 0 → t ≡ false
-    by_widths true h z = let d = both_widths v w h in absurd (omega (arith, d.first_least))
-    by_widths false h z = refl
+    by_widths : (t : Bool) → (is_width v && is_width w) ≡ t → Some sum ≡ pick t (Some (v + w)) None → Widths v w sum
+    by_widths true h e = rw (some_same e) (both_widths v w h)
+    by_widths false h e = some_not_none e
+
+pub no_widths : (v w : ℕ) → None ≡ sum_of v w → (is_width v && is_width w) ≡ false
+no_widths v w e = by_widths (is_width v && is_width w) refl e
+  where
+    by_widths : (t : Bool) → (is_width v && is_width w) ≡ t → None ≡ pick t (Some (v + w)) None → t ≡ false
+    by_widths true h e = none_not_some e
+    by_widths false h e = refl
 
 -- ---- the checks
 

@@ -1,25 +1,25 @@
 -- Document 01's number and values for every case of the answers about a body: number 0 is no refusal (document 01, "What form each place needs"). Assumes nothing.
 use Rattle.std.specs.Prelude.{ℕ, List, [], ◌∷◌}
 use Rattle.format.specs.declared.Parts.{Parts}
-use Rattle.frame.specs.declared.body.Parsed.{Parsed}
-use Rattle.frame.specs.declared.table.Unpacked.{Unpacked}
+use Rattle.std.specs.Prelude.{Result, Ok, Err}
+use Rattle.format.specs.declared.refusals.Refusal.{Refusal}
 
 -- ---- a body: the number, and none or one set of parts
 
-abbrev pub parsed_number : Parsed → ℕ
-parsed_number (Parsed.Refused k) = k
-parsed_number (Parsed.Parts p) = 0
+abbrev pub parsed_number : Result Parts Refusal → ℕ
+parsed_number (Err k) = k.number
+parsed_number (Ok p) = 0
 
-abbrev pub parsed_parts : Parsed → List Parts
-parsed_parts (Parsed.Refused k) = []
-parsed_parts (Parsed.Parts p) = p ∷ []
+abbrev pub parsed_parts : Result Parts Refusal → List Parts
+parsed_parts (Err k) = []
+parsed_parts (Ok p) = p ∷ []
 
 -- ---- all deviations: the number, and the count, which a refused call has as 0
 
-abbrev pub put_number : Unpacked → ℕ
-put_number (Unpacked.Numbers n) = 0
-put_number (Unpacked.Refused k) = k
+abbrev pub put_number : Result ℕ Refusal → ℕ
+put_number (Ok n) = 0
+put_number (Err k) = k.number
 
-abbrev pub put_count : Unpacked → ℕ
-put_count (Unpacked.Numbers n) = n
-put_count (Unpacked.Refused k) = 0
+abbrev pub put_count : Result ℕ Refusal → ℕ
+put_count (Ok n) = n
+put_count (Err k) = 0

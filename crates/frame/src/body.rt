@@ -1,20 +1,13 @@
 // The body of a frame, by its kind.
-ghost use Rattle.std.specs.Prelude.{◌≡◌, not, ◌&&◌, eqb};
+ghost use Rattle.std.specs.Prelude.{◌≡◌};
 ghost use Rattle.std.proofs.Math.Seq.{slice};
-ghost use Rattle.format.specs.Bytes.{named};
-ghost use Rattle.format.specs.Ids.{kind3, kind4, kind_of};
+ghost use Rattle.format.specs.Ids.{kind_of};
 ghost use Rattle.frame.specs.Bodies.{parsed_of};
 
 use crate::parts::{nowhere, part};
 use crate::{chapter, popularimeter, table, text};
+use format::refusals::Refusal;
 use format::{Fields, Kind, Parts, Span, Version};
-
-// What a body holds, or the number that it is refused with.
-#[derive(Drop)]
-pub enum Parsed {
-    Refused(u8),
-    Parts(Parts),
-}
 
 // Ids as numbers, the first letter highest.
 const T: u32 = 0x54;
@@ -35,61 +28,37 @@ const CHAP: u32 = 0x4348_4150;
 
 const CTOC: u32 = 0x4354_4F43;
 
-// Whether an id with a first letter is of a text: all but one that begin with T are.
-fn is_text(letter: u32, id: u32, except: u32) -> bool
-    ensures { result ≡ (eqb letter (named "T") && not (eqb id except)) }
-{
-    if letter == T { id != except } else { false }
-}
-
-// The kind of an id of three letters.
-fn kind_of3(id: u32) -> Kind
-    ensures { result ≡ kind3 id }
-{
-    if is_text(id / 0x1_0000, id, TXX) {
-        return Kind::Text;
-    }
-    match id {
-        POP => Kind::Popularimeter,
-        MLL => Kind::Table,
-        _ => Kind::Raw,
-    }
-}
-
-// The kind of an id of four letters.
-fn kind_of4(id: u32) -> Kind
-    ensures { result ≡ kind4 id }
-{
-    if is_text(id / 0x100_0000, id, TXXX) {
-        return Kind::Text;
-    }
-    match id {
-        POPM => Kind::Popularimeter,
-        MLLT => Kind::Table,
-        CHAP => Kind::Chapter,
-        CTOC => Kind::Contents,
-        _ => Kind::Raw,
-    }
-}
-
-// What an id says of its body.
+// What an id says of its body: all ids that begin with T are of texts, but one.
 pub fn kind_of(version: Version, id: u32) -> Kind
     ensures { result ≡ kind_of version id }
 {
     match version {
-        Version::Id3v22 => kind_of3(id),
-        Version::Id3v23 => kind_of4(id),
-        Version::Id3v24 => kind_of4(id),
+        Version::Id3v22 => match id {
+            POP => Kind::Popularimeter,
+            MLL => Kind::Table,
+            TXX => Kind::Raw,
+            _ if id / 0x1_0000 == T => Kind::Text,
+            _ => Kind::Raw,
+        },
+        Version::Id3v23 | Version::Id3v24 => match id {
+            POPM => Kind::Popularimeter,
+            MLLT => Kind::Table,
+            CHAP => Kind::Chapter,
+            CTOC => Kind::Contents,
+            TXXX => Kind::Raw,
+            _ if id / 0x100_0000 == T => Kind::Text,
+            _ => Kind::Raw,
+        },
     }
 }
 
 // A body of any other kind, in any edition: all of it is the rest, and no byte of it is looked at.
-fn parse_raw(s: &[u8], from: usize, to: usize) -> Parsed
+fn parse_raw(s: &[u8], from: usize, to: usize) -> Result<Parts, Refusal>
     ensures { (v : Version) → result ≡ parsed_of v Kind.Raw from (slice from to s.now) }
 {
     let b = part(s, from, to);
     let none = nowhere();
-    Parsed::Parts(Parts {
+    Ok(Parts {
         fields: Fields::Raw,
         name: none,
         names: none,
@@ -101,7 +70,13 @@ fn parse_raw(s: &[u8], from: usize, to: usize) -> Parsed
 }
 
 // A body of a kind, which lies in s from `from` to `to`.
-pub fn parse(version: Version, kind: Kind, s: &[u8], from: usize, to: usize) -> Parsed
+pub fn parse(
+    version: Version,
+    kind: Kind,
+    s: &[u8],
+    from: usize,
+    to: usize,
+) -> Result<Parts, Refusal>
     ensures { result ≡ parsed_of version kind from (slice from to s.now) }
 {
     match kind {

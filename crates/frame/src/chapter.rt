@@ -5,46 +5,36 @@ ghost use Rattle.format.specs.declared.Version.{Version};
 ghost use Rattle.format.specs.declared.Kind.{Kind};
 ghost use Rattle.frame.specs.Bodies.{names_of, parsed_of};
 
-use crate::body::Parsed;
 use crate::parts::{nowhere, part, zero_at};
-use format::refusals::MISSING_FIELD;
+use format::refusals::{MISSING_FIELD, Refusal};
 use format::{Fields, Parts, Span};
 use loads::read32;
 
-// How many bytes some names take, each closed by a zero, or that some are missing.
-#[derive(Drop)]
-enum Names {
-    Whole(usize),
-    Cut,
-}
-
 // The first names that s holds, as many as there are to be.
-fn names_len(s: &[u8], count: u8) -> Names
+fn names_len(s: &[u8], count: u8) -> Option<usize>
     ensures { result ≡ names_of count s.now }
 {
-    let mut left = count;
-    let mut i: usize = 0;
-    while left > 0 {
-        if i >= s.len() {
-            return Names::Cut;
+    let mut end: usize = 0;
+    for _ in 0..count {
+        let rest = &s[end..];
+        let len = zero_at(rest);
+        if len >= rest.len() {
+            return None;
         }
-        if s[i] == 0 {
-            left -= 1;
-        }
-        i += 1;
+        end += len + 1;
     }
-    Names::Whole(i)
+    Some(end)
 }
 
 // A chapter's body, in any edition: its element id as the name, four numbers, and the run of subframes as the rest.
-pub fn parse_chapter(s: &[u8], from: usize, to: usize) -> Parsed
+pub fn parse_chapter(s: &[u8], from: usize, to: usize) -> Result<Parts, Refusal>
     ensures { (v : Version) → result ≡ parsed_of v Kind.Chapter from (slice from to s.now) }
 {
     let b = part(s, from, to);
     let len = zero_at(b);
     let run = len + 17;
     if b.len() < run {
-        return Parsed::Refused(MISSING_FIELD);
+        return Err(MISSING_FIELD);
     }
     let fields = Fields::Chapter {
         start_time: read32(b, len + 1),
@@ -52,45 +42,46 @@ pub fn parse_chapter(s: &[u8], from: usize, to: usize) -> Parsed
         start_offset: read32(b, len + 9),
         end_offset: read32(b, len + 13),
     };
-    let start = from + run;
-    let left = b.len() - run;
-    Parsed::Parts(Parts {
+    Ok(Parts {
         fields,
         name: Span { start: from, len },
         names: nowhere(),
-        rest: Span { start, len: left },
+        rest: Span {
+            start: from + run,
+            len: b.len() - run,
+        },
     })
 }
 
 // A table of contents, in any edition: its element id as the name, two flags, the children's names, and the run of subframes as the rest.
-pub fn parse_contents(s: &[u8], from: usize, to: usize) -> Parsed
+pub fn parse_contents(s: &[u8], from: usize, to: usize) -> Result<Parts, Refusal>
     ensures { (v : Version) → result ≡ parsed_of v Kind.Contents from (slice from to s.now) }
 {
     let b = part(s, from, to);
     let len = zero_at(b);
     let at = len + 3;
     if b.len() < at {
-        return Parsed::Refused(MISSING_FIELD);
+        return Err(MISSING_FIELD);
     }
     let flags = b[len + 1];
     let count = b[len + 2];
-    let Names::Whole(n) = names_len(part(b, at, b.len()), count) else {
-        return Parsed::Refused(MISSING_FIELD);
+    let Some(n) = names_len(part(b, at, b.len()), count) else {
+        return Err(MISSING_FIELD);
     };
     let run = at + n;
-    let first = from + at;
-    let start = from + run;
-    let left = b.len() - run;
-    Parsed::Parts(Parts {
+    Ok(Parts {
         fields: Fields::Contents {
             top_level: flags / 2 % 2 == 1,
             ordered: flags % 2 == 1,
         },
         name: Span { start: from, len },
         names: Span {
-            start: first,
+            start: from + at,
             len: n,
         },
-        rest: Span { start, len: left },
+        rest: Span {
+            start: from + run,
+            len: b.len() - run,
+        },
     })
 }

@@ -1,93 +1,75 @@
 // Bodies of lookup tables, and the references that are packed in them, highest bit first.
-ghost use Rattle.std.specs.Prelude.{◌≡◌, ◌&&◌, ◌+◌, ◌-◌, ◌*◌, ◌/◌, ◌^◌, ◌≤◌, ◌<◌, min, length, take, drop};
+ghost use Rattle.std.specs.Prelude.{◌≡◌, Some, None, ◌&&◌, ◌+◌, ◌-◌, ◌*◌, ◌/◌, ◌^◌, ◌≤◌, ◌<◌, min, length, take, drop};
 ghost use Rattle.std.proofs.Math.Seq.{slice};
 ghost use Rattle.std.proofs.lemmas.List.Edits.{sets};
 ghost use Rattle.format.specs.Bytes.{pick, first};
 ghost use Rattle.format.specs.Numbers.{onto};
+ghost use Rattle.format.specs.Refusals.{passed};
 ghost use Rattle.format.specs.Table.{is_width, width_checks, spread, gathered};
 ghost use Rattle.format.specs.declared.Version.{Version};
 ghost use Rattle.format.specs.declared.Kind.{Kind};
 ghost use Rattle.frame.specs.Bodies.{parsed_of};
-ghost use Rattle.frame.specs.References.{references_in, unpack_of};
+ghost use Rattle.frame.specs.References.{unpack_of};
 
-use crate::body::Parsed;
 use crate::parts::{nowhere, part};
-use format::refusals::{MISSING_FIELD, NO_ROOM, WIDTHS_NOT_IN_FOURS, WRONG_WIDTH};
+use format::refusals::{MISSING_FIELD, NO_ROOM, Refusal, WIDTHS_NOT_IN_FOURS, WRONG_WIDTH};
 use format::{Fields, Parts, Span};
 use loads::{read_few, read64};
-
-// How many numbers were put to a buffer, or the number of the refusal.
-#[derive(Drop)]
-pub enum Unpacked {
-    Numbers(usize),
-    Refused(u8),
-}
 
 // Whether a deviation may have v bits.
 fn is_width(v: u8) -> bool
     ensures { result ≡ is_width v }
 {
-    if 1 <= v { v <= 32 } else { false }
+    1 <= v && v <= 32
 }
 
-// How many bits a reference has, 0 where a width is none.
-fn sum_of(v: u8, w: u8) -> usize
-    ensures { result ≡ pick (is_width v && is_width w) (v + w) 0 }
+// How many bits a reference has, where the widths are two.
+fn sum_of(v: u8, w: u8) -> Option<usize>
+    ensures { result ≡ pick (is_width v && is_width w) (Some (v + w)) None }
 {
-    if is_width(v) {
-        if is_width(w) {
-            return v as usize + w as usize;
-        }
+    if is_width(v) && is_width(w) {
+        return Some(usize::from(v) + usize::from(w));
     }
-    0
+    None
 }
 
-// What the widths are refused with, 0 for nothing. No two of 1 to 32 bits have more than 64.
-pub fn widths_refusal(v: u8, w: u8) -> u8
-    ensures { result ≡ first (width_checks v w) }
+// What the widths are refused with. No two of 1 to 32 bits have more than 64.
+pub fn widths_refusal(v: u8, w: u8) -> Result<(), Refusal>
+    ensures { result ≡ passed (first (width_checks v w)) }
 {
-    let sum = sum_of(v, w);
-    if sum == 0 {
-        return WRONG_WIDTH;
-    }
+    let sum = sum_of(v, w).ok_or(WRONG_WIDTH)?;
     if sum % 4 != 0 {
-        return WIDTHS_NOT_IN_FOURS;
+        return Err(WIDTHS_NOT_IN_FOURS);
     }
-    0
+    Ok(())
 }
 
 // A table's body, in any edition: its steps and widths, and the packed references as the rest.
-pub fn parse(s: &[u8], from: usize, to: usize) -> Parsed
+pub fn parse(s: &[u8], from: usize, to: usize) -> Result<Parts, Refusal>
     ensures { (v : Version) → result ≡ parsed_of v Kind.Table from (slice from to s.now) }
 {
     let b = part(s, from, to);
     if b.len() < 10 {
-        return Parsed::Refused(MISSING_FIELD);
+        return Err(MISSING_FIELD);
     }
     let bits_for_bytes = b[8];
     let bits_for_millis = b[9];
-    let refusal = widths_refusal(bits_for_bytes, bits_for_millis);
-    if refusal != 0 {
-        return Parsed::Refused(refusal);
-    }
-    let frames = read_few(b, 0, 2, 2) as u16;
-    let bytes = read_few(b, 2, 5, 3) as u32;
-    let millis = read_few(b, 5, 8, 3) as u32;
-    let fields = Fields::Table {
-        frames,
-        bytes,
-        millis,
-        bits_for_bytes,
-        bits_for_millis,
-    };
-    let start = from + 10;
-    let len = b.len() - 10;
+    widths_refusal(bits_for_bytes, bits_for_millis)?;
     let none = nowhere();
-    Parsed::Parts(Parts {
-        fields,
+    Ok(Parts {
+        fields: Fields::Table {
+            frames: read_few(b, 0, 2, 2) as u16,
+            bytes: read_few(b, 2, 5, 3) as u32,
+            millis: read_few(b, 5, 8, 3) as u32,
+            bits_for_bytes,
+            bits_for_millis,
+        },
         name: none,
         names: none,
-        rest: Span { start, len },
+        rest: Span {
+            start: from + 10,
+            len: b.len() - 10,
+        },
     })
 }
 
@@ -108,23 +90,12 @@ fn fitting(n: usize, sum: usize) -> usize
     eights * 8 + n % sum * 8 / sum
 }
 
-// How many references n packed bytes hold: none where a width is not 1 to 32.
-fn count_in(v: u8, w: u8, n: usize) -> usize
-    ensures { result ≡ references_in v w n }
-{
-    let sum = sum_of(v, w);
-    if sum == 0 {
-        return 0;
-    }
-    fitting(n, sum)
-}
-
 // The number of w bits that begins r bits into the byte at k, and ends within b.
 fn bits_at(b: &[u8], k: usize, r: usize, w: u8) -> u32
     requires { (r < 8) × (w ≤ 32) × (k * 8 + r + w ≤ 8 * length b.now) }
     ensures { result ≡ onto 2 0 (take w (drop (k * 8 + r) (spread 8 8 b.now))) }
 {
-    let end = r + w as usize;
+    let end = r + usize::from(w);
     let n = (end + 7) / 8;
     let bytes = read64(b, k, k + n);
     let mask = (1u64 << w) - 1;
@@ -140,31 +111,34 @@ fn put_pairs(out: &mut [u32], v: u8, w: u8, b: &[u8], n: usize) -> usize
     let mut other = w;
     let mut k: usize = 0;
     let mut r: usize = 0;
-    let mut i: usize = 0;
-    while i < n * 2 {
-        out[i] = bits_at(b, k, r, width);
-        let end = r + width as usize;
+    for x in &mut out[..n * 2] {
+        *x = bits_at(b, k, r, width);
+        let end = r + usize::from(width);
         k += end / 8;
         r = end % 8;
         let next = other;
         other = width;
         width = next;
-        i += 1;
     }
-    i
+    n * 2
 }
 
 // All deviations that the packed bytes of a part hold, two by two, to the front of a buffer that has the room.
-pub fn unpack(out: &mut [u32], v: u8, w: u8, s: &[u8], from: usize, to: usize) -> Unpacked
+pub fn unpack(
+    out: &mut [u32],
+    v: u8,
+    w: u8,
+    s: &[u8],
+    from: usize,
+    to: usize,
+) -> Result<usize, Refusal>
     ensures { (result, out.new) ≡ unpack_of v w (slice from to s.now) out.old }
 {
-    if sum_of(v, w) == 0 {
-        return Unpacked::Refused(WRONG_WIDTH);
-    }
+    let bits = sum_of(v, w).ok_or(WRONG_WIDTH)?;
     let b = part(s, from, to);
-    let n = count_in(v, w, b.len());
+    let n = fitting(b.len(), bits);
     if n > out.len() / 2 {
-        return Unpacked::Refused(NO_ROOM);
+        return Err(NO_ROOM);
     }
-    Unpacked::Numbers(put_pairs(out, v, w, b, n))
+    Ok(put_pairs(out, v, w, b, n))
 }

@@ -6,7 +6,7 @@ ghost use Rattle.frame.specs.Headers.{Begun};
 
 use crate::fields::{found, length_bytes};
 use format::Head;
-use format::refusals::{MISSING_BYTES, SMALL_FRAME};
+use format::refusals::{MISSING_BYTES, Refusal, SMALL_FRAME};
 use format::small::has;
 use loads::read32;
 
@@ -18,7 +18,7 @@ pub(crate) const ENCRYPTION: u8 = 0x40;
 pub(crate) const GROUPING: u8 = 0x20;
 
 // A frame that passed the first checks: its data length, where it is compressed, and its body must be there whole.
-pub(crate) fn with_body(b: &[u8]) -> Head
+pub(crate) fn with_body(b: &[u8]) -> Result<Option<Head>, Refusal>
     requires { Begun Version.Id3v23 b.now }
     ensures { (depth : ℕ) → depth ≤ 8 → result ≡ head_of Version.Id3v23 depth b.now }
 {
@@ -26,16 +26,16 @@ pub(crate) fn with_body(b: &[u8]) -> Head
     let n = length_bytes(compressed);
     let start = 10 + n;
     if b.len() < start {
-        return Head::Refused(MISSING_BYTES);
+        return Err(MISSING_BYTES);
     }
     let whole = read32(b, 4) as usize;
     if whole < n {
-        return Head::Refused(SMALL_FRAME);
+        return Err(SMALL_FRAME);
     }
     let size = whole - n;
     let left = b.len() - start;
     if left < size {
-        return Head::Refused(MISSING_BYTES);
+        return Err(MISSING_BYTES);
     }
-    found(read32(b, 0), compressed, false, start, size, left)
+    Ok(Some(found(read32(b, 0), compressed, false, start, size, left)))
 }

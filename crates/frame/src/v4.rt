@@ -6,8 +6,8 @@ ghost use Rattle.frame.specs.Headers.{Begun};
 
 use crate::fields::{found, length_bytes};
 use format::Head;
-use format::refusals::MISSING_BYTES;
-use format::small::{beyond, has};
+use format::refusals::{MISSING_BYTES, Refusal};
+use format::small::has;
 use loads::read32;
 use unsynch::decode_u32;
 
@@ -23,21 +23,21 @@ const UNSYNCHRONISATION: u8 = 0x02;
 const DATA_LENGTH: u8 = 0x01;
 
 // A frame that passed the first checks: its data length must be there, and its body may be cut by the end.
-pub(crate) fn with_body(b: &[u8]) -> Head
+pub(crate) fn with_body(b: &[u8]) -> Result<Option<Head>, Refusal>
     requires { Begun Version.Id3v24 b.now }
     ensures { (depth : ℕ) → depth ≤ 8 → result ≡ head_of Version.Id3v24 depth b.now }
 {
     let flags = b[9];
     let n = length_bytes(has(DATA_LENGTH, flags));
     let start = 10 + n;
-    let size = beyond(frame_size(b), n);
+    let size = frame_size(b).saturating_sub(n);
     if b.len() < start {
-        return Head::Refused(MISSING_BYTES);
+        return Err(MISSING_BYTES);
     }
     let left = b.len() - start;
     let compressed = has(COMPRESSION, flags);
     let flagged = has(UNSYNCHRONISATION, flags);
-    found(read32(b, 0), compressed, flagged, start, size, left)
+    Ok(Some(found(read32(b, 0), compressed, flagged, start, size, left)))
 }
 
 // The size that the header gives: a data length counts in it.

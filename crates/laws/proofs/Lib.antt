@@ -7,3 +7,4 @@ pub mod Cuts
 pub mod Stores
 pub mod Chains
 pub mod Pieces
+pub mod Results

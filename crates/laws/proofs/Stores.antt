@@ -4,9 +4,12 @@ use Prim.Native.Nat.{ℕ, suc, ◌+◌, ◌-◌, ◌≤◌, ◌<◌}
 use native.Mathlib.Numerals.{add-one}
 use native.Mathlib.Omega.{arith}
 use mathlib.Core.List.{List, [], ◌∷◌, ◌++◌, append_assoc}
-use lib.ListN.{length, set, get_or, take, drop, length-set, length-append}
+use borrow.Rule.Slice.PartMut.{put_mid}
+use Rattle.std.specs.List.{between}
+use Rattle.std.proofs.lemmas.Slice.{between_is}
+use Rattle.std.proofs.lemmas.List.Edits.{length-between}
+use lib.ListN.{length, set, take, drop, length-set, length-append}
 use lib.Seq.{slice, length-slice, sets, sets-eq, length-sets, length-take-le, take_at, drop_at, drop-drop, take-set-le, drop-set-lt, set-set, set_comm}
-use Rattle.laws.proofs.Slices.{slice_none, slice_next}
 
 -- ---- a list that is stored
 
@@ -33,6 +36,24 @@ sets_in o p l h =
     sets-eq l o p h
     ∙ append_assoc (take p o) l (drop (p + length l) o)
     ∙ ap (λ (m : List ℕ). take p o ++ (l ++ m)) (sym (drop-drop (length l) p o))
+
+-- a part of a buffer, written anew
+pub part_written : (o : List ℕ) (p n : ℕ) (l : List ℕ) → n ≡ length l → p + length l ≤ length o → put_mid p n o l ≡ sets o p l
+part_written o p n l e h = ap (λ (k : ℕ). put_mid p k o l) e ∙ sym (sets_in o p l h)
+
+-- the same, where the part is a copy of s[from..to]
+pub part_copied : (o s : List ℕ) (from to p n : ℕ) → n ≡ to - from → to ≤ length s → p + n ≤ length o → {l : List ℕ} → l ≡ between from to s
+    → put_mid p n o l ≡ sets o p (slice from to s)
+part_copied o s from to p n e le room {l} is =
+    let long : length l ≡ n = ap length is ∙ length-between s from to le ∙ sym e in
+    part_written o p n l (sym long) (omega (arith, long)) ∙ ap (sets o p) (is ∙ between_is s from to)
+
+-- the same, by way of the front of another list
+pub by_way : (o s z : List ℕ) (from to p n k : ℕ) → k ≡ n → n ≡ to - from → to ≤ length s → p + n ≤ length o → {a b : List ℕ}
+    → a ≡ between from to s → b ≡ take n (put_mid 0 n z a) → put_mid p k o b ≡ sets o p (slice from to s)
+by_way o s z from to p n k same e le room {a} {b} ea eb =
+    let long : length a ≡ n = ap length ea ∙ length-between s from to le ∙ sym e in
+    part_copied o s from to p k (omega arith) le (omega arith) (eb ∙ take_at a (drop n z) n long ∙ ea)
 
 -- an element before it is stored first or last
 pub set_sets : (o : List ℕ) (p q x : ℕ) (l : List ℕ) → p < q → set (sets o q l) p x ≡ sets (set o p x) q l
@@ -124,7 +145,7 @@ module _ {o₀ : List ℕ} {p₀ : ℕ} {l₀ o : List ℕ} {p : ℕ} where
       let f : p ≡ p₀ + length l₀ = omega (arith, t.ends) in
       λ i. (f i, t.same i)
 
--- ---- a loop that copies s[from..to] to the place p, at its turn k
+-- ---- a loop that copies s[from..to] to the place p, before its first turn
 
 module _ (s : List ℕ) (from to p : ℕ) (le : to ≤ length s) where
   pub copy_begin : (o : List ℕ) → p + (to - from) ≤ length o → Storing o p (slice from to s) o (p + 0) (slice (from + 0) to s)
@@ -132,17 +153,6 @@ module _ (s : List ℕ) (from to p : ℕ) (le : to ≤ length s) where
       let e : from ≡ from + 0 = omega arith in
       let f : p ≡ p + 0 = omega arith in
       same_place f (same_list (ap (λ (k : ℕ). slice k to s) e) (begin o p (slice from to s) (omega (arith, length-slice from to s le))))
-
-  pub copy_turn : (k : ℕ) {o₀ : List ℕ} {p₀ : ℕ} {l₀ o : List ℕ} → from + k < to → Storing o₀ p₀ l₀ o (p + k) (slice (from + k) to s)
-      → (p + k < length o) × Storing o₀ p₀ l₀ (set o (p + k) (get_or s (from + k) 0)) (p + (k + 1)) (slice (from + (k + 1)) to s)
-  copy_turn k lt t =
-      let e : from + k + 1 ≡ from + (k + 1) = omega arith in
-      let f : p + k + 1 ≡ p + (k + 1) = omega arith in
-      let u = same_list (slice_next (from + k) to s lt le) t in
-      (omega (arith, lies u), same_place f (same_list (ap (λ (j : ℕ). slice j to s) e) (put u)))
-
-  pub copy_end : (k : ℕ) {o₀ : List ℕ} {p₀ : ℕ} {l₀ o : List ℕ} → to ≤ from + k → Storing o₀ p₀ l₀ o (p + k) (slice (from + k) to s) → o ≡ sets o₀ p₀ l₀
-  copy_end k h t = ap (λ (z : ℕ × List ℕ). z.1) (done (slice_none (from + k) to s h) t)
 
 -- ---- the next byte, and nothing more
 

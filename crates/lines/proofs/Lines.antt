@@ -8,11 +8,11 @@ use lib.ListN.{length}
 use lib.Dec.{leb}
 use borrow.Author.Tests.{leb-true, lt-leb}
 use Rattle.laws.proofs.Chains.{sets_out}
-use Rattle.lines.specs.declared.Placed.{Placed}
 use Rattle.lines.specs.Placed.{placed_of, Room, Wrote}
+use Rattle.std.specs.Prelude.{Some, None}
 
 -- a buffer that is shorter than the line
-pub no_room : (line : List ℕ) (at : ℕ) (o : List ℕ) → length o < length line → (Placed.Full, o) ≡ placed_of line at o
+pub no_room : (line : List ℕ) (at : ℕ) (o : List ℕ) → length o < length line → (None, o) ≡ placed_of line at o
 unfolding placed_of
 no_room line at o h = sym (rw (lt-leb (at + length line) (length o) (omega arith)))
 
@@ -26,7 +26,7 @@ module _ (line : List ℕ) (at : ℕ) (o : List ℕ) {e : List ℕ} {len : ℕ} 
       let same : length line ≡ len = omega (arith, w.next) in
       ap (λ (k : ℕ). leb (at + k) (length o)) same ∙ sym t
 
-  pub full : f ≡ false → (Placed.Full, e ++ o) ≡ placed_of line at o
+  pub full : f ≡ false → (None, e ++ o) ≡ placed_of line at o
   unfolding placed_of
   full lacks = sym (rw (test, lacks, kept))
 
@@ -34,6 +34,6 @@ module _ (line : List ℕ) (at : ℕ) (o : List ℕ) {e : List ℕ} {len : ℕ} 
     pub has : length o < 2 ^ 64 → Room at line
     has h = record { below = omega (arith, leb-true (at + length line) (length o) (test ∙ room)) }
 
-    pub whole : {o' : List ℕ} {r : ℕ} → Wrote (e ++ o) at line o' r → (Placed.Upto r, o') ≡ placed_of line at o
+    pub whole : {o' : List ℕ} {r : ℕ} → Wrote (e ++ o) at line o' r → (Some r, o') ≡ placed_of line at o
     unfolding placed_of
     whole v = rw (test, room, v.next, v.bytes, kept)

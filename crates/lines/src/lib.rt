@@ -1,23 +1,16 @@
 // The lines of the listing program, built into a lent buffer. What they say stands in format's specs/Listing.antt.
 #![tactic(auto)]
 
-ghost use Rattle.std.specs.Prelude.{◌≡◌, ◌+◌, ◌<◌, [], ◌∷◌, ◌++◌, length, leb};
+ghost use Rattle.std.specs.Prelude.{◌≡◌, ◌+◌, ◌<◌, ◌^◌, ℕ, List, [], ◌∷◌, ◌++◌, length, leb};
 ghost use Rattle.format.specs.Numbers.{bytes_of};
 ghost use Rattle.format.specs.Ids.{id_len};
 ghost use Rattle.format.specs.Listing.{decimal, hex_digit, hex_in, hex, word_kind, word_short, detail, tag_line, frame_line, end_line, refused_line};
-ghost use Rattle.lines.specs.Placed.{placed_of, Room, Wrote, shown, body_part, counted};
+ghost use Rattle.lines.specs.Placed.{placed_of, Room, Wrote, PutsLine, shown, body_part, counted};
 
 use format::{Fields, Version};
 
 // With ten added to it the letter A, the first hexadecimal digit that is none of 0-9.
 const A_LESS_10: u8 = b'A' - 10;
-
-// The place after a line that was put; or there was no room for all of it, and nothing is written.
-#[derive(Drop)]
-pub enum Placed {
-    Upto(usize),
-    Full,
-}
 
 // ---- bytes: each function puts bytes from a place on, as far as out goes, and answers the place after them
 
@@ -39,15 +32,14 @@ fn put(out: &mut [u8], at: usize, bytes: &[u8]) -> usize
     ensures { Wrote out.old at bytes.now out.new result }
 {
     let mut next = at;
-    let mut i = 0;
-    while i < bytes.len() {
-        next = put_byte(out, next, bytes[i]);
-        i += 1;
+    for byte in bytes {
+        next = put_byte(out, next, *byte);
     }
     next
 }
 
 // A number in decimal: the digits of the quotient by ten, if there is one, then the last digit.
+// Kept: no Display, since placed_of says how long a line is also where it has no room.
 fn put_decimal(out: &mut [u8], at: usize, n: u64) -> usize
     requires { Room at (decimal n) }
     ensures { Wrote out.old at (decimal n) out.new result }
@@ -82,10 +74,8 @@ fn put_pairs(out: &mut [u8], at: usize, bytes: &[u8]) -> usize
     ensures { Wrote out.old at (hex_in bytes.now) out.new result }
 {
     let mut next = at;
-    let mut i = 0;
-    while i < bytes.len() {
-        next = put_pair(out, next, bytes[i]);
-        i += 1;
+    for byte in bytes {
+        next = put_pair(out, next, *byte);
     }
     next
 }
@@ -137,28 +127,11 @@ fn put_kind(out: &mut [u8], at: usize, fields: Fields) -> usize
     ensures { Wrote out.old at (word_kind fields) out.new result }
 {
     match fields {
-        Fields::Text { encoding: _ } => put(out, at, b" text"),
-        Fields::Popularimeter {
-            rating: _,
-            counter: _,
-        } => put(out, at, b" popularimeter"),
-        Fields::Table {
-            frames: _,
-            bytes: _,
-            millis: _,
-            bits_for_bytes: _,
-            bits_for_millis: _,
-        } => put(out, at, b" table"),
-        Fields::Chapter {
-            start_time: _,
-            end_time: _,
-            start_offset: _,
-            end_offset: _,
-        } => put(out, at, b" chapter"),
-        Fields::Contents {
-            top_level: _,
-            ordered: _,
-        } => put(out, at, b" contents"),
+        Fields::Text { .. } => put(out, at, b" text"),
+        Fields::Popularimeter { .. } => put(out, at, b" popularimeter"),
+        Fields::Table { .. } => put(out, at, b" table"),
+        Fields::Chapter { .. } => put(out, at, b" chapter"),
+        Fields::Contents { .. } => put(out, at, b" contents"),
         Fields::Raw => put(out, at, b" raw"),
     }
 }
@@ -268,42 +241,51 @@ fn fits(end: usize, at: usize, len: usize) -> bool
 fn shown_bytes(fields: Fields, user: &[u8]) -> usize
     ensures { result ≡ shown fields (length user.now) }
 {
-    if let Fields::Popularimeter {
-        rating: _,
-        counter: _,
-    } = fields
-    {
+    if let Fields::Popularimeter { .. } = fields {
         user.len()
     } else {
         0
     }
 }
 
-// A line of a short word and a number.
-fn counted_line(out: &mut [u8], at: usize, word: &[u8], n: u64) -> Placed
-    requires { length word.now < 256 }
-    ensures { (result, out.new) ≡ placed_of (counted word.now n) at out.old }
+// A line that put puts, from a place on, if out has room for all of it.
+fn whole<F: Fn(&mut [u8], usize) -> usize>(out: &mut [u8], at: usize, put: F) -> Option<usize>
+    requires { (line : List ℕ) × (length line < 2 ^ 64) × PutsLine (F.pre put) (F.post put) line }
+    ensures { (line : List ℕ) → PutsLine (F.pre put) (F.post put) line → (result, out.new) ≡ placed_of line at out.old }
 {
     let end = out.len();
-    let len = put_counted(&mut out[..0], 0, word, n);
+    let len = put(&mut out[..0], 0);
     if fits(end, at, len) {
-        Placed::Upto(put_counted(out, at, word, n))
+        Some(put(out, at))
     } else {
-        Placed::Full
+        None
     }
 }
 
+// A line of a short word and a number.
+fn counted_line(out: &mut [u8], at: usize, word: &[u8], n: u64) -> Option<usize>
+    requires { length word.now < 256 }
+    ensures { (result, out.new) ≡ placed_of (counted word.now n) at out.old }
+{
+    whole(out, at, |out, at| put_counted(out, at, word, n))
+}
+
 // The line of a tag's header: edition, size, flag byte and extended size.
-pub fn tag_line(out: &mut [u8], at: usize, edition: u8, size: u32, flags: u8, ext: u32) -> Placed
+pub fn tag_line(
+    out: &mut [u8],
+    at: usize,
+    edition: u8,
+    size: u32,
+    flags: u8,
+    ext: u32,
+) -> Option<usize>
     ensures { (result, out.new) ≡ placed_of (tag_line edition size flags ext) at out.old }
 {
-    let end = out.len();
-    let len = put_tag(&mut out[..0], 0, edition, size, flags, ext);
-    if fits(end, at, len) {
-        Placed::Upto(put_tag(out, at, edition, size, flags, ext))
-    } else {
-        Placed::Full
-    }
+    whole(
+        out,
+        at,
+        |out, at| put_tag(out, at, edition, size, flags, ext),
+    )
 }
 
 // The line of a frame: its number, its id, its place, the bytes of its body, its kind, whether it is short, and a popularimeter's fields.
@@ -318,43 +300,28 @@ pub fn frame_line(
     short: bool,
     fields: Fields,
     user: &[u8],
-) -> Placed
+) -> Option<usize>
     ensures { (result, out.new) ≡ placed_of (frame_line number (bytes_of (id_len version) id) place body short fields user.now) at out.old }
 {
-    let end = out.len();
-    if end / 2 < shown_bytes(fields, user) {
-        return Placed::Full;
+    if out.len() / 2 < shown_bytes(fields, user) {
+        return None;
     }
-    let len = put_frame(
-        &mut out[..0],
-        0,
-        number,
-        version,
-        id,
-        place,
-        body,
-        short,
-        fields,
-        user,
-    );
-    if fits(end, at, len) {
-        Placed::Upto(put_frame(
+    whole(out, at, |out, at| {
+        put_frame(
             out, at, number, version, id, place, body, short, fields, user,
-        ))
-    } else {
-        Placed::Full
-    }
+        )
+    })
 }
 
 // The last line of a tag that was read to its end: the number of its frames.
-pub fn end_line(out: &mut [u8], at: usize, number: usize) -> Placed
+pub fn end_line(out: &mut [u8], at: usize, number: usize) -> Option<usize>
     ensures { (result, out.new) ≡ placed_of (end_line number) at out.old }
 {
     counted_line(out, at, b"end ", number as u64)
 }
 
 // The last line of a tag that was refused: the number of the refusal.
-pub fn refused_line(out: &mut [u8], at: usize, number: u8) -> Placed
+pub fn refused_line(out: &mut [u8], at: usize, number: u8) -> Option<usize>
     ensures { (result, out.new) ≡ placed_of (refused_line number) at out.old }
 {
     counted_line(out, at, b"refused ", number as u64)

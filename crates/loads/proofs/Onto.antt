@@ -5,30 +5,27 @@ use native.Mathlib.Nat.{zero-mul, pow-succ', lt_of_lt_of_le, pow-le-pow_right}
 use native.Mathlib.Numerals.{add-one}
 use native.Mathlib.Omega.{arith}
 use mathlib.Core.List.{List, [], ◌∷◌, ◌++◌}
-use lib.ListN.{length, take, drop, get_or, length-take, length-drop, take-append-drop}
+use lib.ListN.{length, take, drop, get_or, length-drop, take-append-drop}
 use lib.Pow.{pow-add, field, shl-shr}
-use lib.Seq.{slice, take_all, get_or-take, length-slice}
+use lib.Seq.{slice, take_all, take-suc, take-take, length-slice}
 use Rattle.laws.proofs.Parts.{each_take, each_drop}
-use Rattle.laws.proofs.Cuts.{drop_next, length_cut, cut_in_two}
-use Rattle.laws.proofs.Slices.{slice_drop}
+use Rattle.laws.proofs.Cuts.{length_cut, cut_in_two, part_cut}
+use Rattle.laws.proofs.Slices.{slice_drop, take_cut}
 use Rattle.format.specs.Numbers.{onto, number}
 use Rattle.format.proofs.Numbers.{Digits, onto_sum, onto_digits, digits_onto}
 
+-- ---- digits one after the other
+
+pub onto_append : (base a : ℕ) (s t : List ℕ) → onto base a (s ++ t) ≡ onto base (onto base a s) t
+unfolding onto
+onto_append base a [] t = refl
+onto_append base a (x ∷ s) t = onto_append base (a * base + x) s t
+
 -- ---- a byte at a time
 
-pub onto_next : (k i to a : ℕ) (s : List ℕ) → 0 < k → i < to → i < length s
-    → onto 256 a (take k (slice i to s)) ≡ onto 256 (a * 256 + get_or s i 0) (take (k - 1) (slice (i + 1) to s))
+pub number_next : (b : List ℕ) (i x : ℕ) → i < length b → x ≡ get_or b i 0 → number (take i b) * 256 + x ≡ number (take (i + 1) b)
 unfolding onto
-onto_next zero i to a s pos h l = elim pos [ ]
-onto_next (suc k) i to a s pos h l =
-    let within : i < length (take to s) = rw length-take (omega arith) in
-    let e : suc k - 1 ≡ k = omega arith in
-    rw (drop_next (take to s) i within, get_or-take to s i 0 h, e)
-
-onto_end : (a : ℕ) (s : List ℕ) → length s ≡ 0 → onto 256 a s ≡ a
-unfolding onto
-onto_end a [] h = refl
-onto_end a (x ∷ s) h = absurd (omega arith)
+number_next b i x h e = rw (e, add-one, take-suc b i 0 h, onto_append)
 
 -- i bytes make a number below 256 ^ i
 
@@ -38,20 +35,23 @@ onto_small i a h lt = let le : i ≤ 7 = omega arith in lt_of_lt_of_le lt (pow-l
 pub onto_grows : (i a x : ℕ) → a < 256 ^ i → x < 256 → a * 256 + x < 256 ^ (i + 1)
 onto_grows i a x h l = omega (arith, ap (λ (k : ℕ). 256 ^ k) (add-one i), pow-succ' 256 i)
 
--- where no byte is left to read
-pub ended : (most k i to a : ℕ) (s : List ℕ) (whole : ℕ) → a < 256 ^ (most - k) → onto 256 a (take k (slice i to s)) ≡ whole
-    → min k (min to (length s) - i) ≡ 0 → (a ≡ whole) × (a < 256 ^ most)
-ended most k i to a s whole small is none =
-    let e : length (take k (slice i to s)) ≡ 0 = rw (length-take, length_cut) none in
-    let le : most - k ≤ most = omega arith in
-    (sym (onto_end a (take k (slice i to s)) e) ∙ is, lt_of_lt_of_le small (pow-le-pow_right {n = 256} (omega arith) le))
+-- no more bytes than there are, and no more than `most`
+pub first_bytes : (s : List ℕ) (from to most end start few : ℕ) → end ≡ min to (length s) → start ≡ min from end → few ≡ min (end - start) most
+    → take (start + few - start) (drop start s) ≡ take most (slice from to s)
+first_bytes s from to most end start few he hs hf =
+    let n : start + few - start ≡ few = omega arith in
+    let le : few ≤ end - start = omega arith in
+    let part : take (end - start) (drop start s) ≡ slice from to s = part_cut from to start end s he hs in
+    let long : few ≡ min most (length (slice from to s)) = rw length_cut (omega arith) in
+    rw n (sym (take-take few (end - start) (drop start s) le) ∙ ap (take few) part ∙ ap (λ (k : ℕ). take k (slice from to s)) long ∙ take_cut most (slice from to s))
 
--- ---- digits one after the other
+-- all of them are read
+pub number_read : (i most : ℕ) (b c : List ℕ) (n : ℕ) → b ≡ take most c → n ≡ number (take i b) → n < 256 ^ i → length b ≤ i → i ≤ most
+    → (n ≡ number (take most c)) × (n < 256 ^ most)
+number_read i most b c n e is small all le =
+    (is ∙ ap number (take_all i b all ∙ e), lt_of_lt_of_le small (pow-le-pow_right {n = 256} (omega arith) le))
 
-pub onto_append : (base a : ℕ) (s t : List ℕ) → onto base a (s ++ t) ≡ onto base (onto base a s) t
-unfolding onto
-onto_append base a [] t = refl
-onto_append base a (x ∷ s) t = onto_append base (a * base + x) s t
+-- ---- digits after others
 
 -- digits after others, by themselves
 pub onto_low : (base : ℕ) → 0 < base → (a : ℕ) (s : List ℕ) → Digits base s → onto base a s % base ^ length s ≡ onto base 0 s

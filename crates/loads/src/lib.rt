@@ -6,17 +6,15 @@ ghost use Rattle.std.proofs.Math.Seq.{slice};
 ghost use Rattle.format.specs.Numbers.{number};
 ghost use Rattle.loads.specs.Loads.{Little, Near};
 
-use format::small::{half, least, wide, wide64};
-
 // Four bytes from `at` on as one number, the first lowest: one load.
 fn little(s: &[u8], at: usize) -> u32
     requires { at + 4 ≤ length s.now }
     ensures { Little at s.now result }
 {
-    wide(s[at])
-        + wide(s[at + 1]) * 0x100
-        + wide(s[at + 2]) * 0x1_0000
-        + wide(s[at + 3]) * 0x100_0000
+    u32::from(s[at])
+        + u32::from(s[at + 1]) * 0x100
+        + u32::from(s[at + 2]) * 0x1_0000
+        + u32::from(s[at + 3]) * 0x100_0000
 }
 
 // The bytes of a number in the other order: one instruction.
@@ -45,15 +43,15 @@ fn read_cut(s: &[u8], at: usize) -> u32
     if s.len() <= at {
         return 0;
     }
-    let one = wide(s[at]);
+    let one = u32::from(s[at]);
     if s.len() - at == 1 {
         return one;
     }
-    let two = one * 256 + wide(s[at + 1]);
+    let two = one * 256 + u32::from(s[at + 1]);
     if s.len() - at == 2 {
         return two;
     }
-    two * 256 + wide(s[at + 2])
+    two * 256 + u32::from(s[at + 2])
 }
 
 // The number that four bytes from `at` on make, or the fewer that are there.
@@ -74,7 +72,7 @@ fn read_eight(s: &[u8], at: usize) -> u64
     requires { at + 8 ≤ length s.now }
     ensures { result ≡ number (slice at (at + 8) s.now) }
 {
-    half(read_whole(s, at)) * 0x1_0000_0000 + half(read_whole(s, at + 4))
+    u64::from(read_whole(s, at)) * 0x1_0000_0000 + u64::from(read_whole(s, at + 4))
 }
 
 // The number that the last `few` bytes before `to` make: one load of eight.
@@ -91,19 +89,12 @@ fn read_some(s: &[u8], from: usize, to: usize, most: usize) -> u64
     requires { most ≤ 8 }
     ensures { (result ≡ number (take most (slice from to s.now))) × (result < 256 ^ most) }
 {
+    let end = to.min(s.len());
+    let start = from.min(end);
+    let few = (end - start).min(most);
     let mut n: u64 = 0;
-    let mut left = most;
-    let mut i = from;
-    while i < to {
-        if i >= s.len() {
-            return n;
-        }
-        if left == 0 {
-            return n;
-        }
-        n = n * 256 + wide64(s[i]);
-        left -= 1;
-        i += 1;
+    for x in &s[start..start + few] {
+        n = n * 256 + u64::from(*x);
     }
     n
 }
@@ -112,7 +103,7 @@ fn read_some(s: &[u8], from: usize, to: usize, most: usize) -> u64
 pub fn read_few(s: &[u8], from: usize, to: usize, most: usize) -> u64
     ensures { (result ≡ number (take (min most 8) (slice from to s.now))) × (result < 256 ^ min most 8) }
 {
-    read_some(s, from, to, least(most, 8))
+    read_some(s, from, to, most.min(8))
 }
 
 // Whether a part of a slice of `len` bytes has one to eight bytes, and eight bytes end where it ends.

@@ -1,9 +1,12 @@
 -- What a glance tells is so: laws of headers and bodies that are plain. Assumes nothing.
-use Rattle.std.proofs.Common.{◌≡◌, ℕ, ◌+◌, ◌-◌, ◌*◌, ◌/◌, ◌%◌, ◌^◌, ◌<◌, ◌≤◌, min, Bool, true, false, ltb, List, [], ◌∷◌, length, get_or, take, sym, refl, ap, ◌∙◌, mod-eq_of_lt, arith, get_or-drop, get_or-take, le-ltb, lt-ltb, ne_eqb}
+use Rattle.std.proofs.Common.{◌≡◌, ℕ, ◌+◌, ◌-◌, ◌*◌, ◌/◌, ◌%◌, ◌^◌, ◌<◌, ◌≤◌, min, Bool, true, false, Ok, None, ltb, List, [], ◌∷◌, length, get_or, take, sym, refl, ap, ◌∙◌, mod-eq_of_lt, arith, get_or-drop, get_or-take, le-ltb, lt-ltb, ne_eqb}
 use lib.Seq.{slice}
 use lib.Bits.{bit_and, and_high, and_block, or_zero_l}
 use lib.Dec.{eqb-suc-zero}
 use borrow.Author.Tests.{lt-leb}
+use denote.Enum.Bare.{sameb}
+use Rattle.format.specs.contracts.Version.{the_type}
+use Rattle.laws.proofs.Bools.{false_not_true}
 use Rattle.laws.proofs.Parts.{each_drop, each_take}
 use Rattle.laws.proofs.Cuts.{length_cut, take_drop}
 use Rattle.laws.proofs.Slices.{slice_drop, take_drop_take}
@@ -12,17 +15,16 @@ use Rattle.format.specs.Numbers.{digits, number}
 use Rattle.format.specs.Unsynch.{resync, resynchronised}
 use Rattle.format.specs.Ids.{id_len, utf8_from, is_utf8, kind_of}
 use Rattle.format.specs.Text.{text_refusal}
-use Rattle.format.specs.Frame.{head_len, frame_size, frame_flags, is_encrypted, is_grouped, is_compressed, is_flagged, has_length, head_of}
+use Rattle.format.specs.Frame.{head, head_len, frame_size, frame_flags, is_encrypted, is_grouped, is_compressed, is_flagged, has_length, head_of}
 use Rattle.format.specs.declared.Version.{Version}
 use Rattle.format.specs.declared.Version.TheVariants.{Id3v22, Id3v23, Id3v24}
 use Rattle.format.specs.declared.Kind.{Kind}
-use Rattle.format.specs.declared.Head.{Head}
 use Rattle.format.proofs.Numbers.{Digits}
 use Rattle.loads.proofs.Words.{three, four, number_three, number_four, first_three, synchsafe_four}
 use Rattle.frame.specs.Headers.{Begun}
 use Rattle.frame.proofs.Headers.{ends_short, ends_padded, found}
 use Rattle.meter.specs.declared.glance.Glance.{Glance}
-use Rattle.meter.specs.Glances.{is22, is24, ten_of, size_by, Passes, Sorted, with_flag, Whole, body_in, Says}
+use Rattle.meter.specs.Glances.{ten_of, size_by, Passes, Sorted, with_flag, Whole, body_in, Says}
 
 -- ---- sizes
 
@@ -135,11 +137,11 @@ module _ (v : Version) (flagged : Bool) (s : List ℕ) (n : ℕ) (there : head_l
         is_id_lem = refl;
         head = sym
             (found v s begun 1 (omega arith) 0 is_length (omega arith) n is-size n (omega arith) (λ w. (omega arith, omega arith)) (number (take (id_len v) s)) refl
-            false flagged (sym quiet.compressed) quiet.unsynchronised (Head.Found (number (take (id_len v) s)) false flagged false (head_len v) n)
+            false flagged (sym quiet.compressed) quiet.unsynchronised (head (number (take (id_len v) s)) false flagged false (head_len v) n)
             (rw (fits, all, behind)));
       }
 
-pub padded : (v : Version) (s : List ℕ) → head_len v ≤ length s → get_or s 0 0 ≡ 0 → head_of v 1 s ≡ Head.Nothing
+pub padded : (v : Version) (s : List ℕ) → head_len v ≤ length s → get_or s 0 0 ≡ 0 → head_of v 1 s ≡ Ok None
 padded v s long e = sym (ends_padded v 1 s long e)
 
 -- ---- bodies
@@ -260,7 +262,7 @@ module _ (v : Version) (at left : ℕ) (s : List ℕ) (fits : at + head_len v + 
   enough : 4 ≤ length (here v at left s fits)
   enough = omega (arith, long v at left s fits)
 
-  end_four : id < 0x100_0000 → head_of v 1 (here v at left s fits) ≡ Head.Nothing
+  end_four : id < 0x100_0000 → head_of v 1 (here v at left s fits) ≡ Ok None
   end_four h =
       padded v (here v at left s fits) (omega (arith, long v at left s fits))
       (first_zero_four (here v at left s fits) bytes_here enough (omega (arith, in_four)))
@@ -294,7 +296,7 @@ module _ (t : Bool) (at left : ℕ) (s : List ℕ) (bytes : Digits 256 s) (fits 
 
 -- a header of ten bytes is told truly
 module _ (at left : ℕ) (s : List ℕ) (bytes : Digits 256 s) (fits : at + 10 + left ≤ length s) (id : ℕ) (is_id_lem : id ≡ number (slice at (at + 4) s)) where
-  pub ten_end : (t : Bool) → id < 0x100_0000 → head_of (ten_of t) 1 (slice at (at + 10 + left) s) ≡ Head.Nothing
+  pub ten_end : (t : Bool) → id < 0x100_0000 → head_of (ten_of t) 1 (slice at (at + 10 + left) s) ≡ Ok None
   ten_end true h = end_four Id3v24 at left s fits bytes refl refl id is_id_lem h
   ten_end false h = end_four Id3v23 at left s fits bytes refl refl id is_id_lem h
 
@@ -313,13 +315,13 @@ module _ (at left : ℕ) (s : List ℕ) (bytes : Digits 256 s) (fits : at + 10 +
         (sorted_four Id3v23 at left s fits bytes refl refl id is_id_lem some ascii-id false n h quiet size kind g (is_kind ∙ kind_ten false id) p)
 
     pub ten_says_flagged : (t : Bool) → t ≡ true → n ≡ size_by t (number (slice (at + 4) (at + 4 + 4) s)) → get_or s (at + 9) 0 ≡ 2
-        → Says (ten_of t) (slice at (at + 10 + left) s) (with_flag g)
-    ten_says_flagged true is-24 e f =
+        → {g' : Glance} → g' ≡ with_flag g → Says (ten_of t) (slice at (at + 10 + left) s) g'
+    ten_says_flagged true is-24 e f is =
         let quiet = one_flag _ (ten_flags true at left s bytes fits 2 f) in
         let size = ten_size true at left s bytes fits n e in
-        says_flagged Id3v24 n _ (whole_four Id3v24 at left s fits bytes refl refl id is_id_lem some ascii-id true n h quiet size) g
-        (sorted_four Id3v24 at left s fits bytes refl refl id is_id_lem some ascii-id true n h quiet size kind g is_kind p)
-    ten_says_flagged false is-24 e f = absurd (let z : ◌≡◌ {A = ℕ} 0 1 = cc in omega arith)
+        rw is (says_flagged Id3v24 n _ (whole_four Id3v24 at left s fits bytes refl refl id is_id_lem some ascii-id true n h quiet size) g
+        (sorted_four Id3v24 at left s fits bytes refl refl id is_id_lem some ascii-id true n h quiet size kind g is_kind p))
+    ten_says_flagged false is-24 e f is = absurd (false_not_true is-24)
 
 -- a header of six bytes is told truly
 module _ (at left : ℕ) (s : List ℕ) (bytes : Digits 256 s) (fits : at + 6 + left ≤ length s) (id : ℕ) (is_id_lem : id ≡ number (slice at (at + 4) s) / 0x100) where
@@ -338,7 +340,7 @@ module _ (at left : ℕ) (s : List ℕ) (bytes : Digits 256 s) (fits : at + 6 + 
   in_three : number (take 3 six_bytes) ≡ id
   in_three = ap number (front Id3v22 at left s fits 3 (omega arith)) ∙ sym id_three
 
-  pub six_end : id < 0x1_0000 → head_of Id3v22 1 six_bytes ≡ Head.Nothing
+  pub six_end : id < 0x1_0000 → head_of Id3v22 1 six_bytes ≡ Ok None
   six_end h = padded Id3v22 six_bytes (omega (arith, six_long)) (first_zero_three six_bytes bytes_six (omega (arith, six_long)) (omega (arith, in_three)))
 
   module _ (some : 0x1_0000 ≤ id) (ascii-id : bit_and id 0x80_8080 ≡ 0) (n : ℕ) (h : n ≤ left) (is-size : n ≡ number (slice (at + 2) (at + 2 + 4) s) % 0x100_0000)
@@ -357,13 +359,9 @@ module _ (at left : ℕ) (s : List ℕ) (bytes : Digits 256 s) (fits : at + 6 + 
 
 -- ---- any edition
 
-pub is_22 : (v : Version) → is22 v ≡ true → v ≡ Id3v22
-is_22 Id3v22 e = refl
-is_22 Id3v23 e = absurd (let z : ◌≡◌ {A = ℕ} 0 1 = cc in omega arith)
-is_22 Id3v24 e = absurd (let z : ◌≡◌ {A = ℕ} 0 1 = cc in omega arith)
-
-pub is_ten : (v : Version) → is22 v ≡ false → ten_of (is24 v) ≡ v
-is_ten Id3v22 e = absurd (let z : ◌≡◌ {A = ℕ} 0 1 = cc in omega arith)
+-- an edition that is not 2.2 has headers of ten bytes
+pub is_ten : (v : Version) → sameb the_type v Id3v22 ≡ false → ten_of (sameb the_type v Id3v24) ≡ v
+is_ten Id3v22 e = absurd (false_not_true (sym e))
 is_ten Id3v23 e = refl
 is_ten Id3v24 e = refl
 
@@ -373,7 +371,7 @@ some_head Id3v23 = omega arith
 some_head Id3v24 = omega arith
 
 -- no bytes are the end
-pub says_none : (v : Version) (at last : ℕ) (s : List ℕ) → last ≤ at → head_of v 1 (slice at last s) ≡ Head.Nothing
+pub says_none : (v : Version) (at last : ℕ) (s : List ℕ) → last ≤ at → head_of v 1 (slice at last s) ≡ Ok None
 says_none v at last s h =
     let none : length (slice at last s) ≡ 0 = length_cut at last s ∙ omega arith in
     sym (ends_short v 1 (slice at last s) (omega (arith, some_head v)))

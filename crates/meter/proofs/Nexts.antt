@@ -1,11 +1,10 @@
 -- The equation of the next popularimeter: nothing past here sees the count. Assumes nothing.
-use Rattle.std.proofs.Common.{◌≡◌, ℕ, zero, suc, ◌<◌, List, [], ◌∷◌, refl, arith}
+use Rattle.std.proofs.Common.{◌≡◌, ℕ, zero, suc, ◌<◌, Ok, Err, Some, None, List, [], ◌∷◌, refl, arith}
 use Rattle.laws.proofs.Cuts.{length_cut}
 use Rattle.format.specs.declared.Record.{Record}
 use Rattle.walk.specs.Sources.{source_of}
-use Rattle.reader.specs.Reader.{step_of}
+use Rattle.reader.specs.Reader.{Step, step_of}
 use Rattle.reader.specs.declared.Reader.{Reader}
-use Rattle.reader.specs.declared.Step.{Step}
 use Rattle.reader.proofs.Steps.{answered, answered_moves}
 use Rattle.meter.specs.Meter.{passed_over, metered_in, Nexted, or_on, on_step, next_in, left_of, next_of}
 use Rattle.meter.specs.declared.Meter.{Meter}
@@ -13,7 +12,7 @@ use Rattle.meter.specs.declared.Metered.{Metered}
 
 -- ---- a frame leaves fewer bytes
 
-pub step_left : (r : Reader) (tag work : List ℕ) (rec : Record) (r' : Reader) → (step_of r tag work).0 ≡ Step.Frame rec r' → left_of r' < left_of r
+pub step_left : (r : Reader) (tag work : List ℕ) (rec : Record) (r' : Reader) → (step_of r tag work).0 ≡ (Ok (Some rec), r') → left_of r' < left_of r
 step_left r tag work rec r' e =
     let m = answered_moves r tag work rec r' e in
     rw (answered r tag work rec r' e).moved (omega (arith, m.six, m.within, length_cut r.at r.end (source_of r.in_work work tag)))
@@ -26,10 +25,10 @@ module _ (go go' : Meter → List ℕ → Nexted) (m : Meter) (work : List ℕ)
   or_cong [] m' h = same m' work h
   or_cong (p ∷ ps) m' h = refl
 
-  on_cong : (x : Step) → ((rec : Record) (r' : Reader) → x ≡ Step.Frame rec r' → left_of r' < left_of m.reader) → on_step go m x work ≡ on_step go' m x work
-  on_cong (Step.Frame rec r) h = or_cong (metered_in m.frames rec) (passed_over rec.heading r m) (h rec r refl)
-  on_cong (Step.End r) h = refl
-  on_cong (Step.Refused k r) h = refl
+  on_cong : (x : Step) → ((rec : Record) (r' : Reader) → x ≡ (Ok (Some rec), r') → left_of r' < left_of m.reader) → on_step go m x work ≡ on_step go' m x work
+  on_cong (Ok (Some rec), r) h = or_cong (metered_in m.frames rec) (passed_over rec.heading r m) (h rec r refl)
+  on_cong (Ok None, r) h = refl
+  on_cong (Err k, r) h = refl
 
 step_cong : (go go' : Meter → List ℕ → Nexted) (m : Meter) (tag work : List ℕ)
     → ((m' : Meter) (w : List ℕ) → left_of m'.reader < left_of m.reader → go m' w ≡ go' m' w)

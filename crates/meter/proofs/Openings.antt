@@ -1,11 +1,13 @@
 -- What opening a tag with a plain header answers. Assumes nothing.
-use Rattle.std.proofs.Common.{◌≡◌, ℕ, ◌+◌, ◌-◌, ◌*◌, ◌/◌, ◌%◌, ◌<◌, ◌≤◌, min, Bool, true, false, eqb, ltb, List, length, take, sym, refl, ap, ◌∙◌, arith, length-take, ltb-false, ltb-true, le-ltb, lt-ltb, eqb-true, le-leb}
+use Rattle.std.proofs.Common.{◌≡◌, ℕ, ◌+◌, ◌*◌, ◌/◌, ◌%◌, ◌<◌, ◌≤◌, min, Bool, true, false, Result, Ok, Err, Some, None, eqb, List, length, take, sym, refl, ap, ◌∙◌, arith, length-take, eqb-true, le-leb}
 use mathlib.Core.Bool.{and-false}
 use lib.Seq.{slice}
+use Rattle.laws.proofs.Results.{some_same, none_not_some}
 use Rattle.format.specs.Bytes.{pick}
 use Rattle.format.specs.Numbers.{number}
 use Rattle.format.specs.Header.{edition_of, flags_of, size_of, version_of, is_whole, cut_of, is_extended, ext_of, header_refusal}
 use Rattle.format.specs.Numbered.{is_version}
+use Rattle.format.specs.declared.refusals.Refusal.{Refusal}
 use Rattle.format.specs.declared.Version.{Version}
 use Rattle.format.specs.declared.Version.TheVariants.{Id3v22, Id3v23, Id3v24}
 use Rattle.format.proofs.Numbers.{Digits}
@@ -13,35 +15,17 @@ use Rattle.loads.proofs.Words.{number_four, first_three}
 use Rattle.reader.specs.Reader.{reader_at, open_of}
 use Rattle.reader.specs.Headers.{is_tag}
 use Rattle.reader.specs.declared.Reader.{Reader}
-use Rattle.reader.specs.declared.Opened.{Opened}
 use Rattle.reader.proofs.Refusals.{no_extended}
 use Rattle.meter.specs.Meter.{is_missing, meter_at, opened_as, meter_open_of}
 use Rattle.meter.specs.Openings.{front_if, front_of}
-use Rattle.meter.specs.declared.opening.Front.{Front}
 use Rattle.meter.specs.declared.Meter.{Meter}
-use Rattle.meter.specs.declared.MeterOpened.{MeterOpened}
-
--- ---- the marks
-
-pub missing_short : (tag : List ℕ) → length tag < 10 → true ≡ is_missing tag
-missing_short tag h = sym (lt-ltb (length tag) (10 + size_of tag) (omega arith))
-
-missing_same : (a b : ℕ) → 10 ≤ a → ltb (a - 10) b ≡ ltb a (10 + b)
-missing_same a b h = by_length (ltb a (10 + b)) refl
-  where
-    by_length : (t : Bool) → ltb a (10 + b) ≡ t → ltb (a - 10) b ≡ t
-    by_length true e = lt-ltb (a - 10) b (omega (arith, ltb-true a (10 + b) e))
-    by_length false e = le-ltb (a - 10) b (omega (arith, ltb-false a (10 + b) e))
-
-pub missing_long : (tag : List ℕ) {size : ℕ} → 10 ≤ length tag → size ≡ size_of tag → ltb (length tag - 10) size ≡ is_missing tag
-missing_long tag h e = rw e (missing_same (length tag) (size_of tag) h)
 
 -- ---- a header whose flags do not count
 
 record Plain (tag : List ℕ) (v : Version) : Type 0 where
   edition : version_of (edition_of tag) ≡ v
   known : is_version (edition_of tag) ≡ true
-  clear : eqb (flags_of tag % 16) 0 ≡ true
+  clear : flags_of tag % 16 ≡ 0
   short : is_extended tag ≡ false
   apart : is_whole tag ≡ false
 
@@ -70,9 +54,9 @@ module _ (tag : List ℕ) (bytes : Digits 256 tag) (long : 10 ≤ length tag) wh
   module _ (v : Version) (is_tag_lem : is_tag tag ≡ true) (p : Plain tag v) where
     accepted : header_refusal tag ≡ 0
     accepted =
-        sym (no_extended (record { is = is_tag_lem; known = p.known; clear = p.clear; says = sym p.short }) (and-false (eqb (edition_of tag) 2)) refl)
+        sym (no_extended (record { is = is_tag_lem; known = p.known; clear = p.clear }) p.short)
 
-    opens_plain : (work : List ℕ) → open_of tag work ≡ (Opened.Ready (reader_at v false 10 (min (10 + size_of tag) (length tag))), work)
+    opens_plain : (work : List ℕ) → open_of tag work ≡ (Ok (reader_at v false 10 (min (10 + size_of tag) (length tag))), work)
     unfolding open_of ext_of
     opens_plain work =
         let end : length (cut_of tag) ≡ min (10 + size_of tag) (length tag) = length-take (10 + size_of tag) tag in
@@ -80,7 +64,7 @@ module _ (tag : List ℕ) (bytes : Digits 256 tag) (long : 10 ≤ length tag) wh
         rw (accepted, p.apart, p.short, p.edition, start, end)
 
     meter_plain : (work : List ℕ)
-        → ◌≡◌ {A = MeterOpened × List ℕ} (MeterOpened.Ready (meter_at (is_missing tag) (reader_at v false 10 (min (10 + size_of tag) (length tag)))), work) (meter_open_of tag work)
+        → ◌≡◌ {A = Result Meter Refusal × List ℕ} (Ok (meter_at (is_missing tag) (reader_at v false 10 (min (10 + size_of tag) (length tag)))), work) (meter_open_of tag work)
     unfolding meter_open_of
     meter_plain work = rw (opens_plain work)
 
@@ -93,12 +77,12 @@ module _ (tag : List ℕ) (bytes : Digits 256 tag) (long : 10 ≤ length tag) wh
         let first = sym is_front ∙ is in
         (begins e h first, none_plain tag e v (edition_of_lem e h first) is-v is_Known (sym is-flags ∙ f))
 
-    plain_if_lem : (clear : Bool) (v u : Version) → front_if clear v ≡ Front.Plain u → (clear ≡ true) × (v ≡ u)
-    plain_if_lem true v u h = (refl, cc)
-    plain_if_lem false v u h = absurd (let z : ◌≡◌ {A = ℕ} 0 1 = cc in omega arith)
+    plain_if_lem : (clear : Bool) (v u : Version) → front_if clear v ≡ Some u → (clear ≡ true) × (v ≡ u)
+    plain_if_lem true v u h = (refl, some_same h)
+    plain_if_lem false v u h = none_not_some h
 
     plain_front : (u : Version) (two : Bool) → eqb front 0x4944_3302 ≡ two → (three : Bool) → eqb front 0x4944_3303 ≡ three → (four : Bool) → eqb front 0x4944_3304 ≡ four
-        → pick two (front_if (eqb flags 0) Id3v22) (pick three (front_if (eqb flags 0) Id3v23) (pick four (front_if (eqb (flags % 0x80) 0) Id3v24) Front.Other)) ≡ Front.Plain u → Begins u
+        → pick two (front_if (eqb flags 0) Id3v22) (pick three (front_if (eqb flags 0) Id3v23) (pick four (front_if (eqb (flags % 0x80) 0) Id3v24) None)) ≡ Some u → Begins u
     plain_front u true e2 three e3 four e4 h =
         let p = plain_if_lem (eqb flags 0) Id3v22 u h in
         rw (← p.1) (begins_with 2 Id3v22 (omega arith) (eqb-true front 0x4944_3302 e2) refl refl (eqb-true flags 0 p.0))
@@ -110,10 +94,10 @@ module _ (tag : List ℕ) (bytes : Digits 256 tag) (long : 10 ≤ length tag) wh
         let first = sym is_front ∙ eqb-true front 0x4944_3304 e4 in
         rw (← p.1)
         (begins 4 (omega arith) first, four_plain tag (edition_of_lem 4 (omega arith) first) (ap (λ (f : ℕ). f % 128) (sym is-flags) ∙ eqb-true (flags % 0x80) 0 p.0))
-    plain_front u false e2 false e3 false e4 h = absurd (let z : ◌≡◌ {A = ℕ} 0 1 = cc in omega arith)
+    plain_front u false e2 false e3 false e4 h = none_not_some h
 
-    pub opens : (v : Version) → front_of front flags ≡ Front.Plain v → (work : List ℕ)
-        → ◌≡◌ {A = MeterOpened × List ℕ} (MeterOpened.Ready (meter_at (is_missing tag) (reader_at v false 10 (min (10 + size_of tag) (length tag)))), work) (meter_open_of tag work)
+    pub opens : (v : Version) → front_of front flags ≡ Some v → (work : List ℕ)
+        → ◌≡◌ {A = Result Meter Refusal × List ℕ} (Ok (meter_at (is_missing tag) (reader_at v false 10 (min (10 + size_of tag) (length tag)))), work) (meter_open_of tag work)
     opens v h work =
         let p = plain_front v (eqb front 0x4944_3302) refl (eqb front 0x4944_3303) refl (eqb front 0x4944_3304) refl h in
         meter_plain v p.0 p.1 work
@@ -121,12 +105,12 @@ module _ (tag : List ℕ) (bytes : Digits 256 tag) (long : 10 ≤ length tag) wh
 -- ---- any header
 
 module _ (tag work left : List ℕ) where
-  pub opens_any : (reader : Reader) (m : Meter) → m ≡ meter_at (is_missing tag) reader → ◌≡◌ {A = Opened × List ℕ} (Opened.Ready reader, left) (open_of tag work)
-      → ◌≡◌ {A = MeterOpened × List ℕ} (MeterOpened.Ready m, left) (meter_open_of tag work)
+  pub opens_any : (reader : Reader) (m : Meter) → m ≡ meter_at (is_missing tag) reader → ◌≡◌ {A = Result Reader Refusal × List ℕ} (Ok reader, left) (open_of tag work)
+      → ◌≡◌ {A = Result Meter Refusal × List ℕ} (Ok m, left) (meter_open_of tag work)
   unfolding meter_open_of
-  opens_any reader m is e = rw is (ap {B = MeterOpened × List ℕ} (λ (o : Opened × List ℕ). (opened_as (is_missing tag) o.0, o.1)) e)
+  opens_any reader m is e = rw is (ap {B = Result Meter Refusal × List ℕ} (λ (o : Result Reader Refusal × List ℕ). (opened_as (is_missing tag) o.0, o.1)) e)
 
-  pub opens_refused : (k : ℕ) → ◌≡◌ {A = Opened × List ℕ} (Opened.Refused k, left) (open_of tag work)
-      → ◌≡◌ {A = MeterOpened × List ℕ} (MeterOpened.Refused k, left) (meter_open_of tag work)
+  pub opens_refused : (k : Refusal) → ◌≡◌ {A = Result Reader Refusal × List ℕ} (Err k, left) (open_of tag work)
+      → ◌≡◌ {A = Result Meter Refusal × List ℕ} (Err k, left) (meter_open_of tag work)
   unfolding meter_open_of
-  opens_refused k e = ap {B = MeterOpened × List ℕ} (λ (o : Opened × List ℕ). (opened_as (is_missing tag) o.0, o.1)) e
+  opens_refused k e = ap {B = Result Meter Refusal × List ℕ} (λ (o : Result Reader Refusal × List ℕ). (opened_as (is_missing tag) o.0, o.1)) e

@@ -1,25 +1,14 @@
 -- What a glance at a frame's header tells of it. Assumes nothing.
-use Rattle.std.specs.Prelude.{◌≡◌, ℕ, Bool, true, false, List, take, drop}
+use Rattle.std.specs.Prelude.{◌≡◌, ℕ, Bool, true, false, Ok, Some, None, List, take, drop}
 use Rattle.format.specs.Unsynch.{resynchronised}
 use Rattle.format.specs.Numbers.{number, bytes_of, from_synchsafe}
 use Rattle.format.specs.Ids.{id_len, kind_of}
-use Rattle.format.specs.Frame.{head_len, head_of}
+use Rattle.format.specs.Frame.{head, head_len, head_of}
 use Rattle.format.specs.Text.{text_refusal}
 use Rattle.format.specs.declared.Version.{Version}
-use Rattle.format.specs.declared.Version.TheVariants.{Id3v22, Id3v23, Id3v24}
+use Rattle.format.specs.declared.Version.TheVariants.{Id3v23, Id3v24}
 use Rattle.format.specs.declared.Kind.{Kind}
-use Rattle.format.specs.declared.Head.{Head}
 use Rattle.meter.specs.declared.glance.Glance.{Glance}
-
-abbrev pub is22 : Version → Bool
-is22 Id3v22 = true
-is22 Id3v23 = false
-is22 Id3v24 = false
-
-abbrev pub is24 : Version → Bool
-is24 Id3v22 = false
-is24 Id3v23 = false
-is24 Id3v24 = true
 
 -- the editions whose headers have ten bytes
 abbrev pub ten_of : Bool → Version
@@ -60,7 +49,7 @@ with_flag (Glance.Meter n) = Glance.Unclear
 pub record Whole (v : Version) (flagged : Bool) (n : ℕ) (s : List ℕ) : Type 0 where
   pub id : ℕ
   pub is_id_lem : id ≡ number (take (id_len v) s)
-  pub head : head_of v 1 s ≡ Head.Found id false flagged false (head_len v) n
+  pub head : head_of v 1 s ≡ Ok (Some (head id false flagged false (head_len v) n))
 
 abbrev pub body_in : Version → ℕ → List ℕ → List ℕ
 body_in v n s = take n (drop (head_len v) s)
@@ -68,7 +57,7 @@ body_in v n s = take n (drop (head_len v) s)
 -- what is told of the bytes s, where a frame of the top level may begin
 abbrev pub Says : Version → List ℕ → Glance → Type 0
 Says v s Glance.Unclear = Unit {0}
-Says v s Glance.End = head_of v 1 s ≡ Head.Nothing
+Says v s Glance.End = head_of v 1 s ≡ Ok None
 Says v s (Glance.Plain n) = (w : Whole v false n s) × (Passes (kind_of v w.id) (body_in v n s))
 Says v s (Glance.Flagged n) = (w : Whole v true n s) × (Passes (kind_of v w.id) (resynchronised (body_in v n s)))
 Says v s (Glance.Meter n) = (w : Whole v false n s) × (kind_of v w.id ≡ Kind.Popularimeter)

@@ -2,7 +2,7 @@
 // looked at in full.
 ghost use Rattle.std.specs.Prelude.{◌≡◌, ◌+◌, ◌≤◌, length};
 ghost use Rattle.std.proofs.Math.Seq.{slice};
-ghost use Rattle.meter.specs.Glances.{is22, is24, ten_of, size_by, Sorted, with_flag, Says};
+ghost use Rattle.meter.specs.Glances.{ten_of, size_by, Sorted, with_flag, Says};
 
 use format::{Kind, Version};
 use frame::body::kind_of;
@@ -24,25 +24,16 @@ pub(crate) enum Glance {
 }
 
 // A body of a kind, `size` bytes of s from `first` on. A text and a raw body are not looked through.
+#[tactic(auto, using(crate::proofs::Glances::text_at))]
 fn by_kind(s: &[u8], kind: Kind, first: usize, size: usize) -> Glance
     requires { first + size ≤ length s.now }
     ensures { Sorted kind size (slice first (first + size) s.now) result }
 {
     match kind {
-        Kind::Text => {
-            if size == 0 {
-                return Glance::Unclear;
-            }
-            if s[first] > 3 {
-                return Glance::Unclear;
-            }
-            Glance::Plain(size)
-        }
-        Kind::Popularimeter => Glance::Meter(size),
+        Kind::Text if size > 0 && s[first] <= 3 => Glance::Plain(size),
         Kind::Raw => Glance::Plain(size),
-        Kind::Table => Glance::Unclear,
-        Kind::Chapter => Glance::Unclear,
-        Kind::Contents => Glance::Unclear,
+        Kind::Popularimeter => Glance::Meter(size),
+        _ => Glance::Unclear,
     }
 }
 
@@ -52,21 +43,16 @@ fn with_flag(g: Glance) -> Glance
 {
     match g {
         Glance::Plain(size) => Glance::Flagged(size),
-        Glance::Unclear => Glance::Unclear,
-        Glance::End => Glance::Unclear,
-        Glance::Flagged(_) => Glance::Unclear,
-        Glance::Meter(_) => Glance::Unclear,
+        _ => Glance::Unclear,
     }
 }
 
 // The size that four bytes say: plain in 2.3, synchsafe in 2.4. Below 128 both say the same.
+#[tactic(auto, using(crate::proofs::Glances::size_small))]
 fn size_of(word: u32, v4: bool) -> usize
     ensures { result ≡ size_by v4 word }
 {
-    if word < 0x80 {
-        return word as usize;
-    }
-    if v4 {
+    if word >= 0x80 && v4 {
         decode_u32(word) as usize
     } else {
         word as usize
@@ -74,6 +60,7 @@ fn size_of(word: u32, v4: bool) -> usize
 }
 
 // A header of ten bytes at `at`, with `left` bytes after it: an ASCII id, and no flag but that for unsynchronised bytes.
+#[tactic(auto, using(crate::proofs::Glances::ten_end, crate::proofs::Glances::ten_says, crate::proofs::Glances::ten_says_flagged))]
 fn glance10(s: &[u8], at: usize, left: usize, v4: bool) -> Glance
     requires { at + 10 + left ≤ length s.now }
     ensures { Says (ten_of v4) (slice at (at + 10 + left) s.now) result }
@@ -89,19 +76,15 @@ fn glance10(s: &[u8], at: usize, left: usize, v4: bool) -> Glance
     if left < size {
         return Glance::Unclear;
     }
-    let flags = s[at + 9];
-    if flags == 0 {
-        return by_kind(s, kind_of(Version::Id3v24, id), at + 10, size);
+    match s[at + 9] {
+        0 => by_kind(s, kind_of(Version::Id3v24, id), at + 10, size),
+        UNSYNCHRONISED if v4 => with_flag(by_kind(s, kind_of(Version::Id3v24, id), at + 10, size)),
+        _ => Glance::Unclear,
     }
-    if flags == UNSYNCHRONISED {
-        if v4 {
-            return with_flag(by_kind(s, kind_of(Version::Id3v24, id), at + 10, size));
-        }
-    }
-    Glance::Unclear
 }
 
 // A header of six bytes at `at`, with `left` bytes after it: an ASCII id.
+#[tactic(auto, using(crate::proofs::Glances::six_end, crate::proofs::Glances::six_says))]
 fn glance6(s: &[u8], at: usize, left: usize) -> Glance
     requires { at + 6 + left ≤ length s.now }
     ensures { Says Version.Id3v22 (slice at (at + 6 + left) s.now) result }
@@ -120,34 +103,14 @@ fn glance6(s: &[u8], at: usize, left: usize) -> Glance
     by_kind(s, kind_of(Version::Id3v22, id), at + 6, size)
 }
 
-// Whether an edition is 2.2.
-fn is_22(version: Version) -> bool
-    ensures { result ≡ is22 version }
-{
-    match version {
-        Version::Id3v22 => true,
-        Version::Id3v23 => false,
-        Version::Id3v24 => false,
-    }
-}
-
-// Whether an edition is 2.4.
-fn is_24(version: Version) -> bool
-    ensures { result ≡ is24 version }
-{
-    match version {
-        Version::Id3v22 => false,
-        Version::Id3v23 => false,
-        Version::Id3v24 => true,
-    }
-}
-
 // What stands at the front of s[at..last], where a frame of the top level may begin. So near the end that a header of
 // ten bytes has no room, nothing is told.
+#[tactic(auto, using(crate::proofs::Glances::says_none, crate::proofs::Glances::says_from, crate::proofs::Glances::is_ten))]
 pub(crate) fn glance_at(version: Version, s: &[u8], at: usize, last: usize) -> Glance
     requires { last ≤ length s.now }
     ensures { Says version (slice at last s.now) result }
 {
+    // Kept: checked_sub takes a box's tag 25 to 32 instructions more (docs/SPEED.md, the meter's aims).
     if last < at {
         return Glance::End;
     }
@@ -155,8 +118,8 @@ pub(crate) fn glance_at(version: Version, s: &[u8], at: usize, last: usize) -> G
     if left < 10 {
         return Glance::Unclear;
     }
-    if is_22(version) {
+    if version == Version::Id3v22 {
         return glance6(s, at, left - 6);
     }
-    glance10(s, at, left - 10, is_24(version))
+    glance10(s, at, left - 10, version == Version::Id3v24)
 }

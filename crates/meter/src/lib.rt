@@ -10,7 +10,7 @@ use reader::Reader;
 
 // A meter's place: the reader's, with how many frames were passed, whether one of them was short, whether one was a
 // compressed frame under a popularimeter's id, and whether the tag has fewer bytes than its header says.
-#[derive(Drop)]
+#[derive(Clone, Copy)]
 pub struct Meter {
     pub reader: Reader,
     pub frames: u64,
@@ -21,25 +21,11 @@ pub struct Meter {
 
 // A whole popularimeter of the top level. Its user lies in the work buffer or in the tag; frame is the number of its
 // frame, from 0.
-#[derive(Drop)]
+#[derive(Clone, Copy)]
 pub struct Metered {
     pub in_work: bool,
     pub user: Span,
     pub rating: u8,
     pub counter: u64,
     pub frame: u64,
-}
-
-#[derive(Drop)]
-pub enum MeterOpened {
-    Ready(Meter),
-    Refused(u8),
-}
-
-// What comes next, with the moved meter.
-#[derive(Drop)]
-pub enum Next {
-    Found(Metered, Meter),
-    End(Meter),
-    Refused(u8, Meter),
 }

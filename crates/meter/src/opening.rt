@@ -1,16 +1,18 @@
 // Opening a meter.
-ghost use Rattle.std.specs.Prelude.{◌≡◌, ◌+◌, ◌^◌, ◌<◌, ◌≤◌, min, false, length};
-ghost use Rattle.format.specs.Header.{size_of};
+ghost use Rattle.std.specs.Prelude.{◌≡◌, ◌+◌, ◌^◌, ◌<◌, ◌≤◌, min, false, Some, length};
+ghost use Rattle.std.proofs.Math.Seq.{slice};
+ghost use Rattle.format.specs.Numbers.{number};
+ghost use Rattle.format.specs.Header.{flags_of, size_of};
 ghost use Rattle.reader.specs.Reader.{reader_at};
 ghost use Rattle.meter.specs.Meter.{is_missing, meter_at, meter_open_of};
-ghost use Rattle.meter.specs.Openings.{front_if, front_of};
+ghost use Rattle.meter.specs.Openings.{front_of};
 
-use crate::{Meter, MeterOpened};
+use crate::Meter;
 use format::Version;
-use format::small::least;
+use format::refusals::Refusal;
 use loads::read32;
 use reader::opening::open as open_reader;
-use reader::{Opened, Reader, Stop};
+use reader::{Reader, Stop};
 use unsynch::decode_u32;
 
 // "ID3" and an edition's number, as one number.
@@ -32,40 +34,19 @@ fn size_of(tag: &[u8]) -> usize
 fn is_missing(tag: &[u8]) -> bool
     ensures { result ≡ is_missing tag.now }
 {
-    if tag.len() < 10 {
-        return true;
-    }
-    tag.len() - 10 < size_of(tag)
-}
-
-// The edition of a header of which no flag counts, or that it has to be looked at in full.
-#[derive(Drop)]
-enum Front {
-    Plain(Version),
-    Other,
-}
-
-// The edition where a flag is clear.
-fn where_clear(clear: bool, version: Version) -> Front
-    ensures { result ≡ front_if clear version }
-{
-    if clear {
-        Front::Plain(version)
-    } else {
-        Front::Other
-    }
+    tag.len() < 10 || tag.len() - 10 < size_of(tag)
 }
 
 // What a header says by its first four bytes as one number and its flag byte. In 2.4 the flag for unsynchronised bytes
 // says nothing.
-fn front_of(front: u32, flags: u8) -> Front
+fn front_of(front: u32, flags: u8) -> Option<Version>
     ensures { result ≡ front_of front flags }
 {
     match front {
-        ID3_2 => where_clear(flags == 0, Version::Id3v22),
-        ID3_3 => where_clear(flags == 0, Version::Id3v23),
-        ID3_4 => where_clear(flags % 0x80 == 0, Version::Id3v24),
-        _ => Front::Other,
+        ID3_2 if flags == 0 => Some(Version::Id3v22),
+        ID3_3 if flags == 0 => Some(Version::Id3v23),
+        ID3_4 if flags % 0x80 == 0 => Some(Version::Id3v24),
+        _ => None,
     }
 }
 
@@ -79,7 +60,7 @@ fn plain_reader(tag: &[u8], version: Version) -> Reader
         in_work: false,
         begin: 10,
         at: 10,
-        end: least(10 + size_of(tag), tag.len()),
+        end: (10 + size_of(tag)).min(tag.len()),
         stop: Stop::Running,
     }
 }
@@ -98,29 +79,30 @@ fn metered(reader: Reader, missing: bool) -> Meter
 }
 
 // Opens a tag with any header.
-fn open_any(work: &mut [u8], tag: &[u8]) -> MeterOpened
+fn open_any(work: &mut [u8], tag: &[u8]) -> Result<Meter, Refusal>
     ensures { (result, work.new) ≡ meter_open_of tag.now work.old }
 {
-    let opened = open_reader(work, tag);
-    match opened {
-        Opened::Ready(reader) => MeterOpened::Ready(metered(reader, is_missing(tag))),
-        Opened::Refused(k) => MeterOpened::Refused(k),
+    let reader = open_reader(work, tag)?;
+    Ok(metered(reader, is_missing(tag)))
+}
+
+// The edition of a tag whose header is plain.
+fn plain_version(tag: &[u8]) -> Option<Version>
+    ensures { (v : Version) → result ≡ Some v → (10 ≤ length tag.now) × (front_of (number (slice 0 4 tag.now)) (flags_of tag.now) ≡ Some v) }
+{
+    if tag.len() < 10 {
+        return None;
     }
+    front_of(read32(tag, 0), tag[5])
 }
 
 // Opens a tag as a reader does: a meter at its first frame. Nearly every tag has a plain header, which takes few
 // instructions.
-pub fn open(work: &mut [u8], tag: &[u8]) -> MeterOpened
+pub fn open(work: &mut [u8], tag: &[u8]) -> Result<Meter, Refusal>
     ensures { (result, work.new) ≡ meter_open_of tag.now work.old }
 {
-    if tag.len() < 10 {
-        return open_any(work, tag);
-    }
-    let front = front_of(read32(tag, 0), tag[5]);
-    match front {
-        Front::Plain(version) => {
-            MeterOpened::Ready(metered(plain_reader(tag, version), is_missing(tag)))
-        }
-        Front::Other => open_any(work, tag),
+    match plain_version(tag) {
+        Some(version) => Ok(metered(plain_reader(tag, version), is_missing(tag))),
+        None => open_any(work, tag),
     }
 }

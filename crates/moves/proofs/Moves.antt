@@ -1,17 +1,18 @@
 -- Laws of moving: what a store leaves as it was, and a move block by block, down and up. Assumes nothing.
 use mathlib.Core.Path.{◌≡◌, refl, sym, ap, ◌∙◌, subst}
 use mathlib.Core.Bool.{Bool, true, false}
-use Prim.Native.Nat.{ℕ, suc, ◌+◌, ◌-◌, ◌≤◌, ◌<◌}
+use Prim.Native.Nat.{ℕ, ◌+◌, ◌-◌, ◌≤◌, ◌<◌}
 use native.Mathlib.Omega.{arith}
 use lib.Dec.{leb}
 use borrow.Author.Tests.{leb-true, le-leb, lt-leb}
 use mathlib.Core.List.{List, ◌++◌, append-nil}
-use lib.ListN.{length, set, take, drop, length-replicate, take-append-drop}
+use lib.ListN.{length, take, drop, replicate, length-replicate, length-take, length-drop, take-append-drop}
 use lib.Seq.{slice, length-slice, slice_empty, sets, length-sets, drop-drop}
+use borrow.Rule.Slice.PartMut.{put_mid, mid_of}
 use Rattle.laws.proofs.Bools.{and_true}
 use Rattle.laws.proofs.Slices.{slice_front}
 use Rattle.laws.proofs.Cuts.{take_drop, cut_in_two}
-use Rattle.laws.proofs.Stores.{Storing, begin, same_list, same_buffer, same_place, put, puts, next_lies, all_done, copy_begin, slice_copy, take_sets, drop_behind, sets_comm, sets_append, sets_in}
+use Rattle.laws.proofs.Stores.{Storing, same_list, same_buffer, same_place, part_written, puts, copy_begin, take_sets, drop_behind, sets_comm, sets_append, sets_in}
 use Rattle.format.specs.Bytes.{pick, zeros}
 use Rattle.moves.specs.Moves.{is_movable, shifted}
 
@@ -20,12 +21,6 @@ use Rattle.moves.specs.Moves.{is_movable, shifted}
 -- a part of two lists that are the same from its start on
 slice_back : (at k : ℕ) (l m : List ℕ) → drop at l ≡ drop at m → slice at (at + k) l ≡ slice at (at + k) m
 slice_back at k l m e = sym (take_drop k at l) ∙ ap (take k) e ∙ take_drop k at m
-
--- ---- one block, by way of a copy of it
-
-pub by_way : (s z copy : List ℕ) (from at n : ℕ) → from + n ≤ length s → n ≤ length z
-    → copy ≡ sets z 0 (slice from (from + n) s) → {s' : List ℕ} → s' ≡ sets s at (slice 0 n copy) → s' ≡ sets s at (slice from (from + n) s)
-by_way s z copy from at n le room is e = e ∙ ap (sets s at) (slice_copy s z copy from (from + n) n le refl room is)
 
 -- ---- down, block by block
 
@@ -67,9 +62,9 @@ module _ {s₀ : List ℕ} (from at n : ℕ) (down : at ≤ from) (le : from + n
           behind = subst (λ (j : ℕ). drop j s' ≡ drop j s₀) e step.1;
         }
 
-    pub down_done : k ≤ n → {s' : List ℕ} → s' ≡ sets s (at + k) (slice (from + k) (from + k + (n - k)) s)
+    pub down_done : (b : ℕ) → k + b ≡ n → {s' : List ℕ} → s' ≡ sets s (at + k) (slice (from + k) (from + k + b) s)
         → s' ≡ sets s₀ at (slice from (from + n) s₀)
-    down_done h is = down_end s₀ (from + k) (from + n) le so.storing so.behind (n - k) (omega arith) is
+    down_done b ends is = down_end s₀ (from + k) (from + n) le so.storing so.behind b (omega arith) is
 
 -- ---- up, block by block
 
@@ -106,36 +101,22 @@ pub up_begin : (s₀ : List ℕ) (from at n : ℕ) → Up s₀ from at n s₀ n
 up_begin s₀ from at n = record { same = sym (ap (sets s₀ (at + n)) (slice_empty (from + n) s₀)); long = refl }
 
 module _ {s₀ : List ℕ} (from at n : ℕ) (up : from ≤ at) (le : at + n ≤ length s₀) (left : ℕ) {s : List ℕ} (so : Up s₀ from at n s left) where
-  pub up_turn : (b : ℕ) → left ≤ n → b ≤ left → {s' : List ℕ} → s' ≡ sets s (at + (left - b)) (slice (from + (left - b)) (from + (left - b) + b) s)
-      → Up s₀ from at n s' (left - b)
-  up_turn b h fits {s'} is =
-      let e : from + left ≡ from + (left - b) + b = omega arith in
-      let f : at + left ≡ at + (left - b) + b = omega arith in
+  pub up_turn : (next b : ℕ) → next + b ≡ left → left ≤ n → {s' : List ℕ} → s' ≡ sets s (at + next) (slice (from + next) (from + next + b) s)
+      → Up s₀ from at n s' next
+  up_turn next b less h is =
+      let e : from + left ≡ from + next + b = omega arith in
+      let f : at + left ≡ at + next + b = omega arith in
       let g = so.same ∙ ap (λ (k : ℕ). sets s₀ k (slice (from + left) (from + n) s₀)) f in
-      let there = g ∙ ap (λ (k : ℕ). sets s₀ (at + (left - b) + b) (slice k (from + n) s₀)) e in
+      let there = g ∙ ap (λ (k : ℕ). sets s₀ (at + next + b) (slice k (from + n) s₀)) e in
       record {
-        same = up_step s₀ (from + (left - b)) b (from + n) (at + (left - b)) (omega arith) (omega arith) (omega arith) there is;
-        long = ap length is ∙ length-sets s (at + (left - b)) (slice (from + (left - b)) (from + (left - b) + b) s) ∙ so.long;
+        same = up_step s₀ (from + next) b (from + n) (at + next) (omega arith) (omega arith) (omega arith) there is;
+        long = ap length is ∙ length-sets s (at + next) (slice (from + next) (from + next + b) s) ∙ so.long;
       }
 
-  pub up_done : left ≤ n → {s' : List ℕ} → s' ≡ sets s at (slice from (from + left) s) → s' ≡ sets s₀ at (slice from (from + n) s₀)
-  up_done h is = up_step s₀ from left (from + n) at (omega arith) up (omega arith) so.same is
-
--- ---- zeros, in a loop
-
-module _ {o₀ o : List ℕ} {p : ℕ} {l₀ : List ℕ} (to : ℕ) where
-  pub zero_turn : (at : ℕ) → at < to → Storing o₀ p l₀ o at (zeros (to - at))
-      → (at < length o) × Storing o₀ p l₀ (set o at 0) (at + 1) (zeros (to - (at + 1)))
-  zero_turn at h s =
-      let e : to - at ≡ suc (to - (at + 1)) = omega arith in
-      let t = same_list (ap zeros e) s in
-      (next_lies t, put t)
-
-  pub zeros_done : (at : ℕ) → to ≤ at → Storing o₀ p l₀ o at (zeros (to - at)) → o ≡ sets o₀ p l₀
-  zeros_done at h s = let e : to - at ≡ 0 = omega arith in (all_done (same_list (ap zeros e) s)).1
-
-pub zeros_begin : (o : List ℕ) (from to : ℕ) → from ≤ to → to ≤ length o → Storing o from (zeros (to - from)) o from (zeros (to - from))
-zeros_begin o from to h room = begin o from (zeros (to - from)) (omega (arith, length-replicate {A = ℕ} (to - from) 0))
+  pub up_done : (b : ℕ) → b ≡ left → left ≤ n → {s' : List ℕ} → s' ≡ sets s at (slice from (from + b) s) → s' ≡ sets s₀ at (slice from (from + n) s₀)
+  up_done b e h is =
+      let f : from + b ≡ from + left = omega arith in
+      up_step s₀ from left (from + n) at (omega arith) up (omega arith) so.same (is ∙ ap (λ (k : ℕ). sets s at (slice from k s)) f)
 
 -- ---- the whole
 
@@ -188,14 +169,18 @@ module _ (s : List ℕ) (from to at : ℕ) where
       ends : from + (to - from) ≡ to
       ends = omega arith
 
-      pub shifted_down : at < from → {m s' : List ℕ} → m ≡ sets s at (slice from (from + (to - from)) s)
-          → s' ≡ sets m (at + (to - from)) (zeros (to - (at + (to - from)))) → s' ≡ shifted from to at s
-      shifted_down h {m} {s'} part freed =
+      pub shifted_down : at < from → {m : List ℕ} → m ≡ sets s at (slice from (from + (to - from)) s) → {z : List ℕ}
+          → z ≡ replicate (length (mid_of (at + (to - from)) (to - (at + (to - from))) m)) 0 → put_mid (at + (to - from)) (to - (at + (to - from))) m z ≡ shifted from to at s
+      shifted_down h {m} part {z} freed =
           let bytes : List ℕ = slice from to s in
-          let e : at + (to - from) ≡ at + length bytes = omega (arith, length-slice from to s there) in
-          let f : to - (at + (to - from)) ≡ from - at = omega arith in
-          freed
-          ∙ ap (λ (k : ℕ). sets m (at + (to - from)) (zeros k)) f
+          let p : ℕ = at + (to - from) in
+          let same : length m ≡ length s = ap length part ∙ length-sets s at (slice from (from + (to - from)) s) in
+          let wide : length (mid_of p (to - p) m) ≡ from - at = rw (length-take, length-drop) (omega (arith, same)) in
+          let free : z ≡ zeros (from - at) = freed ∙ ap zeros wide in
+          let n : length (zeros (from - at)) ≡ from - at = length-replicate (from - at) 0 in
+          let e : p ≡ at + length bytes = omega (arith, length-slice from to s there) in
+          let f : to - p ≡ length (zeros (from - at)) = omega (arith, n) in
+          rw free (part_written m p (to - p) (zeros (from - at)) f (omega (arith, same, n)))
           ∙ ap (λ (k : ℕ). sets m k (zeros (from - at))) e
           ∙ ap (λ (l : List ℕ). sets l (at + length bytes) (zeros (from - at))) (part ∙ ap (λ (k : ℕ). sets s at (slice from k s)) ends)
           ∙ sym (sets_append s at bytes (zeros (from - at)))

@@ -10,10 +10,10 @@ use Rattle.format.specs.declared.Record.{Record}
 use Rattle.format.specs.Numbered.{version_number}
 use Rattle.reader.specs.Reader.{header_of, open_of, step_of}
 use Rattle.reader.specs.declared.Header.{Header}
-use Rattle.reader.specs.declared.Headed.{Headed}
 use Rattle.reader.specs.declared.Reader.{Reader}
-use Rattle.reader.specs.declared.Opened.{Opened}
-use Rattle.reader.specs.declared.Step.{Step}
+use Rattle.reader.specs.Reader.{Step}
+use Rattle.std.specs.Prelude.{Result, Ok, Err, Some, None}
+use Rattle.format.specs.declared.refusals.Refusal.{Refusal}
 
 -- a line, and the work buffer as it stands when the line is put
 pub record Line : Type 0 where
@@ -42,9 +42,9 @@ record_in v n r tag work = record_line v n r (buffer_of r tag work)
 -- ---- the frames from a reader's place on, the first of them with number n, and the last line
 
 abbrev pub on_step : (Reader → ℕ → List ℕ → List Line) → ℕ → List ℕ → Step → List ℕ → List Line
-on_step go n tag (Step.Frame rec r) work = line (record_in r.version n rec tag work) work ∷ go r (n + 1) work
-on_step go n tag (Step.End r) work = line (end_line n) work ∷ []
-on_step go n tag (Step.Refused k r) work = line (refused_line k) work ∷ []
+on_step go n tag (Ok (Some rec), r) work = line (record_in r.version n rec tag work) work ∷ go r (n + 1) work
+on_step go n tag (Ok None, r) work = line (end_line n) work ∷ []
+on_step go n tag (Err k, r) work = line (refused_line k.number) work ∷ []
 
 -- in at most so many steps
 unfoldable pub frame_lines : ℕ → List ℕ → Reader → ℕ → List ℕ → List Line
@@ -52,9 +52,9 @@ frame_lines zero tag r n work = []
 frame_lines (suc f) tag r n work = on_step (frame_lines f tag) n tag (step_of r tag work).0 (step_of r tag work).1
 
 -- as many steps as the tag has bytes are enough (`LastLine`, crates/room)
-abbrev pub on_open : List ℕ → Opened → List ℕ → List Line
-on_open tag (Opened.Ready r) work = frame_lines (length tag) tag r 0 work
-on_open tag (Opened.Refused k) work = line (refused_line k) work ∷ []
+abbrev pub on_open : List ℕ → Result Reader Refusal → List ℕ → List Line
+on_open tag (Ok r) work = frame_lines (length tag) tag r 0 work
+on_open tag (Err k) work = line (refused_line k.number) work ∷ []
 
 -- ---- a tag
 
@@ -62,9 +62,9 @@ unfoldable pub opened_lines : List ℕ → List ℕ → List Line
 opened_lines tag work = on_open tag (open_of tag work).0 (open_of tag work).1
 
 -- a header that is refused has no line
-abbrev pub on_header : Headed → List ℕ → List ℕ → List Line
-on_header (Headed.Found h) tag work = line (header_line h) work ∷ opened_lines tag work
-on_header (Headed.Refused k) tag work = line (refused_line k) work ∷ []
+abbrev pub on_header : Result Header Refusal → List ℕ → List ℕ → List Line
+on_header (Ok h) tag work = line (header_line h) work ∷ opened_lines tag work
+on_header (Err k) tag work = line (refused_line k.number) work ∷ []
 
 unfoldable pub lines_of : List ℕ → List ℕ → List Line
 lines_of tag work = on_header (header_of tag) tag work

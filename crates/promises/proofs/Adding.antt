@@ -19,15 +19,14 @@ use Rattle.format.specs.declared.Mode.{Mode}
 use Rattle.format.proofs.Checks.{of_picked}
 use Rattle.format.proofs.Accepted.{accepted as sound}
 use Rattle.writer.specs.Writer.{is_known, begin_of, grown, Adding, add_of, Finishing, finish_of}
-use Rattle.writer.specs.Answers.{begun_writer, added_number, added_writer, finished_number, finished_count, finished_writer}
+use Rattle.writer.specs.Answers.{begun_writer, added_number, added_writer, finished_number, finished_count}
 use Rattle.writer.specs.declared.Writer.{Writer}
-use Rattle.writer.specs.declared.Begun.{Begun}
-use Rattle.writer.specs.declared.Added.{Added}
-use Rattle.writer.specs.declared.Finished.{Finished}
 use Rattle.promises.specs.Written.{Adds, none, accepted, declined, finished, WrittenAs, Written, kept_of}
 use Rattle.promises.specs.Promises.{frames_of}
 use Rattle.promises.specs.Altered.{AllKept, FinishKeeps}
 use Rattle.promises.proofs.Sounds.{Sounds, nothing, also}
+use Rattle.std.specs.Prelude.{Result, Ok, Err}
+use Rattle.format.specs.declared.refusals.Refusal.{Refusal}
 
 -- ---- one call of add
 
@@ -37,8 +36,8 @@ positive (suc k) e = omega arith
 
 -- a refused call has a number, and left writer and buffer as they were
 abbrev pub Keeps : Writer → List ℕ → Adding → Type 0
-Keeps w b (Added.Accepted n w', b') = Unit {0}
-Keeps w b (Added.Refused k w', b') = (0 < k) × ((w' ≡ w) × (b' ≡ b))
+Keeps w b ((Ok n, w'), b') = Unit {0}
+Keeps w b ((Err k, w'), b') = (0 < k.number) × ((w' ≡ w) × (b' ≡ b))
 
 pub keeps : (w : Writer) (r : Rec) (b : List ℕ) → Keeps w b (add_of w r b)
 unfolding add_of
@@ -49,8 +48,8 @@ keeps w r b =
     (λ l. of_picked (Keeps w b) (ltb (length b) (w.used + length (encode w.version w.mode r))) (λ s. (omega arith, (refl, refl))) (λ s. tt)))
 
 pub declined_keeps : (w : Writer) (b : List ℕ) (k : ℕ) (o : Adding) → Keeps w b o → added_number o.0 ≡ suc k → (added_writer o.0 ≡ w) × (o.1 ≡ b)
-declined_keeps w b k (Added.Accepted n w', b') h z = absurd (omega arith)
-declined_keeps w b k (Added.Refused j w', b') h z = h.1
+declined_keeps w b k ((Ok n, w'), b') h z = absurd (omega arith)
+declined_keeps w b k ((Err j, w'), b') h z = h.1
 
 -- an accepted call passed the checks: it lost the record and left both as they were, or it had the room and put the frame after those there
 data Took (w : Writer) (r : Rec) (b : List ℕ) : Writer → List ℕ → Type 0 where
@@ -126,16 +125,8 @@ next w r rs b w'' b'' f (put l passed room) c =
       sounds = rw l (also (sound v m r passed f) c.sounds);
     }
 
-abbrev WriterOf : Writer → Finishing → Type 0
-WriterOf w o = finished_writer o.0 ≡ w
-
 pub finish_keeps : FinishKeeps
-unfolding finish_of
-finish_keeps w padding b output =
-    let frames = take w.used b in
-    let tag = tag_of w.version w.mode padding frames in
-    of_picked (WriterOf w) (leb (2 ^ 28) (length (region_bytes w.version w.mode padding frames))) (λ t. refl)
-    (λ t. of_picked (WriterOf w) (ltb (length b) w.used || ltb (length output) (length tag)) (λ s. refl) (λ s. refl))
+finish_keeps w padding b output = refl
 
 collected : {w w' : Writer} {b b' : List ℕ} {rs : List Rec} → w.used ≤ length b → Adds w b rs w' b' → Collected w b rs w' b'
 collected h none = record { version = refl; mode = refl; altered = refl; within = h; bytes = sym (append-nil _); sounds = nothing }
@@ -158,8 +149,8 @@ pub record Finishes (w : Writer) (padding : ℕ) (b : List ℕ) (n : ℕ) (left 
 
 -- a refused call has a number
 abbrev pub Numbered : Finishing → Type 0
-Numbered (Finished.Done n w, left) = Unit {0}
-Numbered (Finished.Refused k w, left) = 0 < k
+Numbered (Ok n, left) = Unit {0}
+Numbered (Err k, left) = 0 < k.number
 
 pub numbered : (w : Writer) (padding : ℕ) (b output : List ℕ) → Numbered (finish_of w padding b output)
 unfolding finish_of
@@ -197,7 +188,7 @@ done_tag w padding b output =
 abbrev start_of : ℕ → ℕ → Bool → Writer
 start_of version mode altered = record { version = version_of version; mode = mode_of mode; altered = altered; used = 0 }
 
-abbrev IsStart : ℕ → ℕ → Bool → Writer → Begun → Type 0
+abbrev IsStart : ℕ → ℕ → Bool → Writer → Result Writer Refusal → Type 0
 IsStart version mode altered w o = begun_writer o ≡ w ∷ [] → w ≡ start_of version mode altered
 
 pub begun_is : (version mode : ℕ) (altered : Bool) (w : Writer) → begun_writer (begin_of version mode altered) ≡ w ∷ []

@@ -14,9 +14,9 @@ use Rattle.format.specs.declared.Mode.TheVariants.{Off, Crate, Standard}
 use Rattle.format.proofs.Numbers.{synchsafe_back}
 use Rattle.format.proofs.Tags.{tag_headed}
 use Rattle.reader.specs.Reader.{header_of, fields_of}
-use Rattle.reader.specs.declared.Headed.{Headed}
 use Rattle.promises.specs.Promises.{frames_of, WrittenHeader}
 use Rattle.promises.proofs.Adding.{told_written}
+use Rattle.std.specs.Prelude.{Ok}
 
 pub size_there : (v : Version) (m : Mode) (p : ℕ) (f : List ℕ) → length (region_bytes v m p f) < 2 ^ 28 → size_of (tag_of v m p f) ≡ length (region_bytes v m p f)
 unfolding tag_of digits
@@ -34,7 +34,7 @@ not_extended v Standard p f = refl
 
 -- The header that is read is the one that was written.
 header_there : (v : Version) (m : Mode) (p : ℕ) (f : List ℕ) → length (region_bytes v m p f) < 2 ^ 28
-    → header_of (tag_of v m p f) ≡ Headed.Found (record { version = v; flags = flags_byte m; size = length (tag_of v m p f) - 10; ext = 0 })
+    → header_of (tag_of v m p f) ≡ Ok (record { version = v; flags = flags_byte m; size = length (tag_of v m p f) - 10; ext = 0 })
 unfolding header_of
 header_there v m p f small =
     let h = tag_headed v m p f small in
@@ -42,7 +42,7 @@ header_there v m p f small =
     let size : size_of tag ≡ length tag - 10 = omega (arith, size_there v m p f small, h.long) in
     let fields : fields_of tag ≡ record { version = v; flags = flags_byte m; size = length tag - 10; ext = 0 } =
     λ i. record { version = h.version i; flags = flags_there v m p f i; size = size i; ext = not_extended v m p f i } in
-    rw h.taken (ap Headed.Found fields)
+    rw h.taken (ap Ok fields)
 
 pub written_header : WrittenHeader
 written_header version mode padding records tag w =

@@ -9,19 +9,18 @@ use Rattle.format.specs.Record.{content_of, deviations_of, buffer_of, Rec, view_
 use Rattle.format.specs.declared.Version.{Version}
 use Rattle.format.specs.declared.Fields.{Fields}
 use Rattle.format.specs.declared.Record.{Record}
-use Rattle.reader.specs.Reader.{step_of}
+use Rattle.reader.specs.Reader.{step_of, Step}
 use Rattle.reader.specs.declared.Reader.{Reader}
-use Rattle.reader.specs.declared.Step.{Step}
-use Rattle.meter.specs.Meter.{one_more, with_reader, passed_over, metered_as, metered_in, Nexted, or_on, on_step, left_of, next_of}
+use Rattle.meter.specs.Meter.{one_more, with_reader, passed_over, metered_as, metered_in, Nexted, or_on, on_step, left_of, next_of, Next}
 use Rattle.meter.specs.declared.Meter.{Meter}
 use Rattle.meter.specs.declared.Metered.{Metered}
-use Rattle.meter.specs.declared.Next.{Next}
 use Rattle.meter.proofs.Nexts.{step_left, next_eq}
 use Rattle.promises.specs.Reading.{Ending, unfinished, ending_of, Reading, and_record, read_from}
 use Rattle.promises.specs.Reading as reading
 use Rattle.promises.specs.Metering.{Counted, counted_as, counted_in, counters_from, Metering, stopped, counted_of, on_next, meter_from}
 use Rattle.promises.specs.Money.{any_short, any_packed}
 use Rattle.promises.proofs.Bounds.{step_version, refused_again, ended_again}
+use Rattle.std.specs.Prelude.{Ok, Err, Some, None}
 
 -- ---- one frame
 
@@ -113,15 +112,15 @@ module _ (v : Version) (n k : ℕ) (tag : List ℕ)
       → ((reading.on_step (read_from n tag) tag x left).1 ≡ unfinished → ⊥)
       → Meters v m (reading.on_step (read_from n tag) tag x left)
       (let o = on_step (λ m w. next_of m tag w) m x left in on_next (meter_from k tag) tag o.0 o.1)
-  on_meters m work left (Step.Frame rec r) e kept fin =
+  on_meters m work left (Ok (Some rec), r) e kept fin =
       let m' = passed_over rec.heading r m in
       let kept' : r.version ≡ v = step_version m.reader tag work rec r e ∙ kept in
       frame_meters left (same m.frames rec tag left)
       (λ o b. turn v m rec r tag left (read_from n tag r left) o kept' b)
       (go k m' left (omega arith) kept' fin)
       (go (suc k) m' left (omega arith) kept' fin)
-  on_meters m work left (Step.End r) e kept fin = stops v m r (ending_of 0)
-  on_meters m work left (Step.Refused j r) e kept fin = stops v m r (ending_of j)
+  on_meters m work left (Ok None, r) e kept fin = stops v m r (ending_of 0)
+  on_meters m work left (Err j, r) e kept fin = stops v m r (ending_of j.number)
 
 -- In at least as many calls as the reader has steps, if these are enough.
 pub from_meters : (v : Version) (n k : ℕ) (tag : List ℕ) (m : Meter) (work : List ℕ) → n ≤ k → m.reader.version ≡ v
@@ -137,9 +136,9 @@ from_meters v (suc n) (suc k) tag m work h kept fin =
 
 -- what a call answers it answers again
 abbrev pub Stays : Next → Type 0
-Stays (Next.Found p m) = Unit {0}
-Stays (Next.End m) = (tag work : List ℕ) → next_of m tag work ≡ (Next.End m, work)
-Stays (Next.Refused k m) = (tag work : List ℕ) → next_of m tag work ≡ (Next.Refused k m, work)
+Stays (Ok (Some p), m) = Unit {0}
+Stays (Ok None, m) = (tag work : List ℕ) → next_of m tag work ≡ ((Ok None, m), work)
+Stays (Err k, m) = (tag work : List ℕ) → next_of m tag work ≡ ((Err k, m), work)
 
 module _ (tag : List ℕ) (m : Meter) (work left : List ℕ)
     (go : (m' : Meter) (w : List ℕ) → left_of m'.reader < left_of m.reader → Stays (next_of m' tag w).0) where
@@ -148,10 +147,10 @@ module _ (tag : List ℕ) (m : Meter) (work left : List ℕ)
   or_stays (p ∷ ps) m' h = tt
 
   on_stays : (x : Step) → step_of m.reader tag work ≡ (x, left) → Stays (on_step (λ m w. next_of m tag w) m x left).0
-  on_stays (Step.Frame rec r) e = or_stays (metered_in m.frames rec) (passed_over rec.heading r m) (step_left m.reader tag work rec r (ap (λ (o : Step × List ℕ). o.0) e))
-  on_stays (Step.End r) e =
+  on_stays (Ok (Some rec), r) e = or_stays (metered_in m.frames rec) (passed_over rec.heading r m) (step_left m.reader tag work rec r (ap (λ (o : Step × List ℕ). o.0) e))
+  on_stays (Ok None, r) e =
       λ tag' work'. next_eq (with_reader r m) tag' work' ∙ rw (ended_again m.reader r tag work tag' work' (ap (λ (o : Step × List ℕ). o.0) e))
-  on_stays (Step.Refused k r) e =
+  on_stays (Err k, r) e =
       λ tag' work'. next_eq (with_reader r m) tag' work' ∙ rw (refused_again m.reader r tag work tag' work' k (ap (λ (o : Step × List ℕ). o.0) e))
 
 stays_for : (n : ℕ) (tag : List ℕ) (m : Meter) (work : List ℕ) → left_of m.reader < n → Stays (next_of m tag work).0

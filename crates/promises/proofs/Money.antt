@@ -8,6 +8,7 @@ use lib.ListN.{length}
 use lib.Dec.{ltb, eqb}
 use borrow.Author.Tests.{le-ltb, eqb-true, eq-eqb}
 use Rattle.laws.proofs.Bools.{false_not_true, and_true}
+use Rattle.laws.proofs.Results.{ok_same, err_not_ok}
 use Rattle.format.specs.Bytes.{pick, put_front}
 use Rattle.format.specs.Unsynch.{resynchronised}
 use Rattle.format.specs.Header.{edition_of, size_of, version_of, is_whole, header_refusal, region_start, region_end, region_of}
@@ -20,11 +21,9 @@ use Rattle.format.proofs.Checks.{of_picked}
 use Rattle.format.proofs.Tags.{tag_headed}
 use Rattle.reader.specs.Reader.{reader_at, open_whole, open_of}
 use Rattle.reader.specs.declared.Reader.{Reader}
-use Rattle.reader.specs.declared.Opened.{Opened}
-use Rattle.meter.specs.Meter.{is_missing, meter_at, opened_as, meter_open_of, one_more, next_of}
+use Rattle.meter.specs.Meter.{is_missing, meter_at, opened_as, meter_open_of, one_more, next_of, Next}
 use Rattle.meter.specs.Answers.{opened_meter, next_number, next_metered, next_meter}
 use Rattle.meter.specs.declared.Meter.{Meter}
-use Rattle.meter.specs.declared.Next.{Next}
 use Rattle.promises.specs.Written.{kept_of}
 use Rattle.promises.specs.Reading.{Ending, ended, unfinished, Reading, on_open, read_for, read_all}
 use Rattle.promises.specs.Promises.{NoneShort, none as none_left, also as also-whole, frames_of}
@@ -38,30 +37,31 @@ use Rattle.promises.proofs.Altered.{kept_back}
 use Rattle.promises.proofs.Headers.{size_there}
 use Rattle.promises.proofs.Bounds.{few_frames, finishes}
 use Rattle.promises.proofs.Metering.{frames_from, from_meters, Stays, stays}
+use Rattle.std.specs.Prelude.{Result, Ok, Err, Some, None}
+use Rattle.format.specs.declared.refusals.Refusal.{Refusal}
+use Rattle.format.specs.Refusals.{refusal}
 
 -- ---- opening
 
 -- a reader that was opened is of the tag's edition
-abbrev OfEdition : List ℕ → Opened × List ℕ → Type 0
-OfEdition tag o = (r : Reader) → o.0 ≡ Opened.Ready r → r.version ≡ version_of (edition_of tag)
+abbrev OfEdition : List ℕ → Result Reader Refusal × List ℕ → Type 0
+OfEdition tag o = (r : Reader) → o.0 ≡ Ok r → r.version ≡ version_of (edition_of tag)
 
-refused_edition : (tag work : List ℕ) (k : ℕ) → OfEdition tag (Opened.Refused k, work)
-refused_edition tag work k r e = cc
+refused_edition : (tag work : List ℕ) (k : Refusal) → OfEdition tag (Err k, work)
+refused_edition tag work k r e = err_not_ok e
 
-ready_edition : (tag work : List ℕ) (inWork : Bool) (begin end : ℕ) → OfEdition tag (Opened.Ready (reader_at (version_of (edition_of tag)) inWork begin end), work)
-ready_edition tag work inWork begin end r e =
-    let q : r ≡ reader_at (version_of (edition_of tag)) inWork begin end = cc in
-    ap (λ (x : Reader). x.version) q
+ready_edition : (tag work : List ℕ) (inWork : Bool) (begin end : ℕ) → OfEdition tag (Ok (reader_at (version_of (edition_of tag)) inWork begin end), work)
+ready_edition tag work inWork begin end r e = ap (λ (x : Reader). x.version) (sym (ok_same e))
 
 open_edition : (tag work : List ℕ) → OfEdition tag (open_of tag work)
 unfolding open_of open_whole
 open_edition tag work =
     let u = resynchronised (region_of tag) in
     of_picked (OfEdition tag) (not (eqb (header_refusal tag) 0))
-    (λ t. refused_edition tag work (header_refusal tag))
+    (λ t. refused_edition tag work (refusal (header_refusal tag)))
     (λ t. of_picked (OfEdition tag) (is_whole tag)
     (λ t. of_picked (OfEdition tag) (ltb (length work) (length u))
-    (λ t. refused_edition tag work 14)
+    (λ t. refused_edition tag work (refusal 14))
     (λ t. ready_edition tag (put_front u work) true 0 (length u)))
     (λ t. ready_edition tag work false (region_start tag) (region_end tag)))
 
@@ -71,21 +71,21 @@ frames_counted : (n : ℕ) (rs : List Rec) → n < 2 ^ 64 → frames_from n rs �
 frames_counted n [] h = omega arith
 frames_counted n (r ∷ rs) h = omega (arith, frames_counted (one_more n) rs (omega arith))
 
-opened_reads : (n : ℕ) (tag work : List ℕ) (x : Opened) → ((r : Reader) → x ≡ Opened.Ready r → r.version ≡ version_of (edition_of tag))
+opened_reads : (n : ℕ) (tag work : List ℕ) (x : Result Reader Refusal) → ((r : Reader) → x ≡ Ok r → r.version ≡ version_of (edition_of tag))
     → ((on_open n tag x work).1 ≡ unfinished → ⊥)
     → ((metering.on_open n tag (opened_as (is_missing tag) x) work).counted ≡ counters_of (on_open n tag x work).0)
     × ((metering.on_open n tag (opened_as (is_missing tag) x) work).ending ≡ (on_open n tag x work).1)
     × Last tag (on_open n tag x work).0 (opened_meter (opened_as (is_missing tag) x)) (metering.on_open n tag (opened_as (is_missing tag) x) work).last
-opened_reads n tag work (Opened.Ready r) edition fin =
+opened_reads n tag work (Ok r) edition fin =
     let b = from_meters (version_of (edition_of tag)) n n tag (meter_at (is_missing tag) r) work (omega arith) (edition r refl) fin in
-    let marked : Marked tag (on_open n tag (Opened.Ready r) work).0 b.last = record {
+    let marked : Marked tag (on_open n tag (Ok r) work).0 b.last = record {
       short = b.short;
       compressed = b.compressed;
       missing = b.missing;
-      frames = omega (arith, b.frames, frames_counted 0 (on_open n tag (Opened.Ready r) work).0 (omega arith));
+      frames = omega (arith, b.frames, frames_counted 0 (on_open n tag (Ok r) work).0 (omega arith));
     } in
     (b.counted, b.ending, rw b.is_last (one marked))
-opened_reads n tag work (Opened.Refused k) edition fin = (refl, refl, none)
+opened_reads n tag work (Err k) edition fin = (refl, refl, none)
 
 pub meter_reads : MeterReads
 unfolding read_for meter_all meter_open_of
@@ -97,14 +97,14 @@ meter_finishes tag work e = finishes tag work (sym (meter_reads tag work).1 ∙ 
 module _ (tag' work' : List ℕ) where
   -- a call without a popularimeter
   again : (k : ℕ) (x : Next) → Stays x → next_number x ≡ k → next_metered x ≡ [] → MeterStays k (next_meter x) work' (next_of (next_meter x) tag' work')
-  again k (Next.Found p m) s n l = absurd (let z : ◌≡◌ {A = ℕ} 0 1 = cc in omega arith)
-  again k (Next.End m) s n l = rw (s tag' work') (n, refl, refl, refl)
-  again k (Next.Refused j m) s n l = rw (s tag' work') (n, refl, refl, refl)
+  again k (Ok (Some p), m) s n l = absurd (let z : ◌≡◌ {A = ℕ} 0 1 = cc in omega arith)
+  again k (Ok None, m) s n l = rw (s tag' work') (n, refl, refl, refl)
+  again k (Err j, m) s n l = rw (s tag' work') (n, refl, refl, refl)
 
 none_metered : (k : ℕ) (x : Next) → next_number x ≡ suc k → next_metered x ≡ []
-none_metered k (Next.Found p m) n = absurd (omega arith)
-none_metered k (Next.End m) n = refl
-none_metered k (Next.Refused j m) n = refl
+none_metered k (Ok (Some p), m) n = absurd (omega arith)
+none_metered k (Ok None, m) n = refl
+none_metered k (Err j, m) n = refl
 
 pub meter_stays_refused : MeterStaysRefused
 meter_stays_refused m tag work tag' work' k n =
@@ -133,10 +133,10 @@ metering_is : (o : Metering) (cs : List Counted) (e : Ending) (l : List Meter) �
 metering_is o cs e l p q s = λ i. record { counted = p i; ending = q i; last = s i }
 
 -- opening was not refused, so that there is a meter
-last_marked : (n : ℕ) (tag work : List ℕ) (x : Opened) (rs : List Rec) (l : List Meter) → (on_open n tag x work).1 ≡ ended → Last tag rs (opened_meter (opened_as (is_missing tag) x)) l
+last_marked : (n : ℕ) (tag work : List ℕ) (x : Result Reader Refusal) (rs : List Rec) (l : List Meter) → (on_open n tag x work).1 ≡ ended → Last tag rs (opened_meter (opened_as (is_missing tag) x)) l
     → (m : Meter) × (l ≡ m ∷ []) × Marked tag rs m
-last_marked n tag work (Opened.Ready r) rs l e (one {m} marked) = (m, refl, marked)
-last_marked n tag work (Opened.Refused k) rs l e none = absurd (let z : ◌≡◌ {A = ℕ} 0 1 = cc in omega arith)
+last_marked n tag work (Ok r) rs l e (one {m} marked) = (m, refl, marked)
+last_marked n tag work (Err k) rs l e none = absurd (let z : ◌≡◌ {A = ℕ} 0 1 = cc in omega arith)
 
 pub meter_kept : MeterKept
 unfolding read_for meter_open_of

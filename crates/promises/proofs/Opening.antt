@@ -21,7 +21,8 @@ use Rattle.format.specs.declared.Mode.TheVariants.{Off, Crate, Standard}
 use Rattle.format.proofs.Unsynch.{back_with_more, unsync_off, padding_back, resync_shorter}
 use Rattle.format.proofs.Tags.{whole_by, Headed, tag_headed}
 use Rattle.reader.specs.Reader.{reader_at, open_whole, open_of}
-use Rattle.reader.specs.declared.Opened.{Opened}
+use Rattle.std.specs.Prelude.{Ok, Err}
+use Rattle.format.specs.Refusals.{refusal}
 
 -- where the frames of a reader lie
 abbrev pub source : Bool → List ℕ → List ℕ → List ℕ
@@ -48,7 +49,7 @@ pub record Opening (v : Version) (m : Mode) (tag work frames : List ℕ) : Type 
   pub end : ℕ
   pub padding : ℕ
   pub left : List ℕ
-  pub opens : open_of tag work ≡ (Opened.Ready (reader_at v (whole_by v m) begin end), left)
+  pub opens : open_of tag work ≡ (Ok (reader_at v (whole_by v m) begin end), left)
   pub lies : slice begin end (source (whole_by v m) tag left) ≡ frames ++ zeros padding
   pub same : length left ≡ length work
 
@@ -97,7 +98,7 @@ module _ (v : Version) (m : Mode) (p : ℕ) (f work : List ℕ) (small : length 
     same = front_length shown work fits;
   }
 
-  refused_whole : whole_by v m ≡ true → ltb (length work) (length shown) ≡ true → open_of tag work ≡ (Opened.Refused 14, work)
+  refused_whole : whole_by v m ≡ true → ltb (length work) (length shown) ≡ true → open_of tag work ≡ (Err (refusal 14), work)
   unfolding open_of open_whole
   refused_whole e t = rw (headed.taken, headed.whole, e, headed.version, headed.start, headed.end, headed.lies, shown_is e, t)
 
@@ -113,13 +114,13 @@ module _ (v : Version) (m : Mode) (p : ℕ) (f work : List ℕ) (small : length 
   opened room = by_whole (whole_by v m) refl room
 
   -- with any work buffer, opening lays the frames before the reader or is refused with 14
-  whole_any : whole_by v m ≡ true → (t : Bool) → ltb (length work) (length shown) ≡ t → Opening v m tag work f ⊎ (open_of tag work ≡ (Opened.Refused 14, work))
+  whole_any : whole_by v m ≡ true → (t : Bool) → ltb (length work) (length shown) ≡ t → Opening v m tag work f ⊎ (open_of tag work ≡ (Err (refusal 14), work))
   whole_any e true t = inr (refused_whole e t)
   whole_any e false t = inl (opened_whole e (ltb-false (length work) (length shown) t))
 
-  any_by : (b : Bool) → whole_by v m ≡ b → Opening v m tag work f ⊎ (open_of tag work ≡ (Opened.Refused 14, work))
+  any_by : (b : Bool) → whole_by v m ≡ b → Opening v m tag work f ⊎ (open_of tag work ≡ (Err (refusal 14), work))
   any_by true e = whole_any e (ltb (length work) (length shown)) refl
   any_by false e = inl (opened_plain e)
 
-  pub opened_any : Opening v m tag work f ⊎ (open_of tag work ≡ (Opened.Refused 14, work))
+  pub opened_any : Opening v m tag work f ⊎ (open_of tag work ≡ (Err (refusal 14), work))
   opened_any = any_by (whole_by v m) refl

@@ -10,22 +10,22 @@ use Rattle.format.specs.Unsynch.{resynchronised}
 use Rattle.format.specs.Header.{is_whole, header_refusal, region_of}
 use Rattle.format.specs.Encode.{encode, is_lost, refusal_of, region_bytes, tag_of}
 use Rattle.format.proofs.Checks.{of_picked}
-use Rattle.writer.specs.Writer.{is_known, begin_of, Adding, add_of, Finishing, finish_of}
+use Rattle.writer.specs.Writer.{is_known, begin_of, Adding, add_of, Finishing, finish_of, Added}
 use Rattle.writer.specs.Answers.{begun_number, begun_writer, added_number, added_count, added_writer, finished_number, finished_count, finished_writer}
 use Rattle.writer.specs.declared.Writer.{Writer}
-use Rattle.writer.specs.declared.Begun.{Begun}
-use Rattle.writer.specs.declared.Added.{Added}
 use Rattle.reader.specs.Reader.{header_of, open_whole, open_of, step_of}
 use Rattle.reader.specs.Answers.{headed_number, headed_fields, opened_number, opened_reader}
-use Rattle.reader.specs.declared.Headed.{Headed}
-use Rattle.reader.specs.declared.Opened.{Opened}
 use Rattle.promises.specs.Refused.{RefusedBegin, RefusedAdd, RefusedFinish, AddCounts, RefusedHeader, RefusedOpen, RefusedStep}
 use Rattle.promises.proofs.Adding.{keeps, declined_keeps}
 use Rattle.promises.proofs.Bounds.{no_record}
+use Rattle.std.specs.Prelude.{Result, Ok, Err}
+use Rattle.format.specs.declared.refusals.Refusal.{Refusal}
+use Rattle.reader.specs.declared.Header.{Header}
+use Rattle.reader.specs.declared.Reader.{Reader}
 
 -- ---- writing
 
-abbrev BeginBy : ℕ → Begun → Type 0
+abbrev BeginBy : ℕ → Result Writer Refusal → Type 0
 BeginBy k o = begun_number o ≡ suc k → (suc k ≡ 2) × (begun_writer o ≡ [])
 
 pub refused_begin : RefusedBegin
@@ -33,8 +33,8 @@ unfolding begin_of
 refused_begin version mode altered k = of_picked (BeginBy k) (is_known version mode) (λ t n. absurd (omega arith)) (λ t n. (sym n, refl))
 
 none_counted : (k : ℕ) (x : Added) → added_number x ≡ suc k → added_count x ≡ 0
-none_counted k (Added.Accepted n w) e = absurd (omega arith)
-none_counted k (Added.Refused j w) e = refl
+none_counted k (Ok n, w) e = absurd (omega arith)
+none_counted k (Err j, w) e = refl
 
 pub refused_add : RefusedAdd
 refused_add w r b k n =
@@ -42,7 +42,7 @@ refused_add w r b k n =
     (none_counted k (add_of w r b).0 n, s.0, s.1)
 
 abbrev FinishBy : Writer → List ℕ → ℕ → Finishing → Type 0
-FinishBy w output k o = finished_number o.0 ≡ suc k → (finished_count o.0 ≡ 0) × (finished_writer o.0 ≡ w) × (o.1 ≡ output)
+FinishBy w output k o = finished_number o.0 ≡ suc k → (finished_count o.0 ≡ 0) × (finished_writer w o.0 ≡ w) × (o.1 ≡ output)
 
 pub refused_finish : RefusedFinish
 unfolding finish_of
@@ -65,14 +65,14 @@ add_counts w r b =
 
 -- ---- reading
 
-abbrev HeaderBy : ℕ → Headed → Type 0
+abbrev HeaderBy : ℕ → Result Header Refusal → Type 0
 HeaderBy k o = headed_number o ≡ suc k → headed_fields o ≡ []
 
 pub refused_header : RefusedHeader
 unfolding header_of
 refused_header tag k = of_picked (HeaderBy k) (eqb (header_refusal tag) 0) (λ t n. absurd (omega arith)) (λ t n. refl)
 
-abbrev OpenBy : List ℕ → ℕ → Opened × List ℕ → Type 0
+abbrev OpenBy : List ℕ → ℕ → Result Reader Refusal × List ℕ → Type 0
 OpenBy work k o = opened_number o.0 ≡ suc k → (opened_reader o.0 ≡ []) × (o.1 ≡ work)
 
 pub refused_open : RefusedOpen

@@ -19,7 +19,6 @@ use Rattle.format.proofs.Encoded.{flagged_by, off_flagged}
 use Rattle.format.proofs.Accepted.{Sound}
 use Rattle.format.proofs.Tags.{whole_by, off_whole}
 use Rattle.reader.specs.Reader.{open_of, Stepped}
-use Rattle.reader.specs.declared.Opened.{Opened}
 use Rattle.promises.specs.Reading.{Reading, ended, and_record, on_step, read_from, on_open, read_for, read_all}
 use Rattle.promises.specs.Promises.{frames_of}
 use Rattle.promises.specs.Rooms.{AllOrFirst, AnyRoom, OffNeedsNone, KeptAnyRoom, KeptNeedsNone}
@@ -28,6 +27,10 @@ use Rattle.promises.proofs.Adding.{told_as, all_kept}
 use Rattle.promises.proofs.Opening.{source, Opening, opened_plain, opened_any}
 use Rattle.promises.proofs.Stepping.{reader, pads, Back, NoRoom, step_any, step_plain}
 use Rattle.promises.proofs.RoundTrip.{fewer}
+use Rattle.std.specs.Prelude.{Result, Err}
+use Rattle.format.specs.declared.refusals.Refusal.{Refusal}
+use Rattle.format.specs.Refusals.{refusal}
+use Rattle.reader.specs.declared.Reader.{Reader}
 
 -- ---- the steps
 
@@ -81,11 +84,11 @@ module _ (v : Version) (m : Mode) (p : ℕ) (rs : List Rec) (work : List ℕ) (s
   abbrev tag : List ℕ
   tag = tag_of v m p (frames_of v m rs)
 
-  begins : (o : Opened × List ℕ) → open_of tag work ≡ o → read_all tag work ≡ on_open (length tag) tag o.0 o.1
+  begins : (o : Result Reader Refusal × List ℕ) → open_of tag work ≡ o → read_all tag work ≡ on_open (length tag) tag o.0 o.1
   unfolding read_for
-  begins o e = ap (λ (x : Opened × List ℕ). on_open (length tag) tag x.0 x.1) e
+  begins o e = ap (λ (x : Result Reader Refusal × List ℕ). on_open (length tag) tag x.0 x.1) e
 
-  open_any : Opening v m tag work (frames_of v m rs) ⊎ (open_of tag work ≡ (Opened.Refused 14, work)) → AllOrFirst rs (read_all tag work)
+  open_any : Opening v m tag work (frames_of v m rs) ⊎ (open_of tag work ≡ (Err (refusal 14), work)) → AllOrFirst rs (read_all tag work)
   open_any (inl o) =
       subst (AllOrFirst rs) (sym (begins _ o.opens))
       (reads_any v m o.begin o.end o.padding tag (length tag) ss (fewer v m p rs small) o.begin o.left o.lies)

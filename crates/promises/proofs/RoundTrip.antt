@@ -1,6 +1,6 @@
 -- Demand 3: what was written is read back, so no two lists share a tag. Assumes nothing.
 use mathlib.Core.Path.{◌≡◌, sym, ap, ◌∙◌}
-use Prim.Native.Nat.{ℕ, zero, suc, ◌+◌, ◌^◌, ◌≤◌, ◌<◌}
+use Prim.Native.Nat.{ℕ, zero, suc, ◌^◌, ◌≤◌, ◌<◌}
 use native.Mathlib.Omega.{arith}
 use mathlib.Core.Bool.{false}
 use mathlib.Core.List.{List, [], ◌∷◌, ◌++◌, append_assoc}
@@ -20,13 +20,15 @@ use Rattle.format.proofs.Unsynch.{unsync_longer}
 use Rattle.format.proofs.Encoded.{encode_length}
 use Rattle.format.proofs.Tags.{whole_by, tag_headed}
 use Rattle.reader.specs.Reader.{Stepped}
-use Rattle.reader.specs.declared.Opened.{Opened}
 use Rattle.promises.specs.Reading.{ended, Reading, on_step, read_from, on_open, read_for, read_all}
 use Rattle.promises.specs.Promises.{NoneShort, none, also as short-also, RoundTrip, OneList, frames_of, WrittenTag}
 use Rattle.promises.proofs.Sounds.{Sounds, nothing, also}
 use Rattle.promises.proofs.Adding.{told_written}
 use Rattle.promises.proofs.Opening.{source, opened}
 use Rattle.promises.proofs.Stepping.{reader, pads, step_back}
+use Rattle.std.specs.Prelude.{Result}
+use Rattle.format.specs.declared.refusals.Refusal.{Refusal}
+use Rattle.reader.specs.declared.Reader.{Reader}
 
 -- ---- the steps
 
@@ -77,7 +79,7 @@ tag_back v m p rs work ss small room =
     let f = frames_of v m rs in
     let tag = tag_of v m p f in
     let o = opened v m p f work small room in
-    ap (λ (x : Opened × List ℕ). on_open (length tag) tag x.0 x.1) o.opens
+    ap (λ (x : Result Reader Refusal × List ℕ). on_open (length tag) tag x.0 x.1) o.opens
     ∙ reads v m (length tag) o.begin o.begin o.end o.padding tag o.left ss (omega (arith, o.same)) o.lies (fewer v m p rs small)
 
 -- ---- the promises

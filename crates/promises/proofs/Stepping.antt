@@ -20,7 +20,6 @@ use Rattle.format.specs.Encode.{body_bytes, stored_of, encode}
 use Rattle.format.specs.declared.Version.{Version}
 use Rattle.format.specs.declared.Version.TheVariants.{Id3v22, Id3v23, Id3v24}
 use Rattle.format.specs.declared.Mode.{Mode}
-use Rattle.format.specs.declared.Head.{Head}
 use Rattle.format.specs.declared.Record.{Record}
 use Rattle.format.proofs.Unsynch.{unsync_longer}
 use Rattle.format.proofs.Encoded.{flagged_by, head_back, body_there, rest_there, encode_length}
@@ -30,8 +29,9 @@ use Rattle.format.proofs.Tags.{whole_by}
 use Rattle.reader.specs.Reader.{stopped_as, step_of}
 use Rattle.reader.specs.declared.Stop.{Stop}
 use Rattle.reader.specs.declared.Reader.{Reader}
-use Rattle.reader.specs.declared.Step.{Step}
 use Rattle.promises.proofs.Opening.{source}
+use Rattle.std.specs.Prelude.{Ok, Err, Some, None}
+use Rattle.format.specs.Refusals.{refusal}
 
 -- a reader of a finished tag that goes on at a place
 abbrev pub reader : Version → Bool → ℕ → ℕ → ℕ → Reader
@@ -39,7 +39,7 @@ reader v inWork begin at end = record { version = v; in_work = inWork; begin = b
 
 -- ---- the padding
 
-no_frame : (v : Version) (n : ℕ) → head_of v 1 (zeros n) ≡ Head.Nothing
+no_frame : (v : Version) (n : ℕ) → head_of v 1 (zeros n) ≡ Ok None
 unfolding head_of
 no_frame Id3v22 zero = refl
 no_frame Id3v23 zero = refl
@@ -49,7 +49,7 @@ no_frame Id3v23 (suc n) = rw or-true
 no_frame Id3v24 (suc n) = rw or-true
 
 pub pads : (v : Version) (inWork : Bool) (begin at end n : ℕ) (tag work : List ℕ) → slice at end (source inWork tag work) ≡ zeros n
-    → step_of (reader v inWork begin at end) tag work ≡ (Step.End (stopped_as Stop.Ended (reader v inWork begin at end)), work)
+    → step_of (reader v inWork begin at end) tag work ≡ ((Ok None, stopped_as Stop.Ended (reader v inWork begin at end)), work)
 unfolding step_of frame_of on_shown
 pads v false begin at end n tag work e = rw (e, no_frame v n)
 pads v true begin at end n tag work e = rw (e, no_frame v n)
@@ -71,7 +71,7 @@ pub record Back (v : Version) (inWork : Bool) (begin at end : ℕ) (tag work : L
   pub rec : Record
   pub next : ℕ
   pub left : List ℕ
-  pub steps : step_of (reader v inWork begin at end) tag work ≡ (Step.Frame rec (reader v inWork begin next end), left)
+  pub steps : step_of (reader v inWork begin at end) tag work ≡ ((Ok (Some rec), reader v inWork begin next end), left)
   pub view : view_of rec tag left ≡ r
   pub follows : slice next end (source inWork tag left) ≡ rest
   pub same : length left ≡ length work
@@ -96,7 +96,7 @@ module _ (v : Version) (m : Mode) (begin at end : ℕ) (tag work : List ℕ) (r 
   -- not flagged: shown where it lies
   plain_step : (inWork : Bool) → flagged_by v m ≡ false → slice at end (source inWork tag work) ≡ encode v m r ++ rest
       → step_of (reader v inWork begin at end) tag work
-      ≡ (Step.Frame (record_at v m r sound inWork (at - begin) (at + head_len v)) (reader v inWork begin (at + (head_len v + length stored)) end), work)
+      ≡ ((Ok (Some (record_at v m r sound inWork (at - begin) (at + head_len v))), reader v inWork begin (at + (head_len v + length stored)) end), work)
   unfolding step_of
   plain_step false f e = rw (e, frame_plain v m r sound begin at rest false work f)
   plain_step true f e = rw (e, frame_plain v m r sound begin at rest true [] f)
@@ -149,7 +149,7 @@ module _ (v : Version) (m : Mode) (begin at end : ℕ) (tag work : List ℕ) (r 
 
   -- a step that is refused with 14
   abbrev pub NoRoom : Bool → Type 0
-  NoRoom w = step_of (reader v w begin at end) tag work ≡ (Step.Refused 14 (stopped_as (Stop.Failed 14) (reader v w begin at end)), work)
+  NoRoom w = step_of (reader v w begin at end) tag work ≡ ((Err (refusal 14), stopped_as (Stop.Failed (refusal 14)) (reader v w begin at end)), work)
 
   -- a flagged body that is longer than the work buffer
   flagged_refused : flagged_by v m ≡ true → ltb (length work) (length body) ≡ true → slice at end tag ≡ encode v m r ++ rest → NoRoom false

@@ -1,14 +1,13 @@
 -- A tag metered whole: opening, then calls for the next popularimeter, each with the work buffer as the call before left it. Assumes nothing.
-use Rattle.std.specs.Prelude.{ℕ, zero, suc, List, [], ◌∷◌, ◌++◌, length}
+use Rattle.std.specs.Prelude.{ℕ, zero, suc, List, [], ◌∷◌, ◌++◌, length, Result}
 use Rattle.format.specs.Bytes.{pick, part}
 use Rattle.format.specs.Record.{Content, text, popularimeter, table, chapter, contents, raw, Rec}
-use Rattle.meter.specs.Meter.{meter_open_of, one_more, next_of}
+use Rattle.meter.specs.Meter.{meter_open_of, one_more, next_of, Next}
 use Rattle.meter.specs.declared.Meter.{Meter}
 use Rattle.meter.specs.declared.Metered.{Metered}
 use Rattle.meter.specs.Answers.{opened_number, opened_meter, next_number, next_metered, next_meter}
-use Rattle.meter.specs.declared.MeterOpened.{MeterOpened}
-use Rattle.meter.specs.declared.Next.{Next}
 use Rattle.promises.specs.Reading.{Ending, refused, unfinished, ending_of}
+use Rattle.format.specs.declared.refusals.Refusal.{Refusal}
 
 -- ---- the whole popularimeters of a list of records
 
@@ -76,7 +75,7 @@ abbrev pub on_meter : ℕ → List ℕ → ℕ → List Meter → List ℕ → M
 on_meter n tag k [] work = stopped (refused k) []
 on_meter n tag k (m ∷ l) work = meter_from n tag m work
 
-abbrev pub on_open : ℕ → List ℕ → MeterOpened → List ℕ → Metering
+abbrev pub on_open : ℕ → List ℕ → Result Meter Refusal → List ℕ → Metering
 on_open n tag x work = on_meter n tag (opened_number x) (opened_meter x) work
 
 -- as many calls as the tag has bytes are enough

@@ -1,12 +1,11 @@
 -- A tag read whole: opening, then steps, each with the work buffer as the call before left it (document 01, "Header and walk"). Assumes nothing.
-use Rattle.std.specs.Prelude.{ℕ, zero, suc, List, [], ◌∷◌, length}
+use Rattle.std.specs.Prelude.{ℕ, zero, suc, List, [], ◌∷◌, length, Result}
 use Rattle.format.specs.Record.{Rec, view_of}
 use Rattle.format.specs.declared.Record.{Record}
-use Rattle.reader.specs.Reader.{open_of, step_of}
+use Rattle.reader.specs.Reader.{open_of, step_of, Step}
 use Rattle.reader.specs.Answers.{opened_number, opened_reader, step_number, step_record, step_reader}
 use Rattle.reader.specs.declared.Reader.{Reader}
-use Rattle.reader.specs.declared.Opened.{Opened}
-use Rattle.reader.specs.declared.Step.{Step}
+use Rattle.format.specs.declared.refusals.Refusal.{Refusal}
 
 -- how a reading ends: at the end of the tag, with a refusal, or not within the steps allowed
 pub data Ending : Type 0 where
@@ -44,7 +43,7 @@ abbrev pub on_reader : ℕ → List ℕ → ℕ → List Reader → List ℕ →
 on_reader n tag k [] work = ([], refused k)
 on_reader n tag k (r ∷ l) work = read_from n tag r work
 
-abbrev pub on_open : ℕ → List ℕ → Opened → List ℕ → Reading
+abbrev pub on_open : ℕ → List ℕ → Result Reader Refusal → List ℕ → Reading
 on_open n tag o work = on_reader n tag (opened_number o) (opened_reader o) work
 
 unfoldable pub read_for : ℕ → List ℕ → List ℕ → Reading

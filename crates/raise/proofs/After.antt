@@ -31,7 +31,7 @@ use Rattle.raise.proofs.Stored.{field_is, at_is, mine_kind, mine_user, kind_take
 use Rattle.raise.proofs.Search.{found, places_set}
 use Rattle.raise.proofs.Stores.{same_begin}
 use Rattle.raise.proofs.Accepting.{sum_at, tag_after, Accepted}
-use Rattle.format.specs.declared.Look.{Look}
+use Rattle.std.specs.Prelude.{Ok}
 
 module _ {tag user : List ℕ} {amount : ℕ} (a : Accepted tag user amount) where
   abbrev v : Version
@@ -157,7 +157,7 @@ module _ {tag user : List ℕ} {amount : ℕ} (a : Accepted tag user amount) whe
   pub block_plain : PlainBlock (tag_version tag) block_after
   block_plain = new_plain at_block kind x long small
 
-  pub after_looks : tag_look (tag_after tag a.i amount) ≡ Look.Plain
+  pub after_looks : tag_look (tag_after tag a.i amount) ≡ Ok true
   after_looks =
       let flags : flags_of tag' ≡ flags_of tag = front_byte 10 tag' tag front_same 5 (omega arith) in
       plain_tag after_plain (plain_set was_plain.blocks i block_plain) (ap (has 0x80) flags ∙ was_plain.unflagged)

@@ -9,13 +9,12 @@ use lib.Seq.{take_all}
 use Rattle.format.specs.Bytes.{pick, zeros}
 use Rattle.format.specs.Header.{size_of}
 use Rattle.format.specs.Popularimeter.{counter_of}
-use Rattle.format.specs.Looks.{tag_look}
+use Rattle.format.specs.Looks.{tag_look, Look}
 use Rattle.format.specs.declared.Version.{Version}
-use Rattle.format.specs.declared.Look.{Look}
 use Rattle.blocks.specs.Blocks.{joined}
 use Rattle.raise.specs.declared.users.Found.{Found}
 use Rattle.raise.specs.declared.seeking.Sought.{Sought}
-use Rattle.raise.specs.Raise.{is_mine, field_in, field_at, places_from, block_at, counted_tag, raise_to, on_places, on_tag, tag_version, tag_blocks, raised_of}
+use Rattle.raise.specs.Raise.{Answer, is_mine, field_in, field_at, places_from, block_at, counted_tag, raise_to, on_places, on_tag, tag_version, tag_blocks, raised_of}
 use Rattle.raise.specs.Frames.{looked_as}
 use Rattle.raise.specs.Seeks.{also_of, found_on, sought_by, sought_on, sought_of, raised_at, raised_by}
 use Rattle.raise.proofs.Plainness.{PlainBlock, plain_at, tag_plain}
@@ -23,6 +22,9 @@ use Rattle.raise.proofs.Stored.{mine_kind, field_ends}
 use Rattle.raise.proofs.Search.{found}
 use Rattle.raise.proofs.Stores.{ends_before}
 use Rattle.raise.proofs.Sums.{field_there}
+use Rattle.std.specs.Prelude.{Result, Ok, Err}
+use Rattle.raise.specs.declared.seeking.Sought.{Sought}
+use Rattle.format.specs.declared.refusals.Refusal.{Refusal}
 
 -- ---- what was found, by the places
 
@@ -108,7 +110,7 @@ module _ (v : Version) (user : List ℕ) where
 
 -- ---- in a plain tag
 
-module _ (tag user : List ℕ) (looks : tag_look tag ≡ Look.Plain) (i : ℕ) (l : List ℕ)
+module _ (tag user : List ℕ) (looks : tag_look tag ≡ Ok true) (i : ℕ) (l : List ℕ)
     (is : places_from (tag_version tag) user 0 (tag_blocks tag) ≡ i ∷ l) where
   abbrev v : Version
   v = tag_version tag
@@ -151,7 +153,7 @@ abbrev last_of : List ℕ → ℕ
 last_of tag = 10 + length (joined (tag_blocks tag))
 
 module _ (tag user : List ℕ) (amount : ℕ) where
-  raised_places : (l : List ℕ) → places_from (tag_version tag) user 0 (tag_blocks tag) ≡ l → tag_look tag ≡ Look.Plain
+  raised_places : (l : List ℕ) → places_from (tag_version tag) user 0 (tag_blocks tag) ≡ l → tag_look tag ≡ Ok true
       → on_places (tag_version tag) (tag_blocks tag) amount tag l ≡ raised_by (sought_by (found_at (tag_version tag) 10 (tag_blocks tag) l) (last_of tag)) amount tag
   unfolding raise_to raised_at counted_tag
   raised_places [] is looks = refl
@@ -166,14 +168,20 @@ module _ (tag user : List ℕ) (amount : ℕ) where
 
   raised_look : (x : Look) → tag_look tag ≡ x
       → on_tag tag (on_places (tag_version tag) (tag_blocks tag) amount tag (places_from (tag_version tag) user 0 (tag_blocks tag))) x
-      ≡ raised_by (looked_as Sought.Refused x (sought_on (tag_version tag) user 10 (tag_blocks tag))) amount tag
+      ≡ raised_by (looked_as x (sought_on (tag_version tag) user 10 (tag_blocks tag))) amount tag
   unfolding sought_on
-  raised_look (Look.Stops k) e = refl
-  raised_look Look.Odd e = refl
-  raised_look Look.Plain e =
+  raised_look (Err k) e = refl
+  raised_look (Ok false) e = refl
+  raised_look (Ok true) e =
       raised_places (places_from (tag_version tag) user 0 (tag_blocks tag)) refl e
       ∙ ap (λ (f : Found). raised_by (sought_by f (last_of tag)) amount tag) (sym (found_places (tag_version tag) user 10 (tag_blocks tag)))
 
-  pub raised_sought : raised_of tag user amount ≡ raised_by (sought_of tag user) amount tag
+  raised_sought : raised_of tag user amount ≡ raised_by (sought_of tag user) amount tag
   unfolding raised_of sought_of
   raised_sought = raised_look (tag_look tag) refl
+
+  pub raise_refused : {k : Refusal} → sought_of tag user ≡ Err k → ◌≡◌ {A = Answer} (Err k, tag) (raised_of tag user amount)
+  raise_refused e = ap (λ (o : Result Sought Refusal). raised_by o amount tag) (sym e) ∙ sym raised_sought
+
+  pub raise_found : {o : Sought} → sought_of tag user ≡ Ok o → raised_at o.start o.stop o.counter amount tag ≡ raised_of tag user amount
+  raise_found e = ap (λ (o : Result Sought Refusal). raised_by o amount tag) (sym e) ∙ sym raised_sought

@@ -13,7 +13,8 @@ use Rattle.format.specs.Record.{body_refusal, run_of}
 use Rattle.blocks.specs.Blocks.{blocks_for}
 use Rattle.format.specs.Looks.{all_zero, frame_look, on_look, look_for, look_at, tag_look}
 use Rattle.raise.specs.Raise.{body_in, is_mine, field_in, field_at, places_from, counted_tag, raise_to, raised_of}
-use Rattle.raise.specs.declared.Raised.{Raised}
+use Rattle.std.specs.Prelude.{Ok, Err}
+use Rattle.format.specs.Refusals.{refusal}
 
 -- a 2.4 tag: header with its size, then these bytes
 abbrev tag4 : ℕ → ℕ → List ℕ → List ℕ
@@ -52,32 +53,32 @@ abbrev inside : List ℕ
 inside = tag4 0 42 (frame4 (ascii "CHAP") 32 0 (0x63 ∷ 0 ∷ zeros 16 ++ frame4 (ascii "POPM") 4 0 (rated (ascii "a") (7 ∷ []))))
 
 pub record Computed : Type 0 where
-  pub raises_23 : raised_of (alone3 (0 ∷ 255 ∷ [])) (ascii "a") 1 ≡ (Raised.Counts 256, alone3 (1 ∷ 0 ∷ []))
-  pub raises_22 : raised_of (alone2 (0 ∷ 255 ∷ [])) (ascii "a") 1 ≡ (Raised.Counts 256, alone2 (1 ∷ 0 ∷ []))
-  pub data_length : raised_of (lengthened 7) (ascii "a") 1 ≡ (Raised.Counts 8, lengthened 8)
-  pub twelve : raised_of (alone 15 0 (ascii "a") (zeros 11 ++ (255 ∷ []))) (ascii "a") 1 ≡ (Raised.Counts 256, alone 15 0 (ascii "a") (zeros 10 ++ (1 ∷ 0 ∷ [])))
-  pub no_bytes : raised_of (alone 3 0 (ascii "a") []) (ascii "a") 0 ≡ (Raised.Counts 0, alone 3 0 (ascii "a") [])
-  pub no_bytes_one : (raised_of (alone 3 0 (ascii "a") []) (ascii "a") 1).0 ≡ Raised.Refused 44
-  pub largest : raised_of (alone 11 0 (ascii "a") (replicate 8 255)) (ascii "a") 0 ≡ (Raised.Counts 0xFFFF_FFFF_FFFF_FFFF, alone 11 0 (ascii "a") (replicate 8 255))
-  pub largest_one : (raised_of (alone 11 0 (ascii "a") (replicate 8 255)) (ascii "a") 1).0 ≡ Raised.Refused 43
-  pub nobody : raised_of (alone 3 0 [] (7 ∷ [])) [] 1 ≡ (Raised.Counts 8, alone 3 0 [] (8 ∷ []))
-  pub high_user : (raised_of (alone 4 0 (0xE9 ∷ []) (7 ∷ [])) (0xE9 ∷ []) 1).0 ≡ Raised.Counts 8
-  pub chapter_only : (raised_of inside (ascii "a") 1).0 ≡ Raised.Refused 41
-  pub raises : raised_of (two (0 ∷ 255 ∷ []) (0 ∷ 1 ∷ [])) (ascii "a") 1 ≡ (Raised.Counts 256, two (1 ∷ 0 ∷ []) (0 ∷ 1 ∷ []))
-  pub other : raised_of (two (0 ∷ 255 ∷ []) (0 ∷ 1 ∷ [])) (ascii "b") 65534 ≡ (Raised.Counts 65535, two (0 ∷ 255 ∷ []) (255 ∷ 255 ∷ []))
-  pub short_padding : (raised_of (one 0 (0 ∷ [])) (ascii "a") 1).0 ≡ Raised.Refused 40
-  pub last_padding : (raised_of (one 0 (0 ∷ 0 ∷ [])) (ascii "a") 1).0 ≡ Raised.Counts 8
-  pub not_zero : (raised_of (one 0 (0 ∷ 1 ∷ [])) (ascii "a") 1).0 ≡ Raised.Refused 40
-  pub flagged : (raised_of (one 2 (0 ∷ 0 ∷ [])) (ascii "a") 1).0 ≡ Raised.Refused 40
-  pub compressed : (raised_of (one 8 (0 ∷ 0 ∷ [])) (ascii "a") 1).0 ≡ Raised.Refused 40
-  pub encrypted : (raised_of (one 4 (0 ∷ 0 ∷ [])) (ascii "a") 1).0 ≡ Raised.Refused 8
-  pub absent : (raised_of (one 0 (0 ∷ 0 ∷ [])) (ascii "b") 1).0 ≡ Raised.Refused 41
-  pub with_zero : (raised_of (one 0 (0 ∷ 0 ∷ [])) (ascii "a" ++ (0 ∷ [])) 1).0 ≡ Raised.Refused 41
+  pub raises_23 : raised_of (alone3 (0 ∷ 255 ∷ [])) (ascii "a") 1 ≡ (Ok 256, alone3 (1 ∷ 0 ∷ []))
+  pub raises_22 : raised_of (alone2 (0 ∷ 255 ∷ [])) (ascii "a") 1 ≡ (Ok 256, alone2 (1 ∷ 0 ∷ []))
+  pub data_length : raised_of (lengthened 7) (ascii "a") 1 ≡ (Ok 8, lengthened 8)
+  pub twelve : raised_of (alone 15 0 (ascii "a") (zeros 11 ++ (255 ∷ []))) (ascii "a") 1 ≡ (Ok 256, alone 15 0 (ascii "a") (zeros 10 ++ (1 ∷ 0 ∷ [])))
+  pub no_bytes : raised_of (alone 3 0 (ascii "a") []) (ascii "a") 0 ≡ (Ok 0, alone 3 0 (ascii "a") [])
+  pub no_bytes_one : (raised_of (alone 3 0 (ascii "a") []) (ascii "a") 1).0 ≡ Err (refusal 44)
+  pub largest : raised_of (alone 11 0 (ascii "a") (replicate 8 255)) (ascii "a") 0 ≡ (Ok 0xFFFF_FFFF_FFFF_FFFF, alone 11 0 (ascii "a") (replicate 8 255))
+  pub largest_one : (raised_of (alone 11 0 (ascii "a") (replicate 8 255)) (ascii "a") 1).0 ≡ Err (refusal 43)
+  pub nobody : raised_of (alone 3 0 [] (7 ∷ [])) [] 1 ≡ (Ok 8, alone 3 0 [] (8 ∷ []))
+  pub high_user : (raised_of (alone 4 0 (0xE9 ∷ []) (7 ∷ [])) (0xE9 ∷ []) 1).0 ≡ Ok 8
+  pub chapter_only : (raised_of inside (ascii "a") 1).0 ≡ Err (refusal 41)
+  pub raises : raised_of (two (0 ∷ 255 ∷ []) (0 ∷ 1 ∷ [])) (ascii "a") 1 ≡ (Ok 256, two (1 ∷ 0 ∷ []) (0 ∷ 1 ∷ []))
+  pub other : raised_of (two (0 ∷ 255 ∷ []) (0 ∷ 1 ∷ [])) (ascii "b") 65534 ≡ (Ok 65535, two (0 ∷ 255 ∷ []) (255 ∷ 255 ∷ []))
+  pub short_padding : (raised_of (one 0 (0 ∷ [])) (ascii "a") 1).0 ≡ Err (refusal 40)
+  pub last_padding : (raised_of (one 0 (0 ∷ 0 ∷ [])) (ascii "a") 1).0 ≡ Ok 8
+  pub not_zero : (raised_of (one 0 (0 ∷ 1 ∷ [])) (ascii "a") 1).0 ≡ Err (refusal 40)
+  pub flagged : (raised_of (one 2 (0 ∷ 0 ∷ [])) (ascii "a") 1).0 ≡ Err (refusal 40)
+  pub compressed : (raised_of (one 8 (0 ∷ 0 ∷ [])) (ascii "a") 1).0 ≡ Err (refusal 40)
+  pub encrypted : (raised_of (one 4 (0 ∷ 0 ∷ [])) (ascii "a") 1).0 ≡ Err (refusal 8)
+  pub absent : (raised_of (one 0 (0 ∷ 0 ∷ [])) (ascii "b") 1).0 ≡ Err (refusal 41)
+  pub with_zero : (raised_of (one 0 (0 ∷ 0 ∷ [])) (ascii "a" ++ (0 ∷ [])) 1).0 ≡ Err (refusal 41)
   pub twice : (raised_of (tag4 0 28 (frame4 (ascii "POPM") 4 0 (rated (ascii "a") (7 ∷ [])) ++ frame4 (ascii "POPM") 4 0 (rated (ascii "a") (7 ∷ [])))) (ascii "a") 1).0
-      ≡ Raised.Refused 42
-  pub over : (raised_of (one 0 (0 ∷ 0 ∷ [])) (ascii "a") 0xFFFF_FFFF_FFFF_FFFF).0 ≡ Raised.Refused 43
-  pub wide : (raised_of (one 0 (0 ∷ 0 ∷ [])) (ascii "a") 249).0 ≡ Raised.Refused 44
-  pub full : (raised_of (one 0 (0 ∷ 0 ∷ [])) (ascii "a") 248).0 ≡ Raised.Counts 255
+      ≡ Err (refusal 42)
+  pub over : (raised_of (one 0 (0 ∷ 0 ∷ [])) (ascii "a") 0xFFFF_FFFF_FFFF_FFFF).0 ≡ Err (refusal 43)
+  pub wide : (raised_of (one 0 (0 ∷ 0 ∷ [])) (ascii "a") 249).0 ≡ Err (refusal 44)
+  pub full : (raised_of (one 0 (0 ∷ 0 ∷ [])) (ascii "a") 248).0 ≡ Ok 255
 
 pub computed : Computed
 unfolding kind_of first zero_at zeros_in digits onto utf8_from ext_of header_refusal head_of names_len body_refusal run_of blocks_for all_zero frame_look on_look look_for look_at tag_look body_in is_mine field_in field_at places_from counted_tag raise_to raised_of

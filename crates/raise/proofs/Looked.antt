@@ -9,15 +9,14 @@ use lib.Seq.{slice, length-slice, take-take}
 use Rattle.laws.proofs.Slices.{slice_drop, take_drop_take}
 use Rattle.laws.proofs.Cuts.{take_drop, cut_in_two}
 use Rattle.format.specs.Bytes.{span, zero_at}
-use Rattle.format.specs.Frame.{head_of}
+use Rattle.format.specs.Frame.{head_of, head}
 use Rattle.format.specs.Popularimeter.{counter_in, counter_of}
 use Rattle.format.specs.Walk.{shown_kind}
-use Rattle.format.specs.Looks.{both, plain_if, frame_look, on_look, look_at}
+use Rattle.format.specs.Looks.{both, plain_if, frame_look, on_look, look_at, Look}
 use Rattle.format.specs.declared.Version.{Version}
 use Rattle.format.specs.declared.Kind.{Kind}
 use Rattle.format.specs.declared.Span.{Span}
 use Rattle.format.specs.declared.Head.{Head}
-use Rattle.format.specs.declared.Look.{Look}
 use Rattle.format.proofs.Fronts.{same_head}
 use Rattle.format.proofs.Looking.{look_head, frame_plain}
 use Rattle.walk.specs.declared.plain.Seen.{Seen}
@@ -31,6 +30,8 @@ use Rattle.raise.specs.Raise.{is_popularimeter, same_bytes, user_of, is_mine, fi
 use Rattle.raise.specs.Seeks.{also_of, found_on}
 use Rattle.raise.proofs.Stored.{mine_is, field_is, at_is}
 use Rattle.raise.proofs.Steps.{blocks_next}
+use Rattle.std.specs.Prelude.{Result, Option, Ok, Err, Some, None}
+use Rattle.format.specs.declared.refusals.Refusal.{Refusal}
 
 -- ---- what is seen
 
@@ -42,7 +43,7 @@ pub record Met (v : Version) (at end : ℕ) (s : List ℕ) (next : ℕ) (odd : B
   pub short : Bool
   pub first : ℕ
   pub len : ℕ
-  pub head : head_of v 1 (slice at end s) ≡ Head.Found id compressed flagged short first len
+  pub head : head_of v 1 (slice at end s) ≡ Ok (Some (head id compressed flagged short first len))
   pub kind_is : shown_kind v id compressed ≡ kind
   pub next_is : at + first + len ≡ next
   pub looks : frame_look v (look_at v 2) id compressed flagged short (take len (drop first (slice at end s))) ≡ plain_if (not odd)
@@ -64,18 +65,18 @@ pub record MetMeter (v : Version) (at end : ℕ) (s : List ℕ) (next : ℕ) (od
   pub counter_is : counter_in (body_of met) ≡ counter
 
 -- what is seen at a place, and what it says
-pub data Says (v : Version) (at end : ℕ) (s : List ℕ) : Seen → Type 0 where
-  ends : head_of v 1 (slice at end s) ≡ Head.Nothing → Says v at end s Seen.End
-  stops : {k : ℕ} → look_at v 1 (slice at end s) ≡ Look.Stops k → Says v at end s (Seen.Stops k)
-  other : {next : ℕ} {odd : Bool} → MetOther v at end s next odd → Says v at end s (Seen.Frame next odd)
+pub data Says (v : Version) (at end : ℕ) (s : List ℕ) : Result (Option Seen) Refusal → Type 0 where
+  ends : head_of v 1 (slice at end s) ≡ Ok None → Says v at end s (Ok None)
+  stops : {k : Refusal} → look_at v 1 (slice at end s) ≡ Err k → Says v at end s (Err k)
+  other : {next : ℕ} {odd : Bool} → MetOther v at end s next odd → Says v at end s (Ok (Some (Seen.Frame next odd)))
   meter : {next : ℕ} {odd : Bool} {user : Span} {rating counter : ℕ} → MetMeter v at end s next odd user counter
-      → Says v at end s (Seen.Popularimeter next odd user rating counter)
+      → Says v at end s (Ok (Some (Seen.Popularimeter next odd user rating counter)))
 
 module _ (v : Version) (at end : ℕ) (s : List ℕ) where
   abbrev b : List ℕ
   b = slice at end s
 
-  module _ (id : ℕ) (c f sh : Bool) (first len : ℕ) (e : head_of v 1 b ≡ Head.Found id c f sh first len) where
+  module _ (id : ℕ) (c f sh : Bool) (first len : ℕ) (e : head_of v 1 b ≡ Ok (Some (head id c f sh first len))) where
     abbrev body : List ℕ
     body = take len (drop first b)
 
@@ -96,31 +97,31 @@ module _ (v : Version) (at end : ℕ) (s : List ℕ) where
 
     by_look : (x : Look) → look ≡ x → Says v at end s (seen_as x (shown_kind v id c) (at + first) (at + first + len) body)
     unfolding on_look
-    by_look (Look.Stops k) l = let stops : look_at v 1 b ≡ Look.Stops k = look_head v 1 b _ e ∙ rw l in Says.stops stops
-    by_look Look.Odd l = by_kind (shown_kind v id c) true refl l
-    by_look Look.Plain l = by_kind (shown_kind v id c) false refl l
+    by_look (Err k) l = let stops : look_at v 1 b ≡ Err k = look_head v 1 b _ e ∙ rw l in Says.stops stops
+    by_look (Ok false) l = by_kind (shown_kind v id c) true refl l
+    by_look (Ok true) l = by_kind (shown_kind v id c) false refl l
 
-  by_head : (x : Head) → head_of v 1 b ≡ x → Says v at end s (on_seen v at b x)
+  by_head : (x : Result (Option Head) Refusal) → head_of v 1 b ≡ x → Says v at end s (on_seen v at b x)
   unfolding on_seen on_look
-  by_head Head.Nothing e = Says.ends e
-  by_head (Head.Refused k) e = Says.stops (look_head v 1 b _ e)
-  by_head (Head.Found id c f sh first len) e = by_look id c f sh first len e (look id c f sh first len e) refl
+  by_head (Ok None) e = Says.ends e
+  by_head (Err k) e = Says.stops (look_head v 1 b _ e)
+  by_head (Ok (Some h)) e = by_look h.id h.compressed h.flagged h.short h.start h.len e (look h.id h.compressed h.flagged h.short h.start h.len e) refl
 
-  pub says : {x : Seen} → x ≡ seen_of v at (slice at end s) → Says v at end s x
+  pub says : {x : Result (Option Seen) Refusal} → x ≡ seen_of v at (slice at end s) → Says v at end s x
   unfolding seen_of
   says h = subst (Says v at end s) (sym h) (by_head (head_of v 1 b) refl)
 
 module _ {v : Version} {at end : ℕ} {s : List ℕ} where
-  pub says_end : Says v at end s Seen.End → head_of v 1 (slice at end s) ≡ Head.Nothing
+  pub says_end : Says v at end s (Ok None) → head_of v 1 (slice at end s) ≡ Ok None
   says_end (Says.ends e) = e
 
-  pub says_stops : {k : ℕ} → Says v at end s (Seen.Stops k) → look_at v 1 (slice at end s) ≡ Look.Stops k
+  pub says_stops : {k : Refusal} → Says v at end s (Err k) → look_at v 1 (slice at end s) ≡ Err k
   says_stops (Says.stops e) = e
 
-  pub says_other : {next : ℕ} {odd : Bool} → Says v at end s (Seen.Frame next odd) → MetOther v at end s next odd
+  pub says_other : {next : ℕ} {odd : Bool} → Says v at end s (Ok (Some (Seen.Frame next odd))) → MetOther v at end s next odd
   says_other (Says.other m) = m
 
-  pub says_meter : {next : ℕ} {odd : Bool} {user : Span} {rating counter : ℕ} → Says v at end s (Seen.Popularimeter next odd user rating counter)
+  pub says_meter : {next : ℕ} {odd : Bool} {user : Span} {rating counter : ℕ} → Says v at end s (Ok (Some (Seen.Popularimeter next odd user rating counter)))
       → MetMeter v at end s next odd user counter
   says_meter (Says.meter m) = m
 
@@ -163,13 +164,13 @@ module _ {v : Version} {at end : ℕ} {s : List ℕ} {next : ℕ} {odd : Bool} {
   module _ (even : odd ≡ false) where
     whole : m.short ≡ false
     whole =
-        let l : frame_look v (look_at v 2) m.id m.compressed m.flagged m.short (body_of m) ≡ Look.Plain = m.looks ∙ ap (λ (t : Bool). plain_if (not t)) even in
+        let l : frame_look v (look_at v 2) m.id m.compressed m.flagged m.short (body_of m) ≡ Ok true = m.looks ∙ ap (λ (t : Bool). plain_if (not t)) even in
         (frame_plain v (look_at v 2) m.id m.compressed m.flagged m.short (body_of m) l).no_short
 
     pub block : Block v (slice at next s)
     block =
-        let found : head_of v 1 (slice at end s) ≡ Head.Found m.id m.compressed m.flagged false m.first m.len =
-        m.head ∙ ap (λ (t : Bool). Head.Found m.id m.compressed m.flagged t m.first m.len) whole in
+        let found : head_of v 1 (slice at end s) ≡ Ok (Some (head m.id m.compressed m.flagged false m.first m.len)) =
+        m.head ∙ ap (λ (t : Bool). Ok (Some (head m.id m.compressed m.flagged t m.first m.len))) whole in
         let n = m.first + m.len in
         record {
           id = m.id;
@@ -284,3 +285,28 @@ meter_turn v user f {at} {end} {s} {next} {odd} {name} {counter} le m mine start
     ∙ ap (λ (n : ℕ). found_on v user (also_of f mine at n (at + length b) (counter_of (field_in v b))) (at + length b) rest) field_eq
     ∙ ap (λ (n : ℕ). found_on v user (also_of f mine at start (at + length b) n) (at + length b) rest) counter_eq
     ∙ ap (λ (n : ℕ). found_on v user (also_of f mine at start n counter) n rest) (long le t even))
+
+-- a frame that was passed, whatever was seen of it: g is what was found then
+pub record Turned (v : Version) (user : List ℕ) (f g : Found) (at end : ℕ) (s : List ℕ) (next : ℕ) (odd : Bool) : Type 0 where
+  pub kind : Kind
+  pub met : Met v at end s next odd kind
+  pub goes : odd ≡ false → found_on v user g next (blocks_in v (slice next end s)) ≡ found_on v user f at (blocks_in v (slice at end s))
+
+-- what was seen at the place says which turn it is
+module _ (v : Version) (user : List ℕ) (f : Found) (at end : ℕ) (s : List ℕ) (le : end ≤ length s) {x : Seen} (seen : Ok (Some x) ≡ seen_of v at (slice at end s)) where
+  pub other_turned : {next : ℕ} {odd : Bool} → x ≡ Seen.Frame next odd → Turned v user f f at end s next odd
+  other_turned e =
+      let m = says_other (says v at end s (ap (λ (y : Seen). Ok (Some y)) (sym e) ∙ seen)) in
+      record { kind = m.kind; met = m.met; goes = other_turn v user f le m }
+
+  module _ {next : ℕ} {odd : Bool} {name : Span} {rating counter : ℕ} (e : x ≡ Seen.Popularimeter next odd name rating counter) where
+    met_meter : MetMeter v at end s next odd name counter
+    met_meter = says_meter (says v at end s (ap (λ (y : Seen). Ok (Some y)) (sym e) ∙ seen))
+
+    pub user_there : name.start + name.len ≤ end
+    user_there = omega (arith, user_fits le met_meter, within le met_meter.met)
+
+    pub meter_turned : {mine : Bool} → mine ≡ same_bytes (slice name.start (name.start + name.len) s) user
+        → Turned v user f (also_of f mine at (name.start + name.len + 2) next counter) at end s next odd
+    meter_turned {mine} is =
+        record { kind = Kind.Popularimeter; met = met_meter.met; goes = λ even. meter_turn v user f le met_meter mine _ even is refl }

@@ -2,12 +2,12 @@
 use mathlib.Core.Path.{◌≡◌, sym, ap, ◌∙◌}
 use Prim.Native.Nat.{ℕ}
 use native.Mathlib.Omega.{arith}
-use mathlib.Core.Bool.{Bool, false}
+use mathlib.Core.Bool.{Bool, false, true}
 use mathlib.Core.List.{List, [], append-nil}
 use lib.ListN.{length, take, drop, length-drop}
 use lib.Seq.{take_all}
 use Rattle.laws.proofs.Bools.{false_not_true}
-use Rattle.format.specs.Frame.{head_len}
+use Rattle.format.specs.Frame.{head_len, head}
 use Rattle.format.specs.Record.{Rec, body_refusal, run_of}
 use Rattle.format.specs.Walk.{shown_kind}
 use Rattle.format.specs.Encode.{kind_in, body_bytes, stored_of, encode}
@@ -15,8 +15,6 @@ use Rattle.format.specs.Looks.{frame_look, look_at}
 use Rattle.format.specs.declared.Version.{Version}
 use Rattle.format.specs.declared.Mode.TheVariants.{Off}
 use Rattle.format.specs.declared.Kind.{Kind}
-use Rattle.format.specs.declared.Head.{Head}
-use Rattle.format.specs.declared.Look.{Look}
 use Rattle.format.proofs.Encoded.{off_flagged, head_back, body_there, encode_length}
 use Rattle.format.proofs.Accepted.{Sound}
 use Rattle.format.proofs.Frames.{plain_stored}
@@ -25,6 +23,7 @@ use Rattle.blocks.specs.Blocks.{Block, Shows}
 use Rattle.blocks.proofs.Encoded.{encode_shows}
 use Rattle.raise.specs.Promises.{run_within}
 use Rattle.raise.proofs.Plainness.{block_look, PlainBlock}
+use Rattle.std.specs.Prelude.{Ok, Some}
 
 module _ (v : Version) (r : Rec) (sound : Sound v Off r) where
   abbrev body : List ℕ
@@ -38,7 +37,7 @@ module _ (v : Version) (r : Rec) (sound : Sound v Off r) where
     start = head_len v;
     len = length (stored_of v Off body);
     head = rw append-nil at (head_back v Off 1 r [] (omega arith) sound.is_id_lem sound.sizes)
-        ∙ ap (λ (t : Bool). Head.Found r.id false t false (head_len v) (length (stored_of v Off body))) (off_flagged v);
+        ∙ ap (λ (t : Bool). Ok (Some (head r.id false t false (head_len v) (length (stored_of v Off body))))) (off_flagged v);
     ends = sym (encode_length v Off r);
   }
 
@@ -60,5 +59,5 @@ module _ (v : Version) (r : Rec) (sound : Sound v Off r) where
       let run : run_of (shown_kind v r.id false) body ≡ run_within r.content = ap (λ (j : Kind). run_of j body) k ∙ sound.back.run in
       rw (off_body, taken, run) (both_end (look_at v 2 (run_within r.content)))
 
-  pub off_plain : look_at v 2 (run_within r.content) ≡ Look.Plain → PlainBlock v (encode v Off r)
+  pub off_plain : look_at v 2 (run_within r.content) ≡ Ok true → PlainBlock v (encode v Off r)
   off_plain e = record { block = off_block; looks = off_look ∙ e }

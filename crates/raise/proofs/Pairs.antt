@@ -21,20 +21,21 @@ use Rattle.raise.proofs.Search.{found}
 use Rattle.raise.proofs.Stores.{sets_twice, same_begin, ends_before}
 use Rattle.raise.proofs.Accepting.{sum_at, tag_after, Accepted, accept, accepted, refused_same}
 use Rattle.raise.proofs.After.{lt, mine, at_block, kind, long, small, block_after, version_same, after_blocks, after_looks, after_places, block_length}
-use Rattle.format.specs.declared.Look.{Look}
-use Rattle.raise.specs.declared.Raised.{Raised}
+use Rattle.std.specs.Prelude.{Result, Ok, Err}
+use Rattle.format.specs.declared.refusals.Refusal.{Refusal}
+use Rattle.format.specs.Refusals.{refusal}
 
 -- ---- answers by the block alone
 
-abbrev answered : ℕ → ℕ → Raised
-answered value long = pick (ltb value (2 ^ 64)) (pick (ltb value (256 ^ long)) (Raised.Counts value) (Raised.Refused 44)) (Raised.Refused 43)
+abbrev answered : ℕ → ℕ → Result ℕ Refusal
+answered value long = pick (ltb value (2 ^ 64)) (pick (ltb value (256 ^ long)) (Ok value) (Err (refusal 44))) (Err (refusal 43))
 
 answer_is : (v : Version) (bs : List (List ℕ)) (i value : ℕ) (tag : List ℕ) → (raise_to v bs i value tag).0 ≡ answered value (length (field_in v (block_at bs i)))
 unfolding raise_to
 answer_is v bs i value tag = by (ltb value (2 ^ 64)) (ltb value (256 ^ length (field_in v (block_at bs i)))) (counted_tag v bs i value tag)
   where
     by : (p q : Bool) (s : List ℕ)
-        → (pick {A = Answer} p (pick q (Raised.Counts value, s) (Raised.Refused 44, tag)) (Raised.Refused 43, tag)).0 ≡ pick p (pick q (Raised.Counts value) (Raised.Refused 44)) (Raised.Refused 43)
+        → (pick {A = Answer} p (pick q (Ok value, s) (Err (refusal 44), tag)) (Err (refusal 43), tag)).0 ≡ pick p (pick q (Ok value) (Err (refusal 44))) (Err (refusal 43))
     by true true s = refl
     by true false s = refl
     by false q s = refl
@@ -50,7 +51,7 @@ same_answer v bs cs more tag tag' (j ∷ []) h =
 same_answer v bs cs more tag tag' (j ∷ k ∷ l) h = refl
 
 -- what a plain tag answers
-answer_plain : (tag user : List ℕ) (amount : ℕ) → tag_look tag ≡ Look.Plain
+answer_plain : (tag user : List ℕ) (amount : ℕ) → tag_look tag ≡ Ok true
     → raised_of tag user amount ≡ on_places (tag_version tag) (tag_blocks tag) amount tag (places_from (tag_version tag) user 0 (tag_blocks tag))
 unfolding raised_of
 answer_plain tag user amount e = rw e
@@ -84,11 +85,11 @@ module _ {tag user : List ℕ} {amount : ℕ} (a : Accepted tag user amount) (ot
 pub other_same : OtherSame
 other_same tag user other amount more apart = by (raised_of tag user amount).0 (raised_of tag user amount).1 refl
   where
-    by : (r : Raised) (t : List ℕ) → raised_of tag user amount ≡ (r, t) → (raised_of t other more).0 ≡ (raised_of tag other more).0
-    by (Raised.Counts n) t e =
+    by : (r : Result ℕ Refusal) (t : List ℕ) → raised_of tag user amount ≡ (r, t) → (raised_of t other more).0 ≡ (raised_of tag other more).0
+    by (Ok n) t e =
         let g = accepted tag user amount e in
         ap (λ (s : List ℕ). (raised_of s other more).0) g.tag_is ∙ after_other g.was other apart more
-    by (Raised.Refused k) t e = ap (λ (s : List ℕ). (raised_of s other more).0) (refused_same tag user amount e)
+    by (Err k) t e = ap (λ (s : List ℕ). (raised_of s other more).0) (refused_same tag user amount e)
 
 -- ---- their order
 
@@ -130,7 +131,7 @@ module _ {tag user other : List ℕ} {amount more : ℕ} (a : Accepted tag user 
   bs = tag_blocks tag
 
   -- the tag after both, this one last
-  both_after : {k : ℕ} {s : List ℕ} → raised_of (tag_after tag a.i amount) other more ≡ (Raised.Counts k, s)
+  both_after : {k : ℕ} {s : List ℕ} → raised_of (tag_after tag a.i amount) other more ≡ (Ok k, s)
       → s ≡ counted_tag v bs c.i (sum_at tag c.i more) (tag_after tag a.i amount)
   both_after {k} {s} e =
       let tag' = tag_after tag a.i amount in
@@ -156,24 +157,24 @@ raises_commute tag user other amount more n k t s apart e f =
     let bs = tag_blocks tag in
     let g = accepted tag user amount e in
     let a = g.was in
-    let f' : raised_of (tag_after tag a.i amount) other more ≡ (Raised.Counts k, s) = ap (λ (m : List ℕ). raised_of m other more) (sym g.tag_is) ∙ f in
+    let f' : raised_of (tag_after tag a.i amount) other more ≡ (Ok k, s) = ap (λ (m : List ℕ). raised_of m other more) (sym g.tag_is) ∙ f in
     let apart' : other ≡ user → ⊥ = λ z. apart (sym z) in
     let t' = (raised_of tag other more).1 in
-    let answer : (raised_of tag other more).0 ≡ Raised.Counts k = sym (after_other a other apart more) ∙ ap (λ (o : Answer). o.0) f' in
-    let e' : raised_of tag other more ≡ (Raised.Counts k, t') = (λ i. (answer i, t')) in
+    let answer : (raised_of tag other more).0 ≡ Ok k = sym (after_other a other apart more) ∙ ap (λ (o : Answer). o.0) f' in
+    let e' : raised_of tag other more ≡ (Ok k, t') = (λ i. (answer i, t')) in
     let h = accepted tag other more e' in
     let c = h.was in
     let s' = (raised_of (tag_after tag c.i more) user amount).1 in
-    let answer' : (raised_of (tag_after tag c.i more) user amount).0 ≡ Raised.Counts n = after_other c user apart' amount ∙ ap (λ (o : Answer). o.0) e in
-    let f'' : raised_of (tag_after tag c.i more) user amount ≡ (Raised.Counts n, s') = (λ i. (answer' i, s')) in
+    let answer' : (raised_of (tag_after tag c.i more) user amount).0 ≡ Ok n = after_other c user apart' amount ∙ ap (λ (o : Answer). o.0) e in
+    let f'' : raised_of (tag_after tag c.i more) user amount ≡ (Ok n, s') = (λ i. (answer' i, s')) in
     let one = both_after a c apart f' in
     let two = both_after c a apart' f'' in
     let ne : a.i ≡ c.i → ⊥ = other_place a other apart c.i [] c.only in
     let order : counted_tag v bs a.i (sum_at tag a.i amount) (tag_after tag c.i more) ≡ counted_tag v bs c.i (sum_at tag c.i more) (tag_after tag a.i amount) =
     either_order v bs a.i c.i (sum_at tag a.i amount) (sum_at tag c.i more) tag ne (lt a) (lt c) (field_ends (at_block a) (kind a)) (field_ends (at_block c) (kind c)) in
     let same : s' ≡ s = two ∙ order ∙ sym one in
-    let there : raised_of t' user amount ≡ (Raised.Counts n, s') = ap (λ (m : List ℕ). raised_of m user amount) h.tag_is ∙ f'' in
-    (t', (e', there ∙ ap {B = Answer} (λ (m : List ℕ). (Raised.Counts n, m)) same))
+    let there : raised_of t' user amount ≡ (Ok n, s') = ap (λ (m : List ℕ). raised_of m user amount) h.tag_is ∙ f'' in
+    (t', (e', there ∙ ap {B = Answer} (λ (m : List ℕ). (Ok n, m)) same))
 
 -- ---- one user
 
@@ -225,4 +226,4 @@ raises_add tag user amount more n k t s e f =
     ∙ ap (λ (l : List (List ℕ)). counted_tag v l i (sum_at tag i (amount + more)) tag') (after_blocks a)
     ∙ twice_counted v bs i first (sum_at tag i (amount + more)) tag (block_after a) (block_length a) (new_at (at_block a) (kind a) x (long a) (small a)) field is in
     let sum : sum_at tag i (amount + more) ≡ k = sym second ∙ sym h.sum in
-    accept both ∙ (λ j. (Raised.Counts (sum j), sym last j))
+    accept both ∙ (λ j. (Ok (sum j), sym last j))

@@ -2,7 +2,7 @@
 use mathlib.Core.Path.{◌≡◌, refl, sym, ap, ◌∙◌}
 use Prim.Native.Nat.{ℕ, zero, suc, ◌+◌, ◌≤◌, ◌<◌}
 use native.Mathlib.Omega.{arith}
-use mathlib.Core.Bool.{false, not}
+use mathlib.Core.Bool.{false, not, true}
 use mathlib.Core.List.{List, [], ◌∷◌, ◌++◌, append_assoc}
 use lib.ListN.{length, take, drop, get_or, set, length-drop}
 use lib.Seq.{take_all, take_at, drop_at, drop-append-le}
@@ -26,10 +26,11 @@ use Rattle.blocks.proofs.Edits.{zeros_quiet}
 use Rattle.blocks.proofs.Headers.{same_region}
 use Rattle.blocks.proofs.Tails.{no_block_short}
 use Rattle.blocks.proofs.CutUp.{cut_up}
-use Rattle.format.specs.Looks.{both, plain_if, all_zero, frame_look, on_look, look_at, is_simple, tag_look}
+use Rattle.format.specs.Looks.{both, plain_if, all_zero, frame_look, on_look, look_at, is_simple, tag_look, Look}
 use Rattle.raise.specs.Raise.{tag_version, tag_blocks}
 use Rattle.format.proofs.Looking.{look_head, both_plain, if_plain, unless_plain, picked_plain, frame_plain, walk_plain, zero_zeros, zeros_zero, not_plain}
-use Rattle.format.specs.declared.Look.{Look}
+use Rattle.std.specs.Prelude.{Result, Option, Ok, Err, Some, None}
+use Rattle.format.specs.declared.refusals.Refusal.{Refusal}
 
 -- ---- a block
 
@@ -39,7 +40,7 @@ block_look {v} {b} w = frame_look v (look_at v 2) w.id w.compressed w.flagged fa
 
 pub record PlainBlock (v : Version) (b : List ℕ) : Type 0 where
   pub block : Block v b
-  pub looks : block_look block ≡ Look.Plain
+  pub looks : block_look block ≡ Ok true
 
 pub body_all : {v : Version} {b : List ℕ} (w : Block v b) → take w.len (drop w.start b) ≡ drop w.start b
 body_all {v} {b} w = take_all w.len (drop w.start b) (omega (arith, length-drop w.start b, w.ends))
@@ -71,8 +72,8 @@ plain_set AllPlain.none i q = AllPlain.none
 plain_set (AllPlain.also p ps) zero q = AllPlain.also q ps
 plain_set (AllPlain.also p ps) (suc i) q = AllPlain.also p (plain_set ps i q)
 
-split_plain : {v : Version} {bs : List (List ℕ)} (rest : List ℕ) → AllBlocks v bs → look_at v 1 (joined bs ++ rest) ≡ Look.Plain
-    → AllPlain v bs × (look_at v 1 rest ≡ Look.Plain)
+split_plain : {v : Version} {bs : List (List ℕ)} (rest : List ℕ) → AllBlocks v bs → look_at v 1 (joined bs ++ rest) ≡ Ok true
+    → AllPlain v bs × (look_at v 1 rest ≡ Ok true)
 split_plain rest AllBlocks.none e = (AllPlain.none, e)
 split_plain {v} rest (AllBlocks.also {b} {bs} w ws) e =
     let s = append_assoc b (joined bs) rest in
@@ -81,22 +82,22 @@ split_plain {v} rest (AllBlocks.also {b} {bs} w ws) e =
     (AllPlain.also (record { block = w; looks = q.0 }) r.0, r.1)
 
 -- plain blocks and zeros are plain
-pub joined_plain : {v : Version} {bs : List (List ℕ)} (p : ℕ) → AllPlain v bs → look_at v 1 (joined bs ++ zeros p) ≡ Look.Plain
+pub joined_plain : {v : Version} {bs : List (List ℕ)} (p : ℕ) → AllPlain v bs → look_at v 1 (joined bs ++ zeros p) ≡ Ok true
 unfolding on_look
-joined_plain {v} p AllPlain.none = look_head v 1 (zeros p) Head.Nothing (quiet_head v (zeros p) (zeros_quiet v p)) ∙ rw (zeros_zero p)
+joined_plain {v} p AllPlain.none = look_head v 1 (zeros p) (Ok None) (quiet_head v (zeros p) (zeros_quiet v p)) ∙ rw (zeros_zero p)
 joined_plain {v} p (AllPlain.also {b} {bs} q ps) =
     ap (look_at v 1) (append_assoc b (joined bs) (zeros p)) ∙ look_block q.block (joined bs ++ zeros p) ∙ rw (q.looks, joined_plain p ps)
 
-rest_zeros : (v : Version) (s : List ℕ) → NoBlock v s → look_at v 1 s ≡ Look.Plain → s ≡ zeros (length s)
+rest_zeros : (v : Version) (s : List ℕ) → NoBlock v s → look_at v 1 s ≡ Ok true → s ≡ zeros (length s)
 unfolding on_look
 rest_zeros v s no_block e = by (head_of v 1 s) refl (sym (look_head v 1 s (head_of v 1 s) refl) ∙ e)
   where
-    by : (x : Head) → head_of v 1 s ≡ x → on_look v (look_at v) 1 s x ≡ Look.Plain → s ≡ zeros (length s)
-    by Head.Nothing h p = zero_zeros s (if_plain (all_zero s) p)
-    by (Head.Refused k) h p = not_plain k p
-    by (Head.Found id c f short start len) h p =
-        let q = both_plain (frame_look v (look_at v 2) id c f short (take len (drop start s))) _ p in
-        let t = frame_plain v (look_at v 2) id c f short (take len (drop start s)) q.0 in
+    by : (x : Result (Option Head) Refusal) → head_of v 1 s ≡ x → on_look v (look_at v) 1 s x ≡ Ok true → s ≡ zeros (length s)
+    by (Ok None) h p = zero_zeros s (if_plain (all_zero s) p)
+    by (Err k) h p = not_plain k.number p
+    by (Ok (Some h')) h p =
+        let q = both_plain (frame_look v (look_at v 2) h'.id h'.compressed h'.flagged h'.short (take h'.len (drop h'.start s))) _ p in
+        let t = frame_plain v (look_at v 2) h'.id h'.compressed h'.flagged h'.short (take h'.len (drop h'.start s)) q.0 in
         absurd (false_not_true (sym t.no_short ∙ no_block_short v s no_block h))
 
 -- What is plain is plain blocks, and zeros.
@@ -105,7 +106,7 @@ pub record PlainRegion (v : Version) (s : List ℕ) : Type 0 where
   pub blocks : AllPlain v (blocks_in v s)
   pub is : s ≡ joined (blocks_in v s) ++ zeros padding
 
-pub plain_region : (v : Version) (s : List ℕ) → look_at v 1 s ≡ Look.Plain → PlainRegion v s
+pub plain_region : (v : Version) (s : List ℕ) → look_at v 1 s ≡ Ok true → PlainRegion v s
 plain_region v s e =
     let c = cut_up v s in
     let q = split_plain c.rest c.whole (ap (look_at v 1) (sym c.is) ∙ e) in
@@ -155,7 +156,7 @@ pub record Plain (tag : List ℕ) : Type 0 where
   pub unflagged : has 0x80 (flags_of tag) ≡ false
   pub is : PlainTag (tag_version tag) (tag_blocks tag) (records_of blocks) padding tag
 
-pub tag_plain : (tag : List ℕ) → tag_look tag ≡ Look.Plain → Plain tag
+pub tag_plain : (tag : List ℕ) → tag_look tag ≡ Ok true → Plain tag
 unfolding tag_look
 tag_plain tag e =
     let v = tag_version tag in
@@ -185,9 +186,9 @@ tag_plain tag e =
 
 -- and a tag of plain blocks is plain
 pub plain_tag : {v : Version} {bs : List (List ℕ)} {rs : List Rec} {p : ℕ} {tag : List ℕ} → PlainTag v bs rs p tag → AllPlain v bs → has 0x80 (flags_of tag) ≡ false
-    → tag_look tag ≡ Look.Plain
+    → tag_look tag ≡ Ok true
 unfolding tag_look
 plain_tag {v} {bs} {rs} {p} {tag} t ps unflagged =
     let region : region_of tag ≡ joined bs ++ zeros p = same_region tag tag refl (omega (arith, t.all_there)) t.no_extended ∙ t.region in
-    let looks : look_at (version_of (edition_of tag)) 1 (region_of tag) ≡ Look.Plain = rw (t.version, region) (joined_plain p ps) in
+    let looks : look_at (version_of (edition_of tag)) 1 (region_of tag) ≡ Ok true = rw (t.version, region) (joined_plain p ps) in
     rw (t.taken, t.no_whole, looks, le-leb (10 + size_of tag) (length tag) t.all_there, t.no_extended, unflagged)

@@ -17,7 +17,8 @@ use Rattle.raise.proofs.Accepting.{sum_at, tag_after, Accepted, accepted, refuse
 use Rattle.raise.proofs.Stored.{same_true}
 use Rattle.raise.proofs.Records.{places_records}
 use Rattle.raise.proofs.After.{was_plain, lt, at_block, long, records_before, rating, record_was, after_plain, length_same, after_begin_lem, inside_tag}
-use Rattle.raise.specs.declared.Raised.{Raised}
+use Rattle.std.specs.Prelude.{Result, Ok, Err}
+use Rattle.format.specs.declared.refusals.Refusal.{Refusal}
 
 module _ {tag user : List ℕ} {amount : ℕ} (a : Accepted tag user amount) where
   raising : Raising tag user amount (sum_at tag a.i amount) (tag_after tag a.i amount)
@@ -81,11 +82,11 @@ refused_kept tag user amount k tag' e = refused_same tag user amount e
 pub others_read : OthersRead
 others_read tag user other amount work apart = by (raised_of tag user amount).0 (raised_of tag user amount).1 refl
   where
-    by : (r : Raised) (t : List ℕ) → raised_of tag user amount ≡ (r, t) → theirs_in other (read_all t work).0 ≡ theirs_in other (read_all tag work).0
-    by (Raised.Counts n) t e =
+    by : (r : Result ℕ Refusal) (t : List ℕ) → raised_of tag user amount ≡ (r, t) → theirs_in other (read_all t work).0 ≡ theirs_in other (read_all tag work).0
+    by (Ok n) t e =
         let g = raise_reads tag user amount n t e in
         let no = not_theirs user other apart in
         ap (λ (o : Reading). theirs_in other o.0) (g.after work)
         ∙ theirs_set other g.records g.i _ _ _ g.inside g.was no no
         ∙ sym (ap (λ (o : Reading). theirs_in other o.0) (g.before work))
-    by (Raised.Refused k) t e = ap (λ (s : List ℕ). theirs_in other (read_all s work).0) (refused_same tag user amount e)
+    by (Err k) t e = ap (λ (s : List ℕ). theirs_in other (read_all s work).0) (refused_same tag user amount e)

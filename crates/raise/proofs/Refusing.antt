@@ -1,7 +1,7 @@
 -- The numbers below 40 are those of reading: the look at a tag and its reading agree until something would be resynchronised. Assumes nothing.
 use mathlib.Core.Path.{◌≡◌, refl, sym, ap, ◌∙◌, subst}
 use mathlib.Core.Logic.{◌⊎◌, inl, inr}
-use Prim.Native.Nat.{ℕ, zero, suc, ◌+◌, ◌-◌, ◌^◌, ◌≤◌, ◌<◌, min}
+use Prim.Native.Nat.{ℕ, zero, suc, ◌+◌, ◌^◌, ◌≤◌, ◌<◌}
 use native.Mathlib.Omega.{arith}
 use mathlib.Core.Bool.{Bool, true, false, not, ◌||◌}
 use mathlib.Core.List.{List, [], ◌∷◌}
@@ -10,12 +10,11 @@ use lib.Seq.{slice}
 use lib.Dec.{eqb, ltb, eqb-suc-zero}
 use borrow.Author.Tests.{eqb-false, ne_eqb}
 use Rattle.laws.proofs.Bools.{false_not_true}
+use Rattle.laws.proofs.Results.{err_same, ok_not_err}
 use Rattle.laws.proofs.Slices.{slice_drop}
 use Rattle.format.specs.Bytes.{pick, first}
 use Rattle.format.specs.Header.{edition_of, version_of, is_whole, header_refusal, region_of}
-use Rattle.format.specs.Numbers.{number}
-use Rattle.format.specs.Ids.{id_len}
-use Rattle.format.specs.Frame.{is_compressed, is_flagged, is_short, body_start, body_size, frame_checks, is_end, head_of}
+use Rattle.format.specs.Frame.{frame_checks, is_end, head_of}
 use Rattle.format.specs.Popularimeter.{counter_of}
 use Rattle.format.specs.Record.{Rec, body_refusal, run_of}
 use Rattle.format.specs.Walk.{Out, and_then, inside_of, body_of, is_resynced, shown_kind, walked}
@@ -31,54 +30,45 @@ use Rattle.blocks.proofs.Sights.{out_of, rec_in, verdict, sight_is}
 use Rattle.blocks.proofs.Reading.{first_read, end_read, refused_read}
 use Rattle.blocks.proofs.Regions.{steps_all}
 use Rattle.blocks.proofs.Opens.{opened}
-use Rattle.format.specs.Looks.{both, plain_if, unless, all_zero, frame_look, on_look, look_at, is_simple, tag_look}
+use Rattle.format.specs.Looks.{both, plain_if, unless, all_zero, frame_look, on_look, look_at, is_simple, tag_look, Look}
 use Rattle.raise.specs.Raise.{Answer, on_tag, on_places, raise_to, field_in, block_at, counted_tag, places_from, tag_version, tag_blocks, raised_of}
 use Rattle.raise.specs.Promises.{RefusedAsReading, RefusedNumber, ReadingRefused}
 use Rattle.format.proofs.Looking.{look_head}
-use Rattle.format.specs.declared.Look.{Look}
-use Rattle.raise.specs.declared.Raised.{Raised}
+use Rattle.std.specs.Prelude.{Result, Option, Ok, Err, Some, None}
+use Rattle.format.specs.declared.refusals.Refusal.{Refusal}
+use Rattle.format.specs.Refusals.{refusal}
 
 -- ---- a header is refused with a number
 
-nothing_not : (k : ℕ) → Head.Nothing ≡ Head.Refused k → ⊥
-nothing_not k e = let z : ◌≡◌ {A = ℕ} 0 1 = cc in omega arith
+picked_refused : (t u : Bool) (h : Head) (n : ℕ) {k : Refusal}
+    → ◌≡◌ {A = Result (Option Head) Refusal} (pick t (Ok None) (pick u (Ok (Some h)) (Err (refusal n)))) (Err k) → (u ≡ false) × (n ≡ k.number)
+picked_refused true u h n e = ok_not_err e
+picked_refused false true h n e = ok_not_err e
+picked_refused false false h n e = (refl, ap (λ (x : Refusal). x.number) (err_same e))
 
-found_not : (k id start len : ℕ) (c f h : Bool) → Head.Found id c f h start len ≡ Head.Refused k → ⊥
-found_not k id start len c f h e = let z : ◌≡◌ {A = ℕ} 0 1 = cc in omega arith
-
-same_number : (j k : ℕ) → Head.Refused j ≡ Head.Refused k → j ≡ k
-same_number j k e = cc
-
-picked_refused : (t u : Bool) (id start len n k : ℕ) (c f h : Bool)
-    → pick t Head.Nothing (pick u (Head.Found id c f h start len) (Head.Refused n)) ≡ Head.Refused k → (u ≡ false) × (n ≡ k)
-picked_refused true u id start len n k c f h e = absurd (nothing_not k e)
-picked_refused false true id start len n k c f h e = absurd (found_not k id start len c f h e)
-picked_refused false false id start len n k c f h e = (refl, same_number n k e)
-
-pub refused_some : (v : Version) (depth : ℕ) (s : List ℕ) (k : ℕ) → head_of v depth s ≡ Head.Refused k → k ≡ 0 → ⊥
+pub refused_some : (v : Version) (depth : ℕ) (s : List ℕ) {k : Refusal} → head_of v depth s ≡ Err k → k.number ≡ 0 → ⊥
 unfolding head_of
-refused_some v depth s k e z =
+refused_some v depth s e z =
     let n = first (frame_checks v depth s) in
-    let q = picked_refused (is_end v s) (eqb n 0) (number (take (id_len v) s)) (body_start v s) (min (body_size v s) (length s - body_start v s)) n k
-    (is_compressed v s) (is_flagged v s) (is_short v s) e in
+    let q = picked_refused (is_end v s) (eqb n 0) _ n e in
     eqb-false n 0 q.0 (q.1 ∙ z)
 
 -- ---- a look and a walk
 
 data Agrees (room : List ℕ) : Look → Out → Type 0 where
-  halts : {k : ℕ} → (k ≡ 0 → ⊥) → Agrees room (Look.Stops k) (k, room)
-  at_once : (o : Out) → Agrees room (Look.Stops 40) o
-  oddly : Agrees room Look.Odd (0, room)
-  plainly : Agrees room Look.Plain (0, room)
+  halts : {k : Refusal} → (k.number ≡ 0 → ⊥) → Agrees room (Err k) (k.number, room)
+  at_once : (o : Out) → Agrees room (Err (refusal 40)) o
+  oddly : Agrees room (Ok false) (0, room)
+  plainly : Agrees room (Ok true) (0, room)
 
-after_odd : {room : List ℕ} {y : Look} {o : Out} → Agrees room y o → Agrees room (both Look.Odd y) o
+after_odd : {room : List ℕ} {y : Look} {o : Out} → Agrees room y o → Agrees room (both (Ok false) y) o
 after_odd (Agrees.halts ne) = Agrees.halts ne
 after_odd (Agrees.at_once o) = Agrees.at_once o
 after_odd Agrees.oddly = Agrees.oddly
 after_odd Agrees.plainly = Agrees.oddly
 
 agrees_both : {room : List ℕ} {x : Look} {o : Out} (y : Look) (k : List ℕ → Out) → Agrees room x o → Agrees room y (k room) → Agrees room (both x y) (and_then o k)
-agrees_both {room} y k (Agrees.halts {k = n} ne) b = subst (λ (t : Bool). Agrees room (Look.Stops n) (pick t (k room) (n, room))) (sym (ne_eqb n 0 ne)) (Agrees.halts ne)
+agrees_both {room} y k (Agrees.halts {k = n} ne) b = subst (λ (t : Bool). Agrees room (Err n) (pick t (k room) (n.number, room))) (sym (ne_eqb n.number 0 ne)) (Agrees.halts ne)
 agrees_both y k (Agrees.at_once o) b = Agrees.at_once (and_then o k)
 agrees_both y k Agrees.oddly b = after_odd b
 agrees_both y k Agrees.plainly b = b
@@ -98,7 +88,7 @@ ends_if false = Agrees.oddly
 inside_agrees : {room : List ℕ} (k : ℕ) (x : Look) (o : Out) → Agrees room x o → Agrees room (unless k x) (pick (eqb k 0) o (k, room))
 inside_agrees zero x o a = a
 inside_agrees {room} (suc k) x o a =
-    subst (λ (t : Bool). Agrees room (Look.Stops (suc k)) (pick t o (suc k, room))) (sym (eqb-suc-zero k)) (Agrees.halts (λ (e : suc k ≡ 0). omega arith))
+    subst (λ (t : Bool). Agrees room (Err (refusal (suc k))) (pick t o (suc k, room))) (sym (eqb-suc-zero k)) (Agrees.halts (λ (e : suc k ≡ 0). omega arith))
 
 module _ (v : Version) (room : List ℕ) (go : List ℕ → List ℕ → Out) (look : List ℕ → Look) (id : ℕ) (c f short : Bool) (b : List ℕ) where
   body_agrees : Agrees room (look (run_of (shown_kind v id c) b)) (go (run_of (shown_kind v id c) b) room)
@@ -107,27 +97,27 @@ module _ (v : Version) (room : List ℕ) (go : List ℕ → List ℕ → Out) (l
   body_agrees a = by (is_resynced c f)
     where
       by : (t : Bool)
-          → Agrees room (pick t (Look.Stops 40) (both (unless (body_refusal (shown_kind v id c) b) (look (run_of (shown_kind v id c) b))) (plain_if (not (c || (f || short))))))
+          → Agrees room (pick t (Err (refusal 40)) (both (unless (body_refusal (shown_kind v id c) b) (look (run_of (shown_kind v id c) b))) (plain_if (not (c || (f || short))))))
           (body_of t go (shown_kind v id c) b room)
       by true = Agrees.at_once _
       by false = agrees_if (not (c || (f || short))) (inside_agrees (body_refusal (shown_kind v id c) b) _ _ a)
 
 head_agrees : (v : Version) (depth : ℕ) (s room : List ℕ) → ((d : ℕ) (t : List ℕ) → length t < length s → Agrees room (look_at v d t) (walked false v d t room))
-    → (x : Head) → head_of v depth s ≡ x → Agrees room (on_look v (look_at v) depth s x) (walked false v depth s room)
+    → (x : Result (Option Head) Refusal) → head_of v depth s ≡ x → Agrees room (on_look v (look_at v) depth s x) (walked false v depth s room)
 unfolding on_look
-head_agrees v depth s room h Head.Nothing e =
+head_agrees v depth s room h (Ok None) e =
     subst (Agrees room (plain_if (ltb 1 depth || all_zero s))) (sym (walk_nothing false v depth s room e)) (ends_if (ltb 1 depth || all_zero s))
-head_agrees v depth s room h (Head.Refused k) e =
-    subst (Agrees room (Look.Stops k)) (sym (walk_refused false v depth s room e)) (Agrees.halts (refused_some v depth s k e))
-head_agrees v depth s room h (Head.Found id c f short start len) e =
-    let l = lies (stands v depth s id c f short start len e) in
-    let b = take len (drop start s) in
-    let kind = shown_kind v id c in
-    let run = h (depth + 1) (run_of kind b) (omega (arith, run_shorter kind b, l.six, l.within, length-take len (drop start s), length-drop start s)) in
-    let body = body_agrees v room (walked false v (depth + 1)) (look_at v (depth + 1)) id c f short b run in
-    let rest = h depth (drop (start + len) s) (omega (arith, l.six, l.within, length-drop (start + len) s)) in
-    subst (Agrees room (both (frame_look v (look_at v (depth + 1)) id c f short b) (look_at v depth (drop (start + len) s)))) (sym (walk_found false v depth s room e))
-    (agrees_both (look_at v depth (drop (start + len) s)) (walked false v depth (drop (start + len) s)) body rest)
+head_agrees v depth s room h (Err k) e =
+    subst (Agrees room (Err k)) (sym (walk_refused false v depth s room e)) (Agrees.halts (refused_some v depth s e))
+head_agrees v depth s room h (Ok (Some h')) e =
+    let l = lies (stands v depth s h'.id h'.compressed h'.flagged h'.short h'.start h'.len e) in
+    let b = take h'.len (drop h'.start s) in
+    let kind = shown_kind v h'.id h'.compressed in
+    let run = h (depth + 1) (run_of kind b) (omega (arith, run_shorter kind b, l.six, l.within, length-take h'.len (drop h'.start s), length-drop h'.start s)) in
+    let body = body_agrees v room (walked false v (depth + 1)) (look_at v (depth + 1)) h'.id h'.compressed h'.flagged h'.short b run in
+    let rest = h depth (drop (h'.start + h'.len) s) (omega (arith, l.six, l.within, length-drop (h'.start + h'.len) s)) in
+    subst (Agrees room (both (frame_look v (look_at v (depth + 1)) h'.id h'.compressed h'.flagged h'.short b) (look_at v depth (drop (h'.start + h'.len) s)))) (sym (walk_found false v depth s room e))
+    (agrees_both (look_at v depth (drop (h'.start + h'.len) s)) (walked false v depth (drop (h'.start + h'.len) s)) body rest)
 
 agrees_within : (n : ℕ) (v : Version) (depth : ℕ) (s room : List ℕ) → length s < n → Agrees room (look_at v depth s) (walked false v depth s room)
 agrees_within zero v depth s room lt = absurd (omega arith)
@@ -138,12 +128,12 @@ agrees_within (suc n) v depth s room lt =
 -- ---- a look and a reading
 
 data Ends : Look → Ending → Type 0 where
-  halts : (k : ℕ) → (k ≡ 0 → ⊥) → Ends (Look.Stops k) (refused k)
-  at_once : (e : Ending) → Ends (Look.Stops 40) e
-  oddly : Ends Look.Odd ended
-  plainly : Ends Look.Plain ended
+  halts : (k : Refusal) → (k.number ≡ 0 → ⊥) → Ends (Err k) (refused k.number)
+  at_once : (e : Ending) → Ends (Err (refusal 40)) e
+  oddly : Ends (Ok false) ended
+  plainly : Ends (Ok true) ended
 
-then_odd : {y : Look} {e : Ending} → Ends y e → Ends (both Look.Odd y) e
+then_odd : {y : Look} {e : Ending} → Ends y e → Ends (both (Ok false) y) e
 then_odd (Ends.halts k ne) = Ends.halts k ne
 then_odd (Ends.at_once e) = Ends.at_once e
 then_odd Ends.oddly = Ends.oddly
@@ -164,7 +154,7 @@ ends_with false Ends.plainly = Ends.oddly
 frame_ends : {room : List ℕ} {x : Look} {o : Out} (y : Look) (r : Rec) (go : List ℕ → Reading) → Agrees room x o → Ends y (go room).1
     → Ends (both x y) (on_sight go (verdict o.0 r) o.1).1
 frame_ends {room} y r go (Agrees.halts {k} ne) b =
-    subst (λ (t : Bool). Ends (Look.Stops k) (on_sight go (pick t (shows r) (refuses k)) room).1) (sym (ne_eqb k 0 ne)) (Ends.halts k ne)
+    subst (λ (t : Bool). Ends (Err k) (on_sight go (pick t (shows r) (refuses k.number)) room).1) (sym (ne_eqb k.number 0 ne)) (Ends.halts k ne)
 frame_ends y r go (Agrees.at_once o) b = Ends.at_once _
 frame_ends y r go Agrees.oddly b = then_odd b
 frame_ends y r go Agrees.plainly b = b
@@ -174,28 +164,28 @@ module _ (v : Version) (begin end : ℕ) (tag work : List ℕ) where
   left at = slice at end tag
 
   step_ends : (n at : ℕ) → ((at' : ℕ) → length (left at') < length (left at) → Ends (look_at v 1 (left at')) (read_from n tag (reader v false begin at' end) work).1)
-      → (x : Head) → head_of v 1 (left at) ≡ x → Ends (on_look v (look_at v) 1 (left at) x) (read_from (suc n) tag (reader v false begin at end) work).1
+      → (x : Result (Option Head) Refusal) → head_of v 1 (left at) ≡ x → Ends (on_look v (look_at v) 1 (left at) x) (read_from (suc n) tag (reader v false begin at end) work).1
   unfolding on_look
-  step_ends n at h Head.Nothing e =
+  step_ends n at h (Ok None) e =
       subst (λ (o : Reading). Ends (plain_if (all_zero (left at))) o.1) (sym (end_read v n begin at end tag work false e)) (quiet_if (all_zero (left at)))
-  step_ends n at h (Head.Refused k) e =
-      subst (λ (o : Reading). Ends (Look.Stops k) o.1) (sym (refused_read v n begin at end tag work false e)) (Ends.halts k (refused_some v 1 (left at) k e))
-  step_ends n at h (Head.Found id c f short start len) e =
+  step_ends n at h (Err k) e =
+      subst (λ (o : Reading). Ends (Err k) o.1) (sym (refused_read v n begin at end tag work false e)) (Ends.halts k (refused_some v 1 (left at) e))
+  step_ends n at h (Ok (Some h')) e =
       let s = left at in
-      let l = lies (stands v 1 s id c f short start len e) in
-      let b = take len (drop start s) in
-      let kind = shown_kind v id c in
-      let r = rec_in v id c f short b in
-      let go = read_from n tag (reader v false begin (at + (start + len)) end) in
+      let l = lies (stands v 1 s h'.id h'.compressed h'.flagged h'.short h'.start h'.len e) in
+      let b = take h'.len (drop h'.start s) in
+      let kind = shown_kind v h'.id h'.compressed in
+      let r = rec_in v h'.id h'.compressed h'.flagged h'.short b in
+      let go = read_from n tag (reader v false begin (at + (h'.start + h'.len)) end) in
       let run = agrees_within (suc (length (run_of kind b))) v 2 (run_of kind b) work (omega arith) in
-      let body = body_agrees v work (walked false v 2) (look_at v 2) id c f short b run in
-      let next : left (at + (start + len)) ≡ drop (start + len) s = slice_drop at (start + len) end tag in
+      let body = body_agrees v work (walked false v 2) (look_at v 2) h'.id h'.compressed h'.flagged h'.short b run in
+      let next : left (at + (h'.start + h'.len)) ≡ drop (h'.start + h'.len) s = slice_drop at (h'.start + h'.len) end tag in
       let rest = subst (λ (t : List ℕ). Ends (look_at v 1 t) (go work).1) next
-      (h (at + (start + len)) (omega (arith, ap length next, length-drop (start + len) s, l.six, l.within))) in
-      let is : read_from (suc n) tag (reader v false begin at end) work ≡ on_sight go (verdict (out_of v id c f b work).0 r) (out_of v id c f b work).1 =
-      first_read v n begin at end tag work false e ∙ ap (λ (o : Sight × List ℕ). on_sight go o.0 o.1) (sight_is v id c f short start len s e work) in
-      subst (λ (o : Reading). Ends (both (frame_look v (look_at v 2) id c f short b) (look_at v 1 (drop (start + len) s))) o.1) (sym is)
-      (frame_ends (look_at v 1 (drop (start + len) s)) r go body rest)
+      (h (at + (h'.start + h'.len)) (omega (arith, ap length next, length-drop (h'.start + h'.len) s, l.six, l.within))) in
+      let is : read_from (suc n) tag (reader v false begin at end) work ≡ on_sight go (verdict (out_of v h'.id h'.compressed h'.flagged b work).0 r) (out_of v h'.id h'.compressed h'.flagged b work).1 =
+      first_read v n begin at end tag work false e ∙ ap (λ (o : Sight × List ℕ). on_sight go o.0 o.1) (sight_is v h'.id h'.compressed h'.flagged h'.short h'.start h'.len s e work) in
+      subst (λ (o : Reading). Ends (both (frame_look v (look_at v 2) h'.id h'.compressed h'.flagged h'.short b) (look_at v 1 (drop (h'.start + h'.len) s))) o.1) (sym is)
+      (frame_ends (look_at v 1 (drop (h'.start + h'.len) s)) r go body rest)
 
   read_ends : (n at : ℕ) → length (left at) < n → Ends (look_at v 1 (left at)) (read_from n tag (reader v false begin at end) work).1
   read_ends zero at lt = absurd (omega arith)
@@ -219,7 +209,7 @@ tag_ends tag work = by (header_refusal tag) refl
     on : Look
     on = both (look_at v 1 (region_of tag)) (plain_if (is_simple tag))
 
-    region : header_refusal tag ≡ 0 → (w : Bool) → is_whole tag ≡ w → Ends (pick w (Look.Stops 40) on) (read_all tag work).1
+    region : header_refusal tag ≡ 0 → (w : Bool) → is_whole tag ≡ w → Ends (pick w (Err (refusal 40)) on) (read_all tag work).1
     region z true e = Ends.at_once _
     region z false e =
         let o = opened v tag work z refl false e (λ t. absurd (false_not_true t)) in
@@ -229,59 +219,62 @@ tag_ends tag work = by (header_refusal tag) refl
         let q = subst (λ (l : List ℕ). Ends (look_at v 1 l) (read_from (length tag + 1) tag (reader v false o.begin o.begin o.end) o.left).1) there r in
         ends_with (is_simple tag) (subst (λ (x : Reading). Ends (look_at v 1 (region_of tag)) x.1) (sym steps) q)
 
-    by : (k : ℕ) → header_refusal tag ≡ k → Ends (unless k (pick (is_whole tag) (Look.Stops 40) on)) (read_all tag work).1
+    by : (k : ℕ) → header_refusal tag ≡ k → Ends (unless k (pick (is_whole tag) (Err (refusal 40)) on)) (read_all tag work).1
     by zero z = region z (is_whole tag) refl
     by (suc k) z =
         let is : read_all tag work ≡ ([], refused (suc k)) = rw (z, eqb-suc-zero k) in
-        subst (λ (x : Reading). Ends (Look.Stops (suc k)) x.1) (sym is) (Ends.halts (suc k) (λ (e : suc k ≡ 0). omega arith))
+        subst (λ (x : Reading). Ends (Err (refusal (suc k))) x.1) (sym is) (Ends.halts (refusal (suc k)) (λ (e : suc k ≡ 0). omega arith))
 
 -- ---- where the look stops
 
 -- it has a number
-pub look_some : (tag : List ℕ) (k : ℕ) → tag_look tag ≡ Look.Stops k → 0 < k
-look_some tag k e = by (subst (λ (x : Look). Ends x (read_all tag []).1) e (tag_ends tag []))
+pub look_some : (tag : List ℕ) {k : Refusal} → tag_look tag ≡ Err k → 0 < k.number
+look_some tag e = by (subst (λ (x : Look). Ends x (read_all tag []).1) e (tag_ends tag []))
   where
-    by : {k : ℕ} {e : Ending} → Ends (Look.Stops k) e → 0 < k
+    by : {k : Refusal} {e : Ending} → Ends (Err k) e → 0 < k.number
     by (Ends.halts k ne) = omega arith
     by (Ends.at_once e) = omega arith
 
 -- every reading is refused with it, unless it is 40
-pub look_reads : (tag work : List ℕ) (k : ℕ) → tag_look tag ≡ Look.Stops k → (k ≡ 40 → ⊥) → (read_all tag work).1 ≡ refused k
-look_reads tag work k e ne = by (subst (λ (x : Look). Ends x (read_all tag work).1) e (tag_ends tag work)) ne
+pub look_reads : (tag work : List ℕ) {k : Refusal} → tag_look tag ≡ Err k → (k.number ≡ 40 → ⊥) → (read_all tag work).1 ≡ refused k.number
+look_reads tag work e ne = by (subst (λ (x : Look). Ends x (read_all tag work).1) e (tag_ends tag work)) ne
   where
-    by : {k : ℕ} {e : Ending} → Ends (Look.Stops k) e → (k ≡ 40 → ⊥) → e ≡ refused k
+    by : {k : Refusal} {e : Ending} → Ends (Err k) e → (k.number ≡ 40 → ⊥) → e ≡ refused k.number
     by (Ends.halts k ne) n = refl
     by (Ends.at_once e) n = absurd (n refl)
 
 -- and where a reading is refused, the look stops
-pub reads_look : (tag work : List ℕ) (k : ℕ) → (read_all tag work).1 ≡ refused k → (tag_look tag ≡ Look.Stops k) ⊎ (tag_look tag ≡ Look.Stops 40)
+pub reads_look : (tag work : List ℕ) (k : ℕ) → (read_all tag work).1 ≡ refused k → (tag_look tag ≡ Err (refusal k)) ⊎ (tag_look tag ≡ Err (refusal 40))
 reads_look tag work k e = by (tag_ends tag work) e
   where
-    by : {x : Look} {e : Ending} → Ends x e → e ≡ refused k → (x ≡ Look.Stops k) ⊎ (x ≡ Look.Stops 40)
-    by (Ends.halts j ne) h = let z : j ≡ k = cc in inl (ap Look.Stops z)
+    by : {x : Look} {e : Ending} → Ends x e → e ≡ refused k → (x ≡ Err (refusal k)) ⊎ (x ≡ Err (refusal 40))
+    by (Ends.halts j ne) h = let z : j.number ≡ k = cc in inl (ap (λ (n : ℕ). Err (refusal n)) z)
     by (Ends.at_once e) h = inr refl
     by Ends.oddly h = absurd (let z : ◌≡◌ {A = ℕ} 0 1 = cc in omega arith)
     by Ends.plainly h = absurd (let z : ◌≡◌ {A = ℕ} 0 1 = cc in omega arith)
 
 -- ---- the answer
 
-places_over : (v : Version) (bs : List (List ℕ)) (amount : ℕ) (tag t : List ℕ) (k : ℕ) (l : List ℕ) → on_places v bs amount tag l ≡ (Raised.Refused k, t) → 40 < k
+answer_number : {j k : Refusal} {s t : List ℕ} → ◌≡◌ {A = Answer} (Err j, s) (Err k, t) → j.number ≡ k.number
+answer_number e = ap (λ (x : Refusal). x.number) (err_same (ap (λ (o : Answer). o.0) e))
+
+places_over : (v : Version) (bs : List (List ℕ)) (amount : ℕ) (tag t : List ℕ) (k : ℕ) (l : List ℕ) → on_places v bs amount tag l ≡ (Err (refusal k), t) → 40 < k
 unfolding raise_to
-places_over v bs amount tag t k [] e = let r : Raised.Refused 41 ≡ Raised.Refused k = ap (λ (o : Answer). o.0) e in let z : 41 ≡ k = cc in omega arith
-places_over v bs amount tag t k (i ∷ j ∷ l) e = let r : Raised.Refused 42 ≡ Raised.Refused k = ap (λ (o : Answer). o.0) e in let z : 42 ≡ k = cc in omega arith
+places_over v bs amount tag t k [] e = omega (arith, answer_number e)
+places_over v bs amount tag t k (i ∷ j ∷ l) e = omega (arith, answer_number e)
 places_over v bs amount tag t k (i ∷ []) e =
     let n = counter_of (field_in v (block_at bs i)) + amount in
     by (ltb n (2 ^ 64)) (ltb n (256 ^ length (field_in v (block_at bs i)))) n (counted_tag v bs i n tag) e
   where
-    by : (p q : Bool) (n : ℕ) (s : List ℕ) → ◌≡◌ {A = Answer} (pick p (pick q (Raised.Counts n, s) (Raised.Refused 44, tag)) (Raised.Refused 43, tag)) (Raised.Refused k, t) → 40 < k
-    by true true n s h = let r : Raised.Counts n ≡ Raised.Refused k = ap (λ (o : Answer). o.0) h in absurd (let z : ◌≡◌ {A = ℕ} 0 1 = cc in omega arith)
-    by true false n s h = let r : Raised.Refused 44 ≡ Raised.Refused k = ap (λ (o : Answer). o.0) h in let z : 44 ≡ k = cc in omega arith
-    by false q n s h = let r : Raised.Refused 43 ≡ Raised.Refused k = ap (λ (o : Answer). o.0) h in let z : 43 ≡ k = cc in omega arith
+    by : (p q : Bool) (n : ℕ) (s : List ℕ) → ◌≡◌ {A = Answer} (pick p (pick q (Ok n, s) (Err (refusal 44), tag)) (Err (refusal 43), tag)) (Err (refusal k), t) → 40 < k
+    by true true n s h = ok_not_err (ap (λ (o : Answer). o.0) h)
+    by true false n s h = omega (arith, answer_number h)
+    by false q n s h = omega (arith, answer_number h)
 
-tag_under : (tag t : List ℕ) (k : ℕ) (on : Answer) (x : Look) → (on ≡ (Raised.Refused k, t) → 40 < k) → on_tag tag on x ≡ (Raised.Refused k, t) → k < 40 → x ≡ Look.Stops k
-tag_under tag t k on (Look.Stops j) h e lt = let r : Raised.Refused j ≡ Raised.Refused k = ap (λ (o : Answer). o.0) e in cc
-tag_under tag t k on Look.Odd h e lt = let r : Raised.Refused 40 ≡ Raised.Refused k = ap (λ (o : Answer). o.0) e in let z : 40 ≡ k = cc in absurd (omega arith)
-tag_under tag t k on Look.Plain h e lt = absurd (omega (arith, h e))
+tag_under : (tag t : List ℕ) (k : ℕ) (on : Answer) (x : Look) → (on ≡ (Err (refusal k), t) → 40 < k) → on_tag tag on x ≡ (Err (refusal k), t) → k < 40 → x ≡ Err (refusal k)
+tag_under tag t k on (Err j) h e lt = ap Err (err_same (ap (λ (o : Answer). o.0) e))
+tag_under tag t k on (Ok false) h e lt = absurd (omega (arith, answer_number e))
+tag_under tag t k on (Ok true) h e lt = absurd (omega (arith, h e))
 
 pub refused_as_reading : RefusedAsReading
 unfolding raised_of
@@ -289,21 +282,21 @@ refused_as_reading tag user amount k tag' work e lt =
     let v = tag_version tag in
     let bs = tag_blocks tag in
     let x = tag_under tag tag' k _ (tag_look tag) (places_over v bs amount tag tag' k (places_from v user 0 bs)) e lt in
-    look_reads tag work k x (λ z. omega (arith, z))
+    look_reads tag work x (λ z. omega (arith, z))
 
 -- ---- where reading is refused
 
-pub stopped : (tag user : List ℕ) (amount k : ℕ) → tag_look tag ≡ Look.Stops k → raised_of tag user amount ≡ (Raised.Refused k, tag)
+pub stopped : (tag user : List ℕ) (amount : ℕ) {k : Refusal} → tag_look tag ≡ Err k → raised_of tag user amount ≡ (Err k, tag)
 unfolding raised_of
-stopped tag user amount k e = rw e
+stopped tag user amount e = rw e
 
 pub reading_refused : ReadingRefused
 reading_refused tag user amount k work e = by (reads_look tag work k e)
   where
-    by : (tag_look tag ≡ Look.Stops k) ⊎ (tag_look tag ≡ Look.Stops 40)
-        → (raised_of tag user amount ≡ (Raised.Refused k, tag)) ⊎ (raised_of tag user amount ≡ (Raised.Refused 40, tag))
-    by (inl f) = inl (stopped tag user amount k f)
-    by (inr f) = inr (stopped tag user amount 40 f)
+    by : (tag_look tag ≡ Err (refusal k)) ⊎ (tag_look tag ≡ Err (refusal 40))
+        → (raised_of tag user amount ≡ (Err (refusal k), tag)) ⊎ (raised_of tag user amount ≡ (Err (refusal 40), tag))
+    by (inl f) = inl (stopped tag user amount f)
+    by (inr f) = inr (stopped tag user amount f)
 
 -- ---- a refusal has a number
 
@@ -314,7 +307,7 @@ refused_number tag user amount k tag' e =
     let bs = tag_blocks tag in
     by (tag_look tag) refl (places_over v bs amount tag tag' k (places_from v user 0 bs)) e
   where
-    by : {on : Answer} (x : Look) → tag_look tag ≡ x → (on ≡ (Raised.Refused k, tag') → 40 < k) → on_tag tag on x ≡ (Raised.Refused k, tag') → 0 < k
-    by (Look.Stops j) f h g = let r : Raised.Refused j ≡ Raised.Refused k = ap (λ (o : Answer). o.0) g in let z : j ≡ k = cc in omega (arith, look_some tag j f)
-    by Look.Odd f h g = let r : Raised.Refused 40 ≡ Raised.Refused k = ap (λ (o : Answer). o.0) g in let z : 40 ≡ k = cc in omega arith
-    by Look.Plain f h g = omega (arith, h g)
+    by : {on : Answer} (x : Look) → tag_look tag ≡ x → (on ≡ (Err (refusal k), tag') → 40 < k) → on_tag tag on x ≡ (Err (refusal k), tag') → 0 < k
+    by (Err j) f h g = omega (arith, answer_number g, look_some tag f)
+    by (Ok false) f h g = omega (arith, answer_number g)
+    by (Ok true) f h g = omega (arith, h g)

@@ -20,7 +20,7 @@ use Rattle.format.specs.Looks.{all_zero, frame_look, on_look, look_for, look_at}
 use Rattle.raise.specs.Raise.{raised_of}
 use Rattle.raise.specs.Promises.{records_from, PlainRuns, none, also}
 use Rattle.raise.proofs.Written.{written_raises}
-use Rattle.raise.specs.declared.Raised.{Raised}
+use Rattle.std.specs.Prelude.{Ok}
 
 -- the runs of the sample
 pub runs_22 : PlainRuns (version_of 2) (sample_of (version_of 2))
@@ -40,14 +40,14 @@ two_bytes : 65280 + 255 < 256 ^ length (counter_bytes 65280)
 unfolding counter_bytes stripped digits
 two_bytes = omega arith
 
-pub raised_22 : (raised_of off_22.tag [] 255).0 ≡ Raised.Counts 65535
+pub raised_22 : (raised_of off_22.tag [] 255).0 ≡ Ok 65535
 unfolding records_from
 raised_22 = written_raises 2 3 (sample_of (version_of 2)) off_22.tag [] 5 (named "POP") 255 65280 255 off_22.is_written runs_22 refl refl (omega arith) two_bytes
 
-pub raised_23 : (raised_of off_23.tag [] 255).0 ≡ Raised.Counts 65535
+pub raised_23 : (raised_of off_23.tag [] 255).0 ≡ Ok 65535
 unfolding records_from
 raised_23 = written_raises 3 3 (sample_of (version_of 3)) off_23.tag [] 7 (named "POPM") 255 65280 255 off_23.is_written runs_23 refl refl (omega arith) two_bytes
 
-pub raised_24 : (raised_of off_24.tag [] 255).0 ≡ Raised.Counts 65535
+pub raised_24 : (raised_of off_24.tag [] 255).0 ≡ Ok 65535
 unfolding records_from
 raised_24 = written_raises 4 3 (sample_of (version_of 4)) off_24.tag [] 7 (named "POPM") 255 65280 255 off_24.is_written runs_24 refl refl (omega arith) two_bytes

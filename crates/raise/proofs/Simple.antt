@@ -12,11 +12,11 @@ use Rattle.format.specs.Bytes.{has}
 use Rattle.format.specs.Header.{size_of, flags_of}
 use Rattle.format.specs.Looks.{is_simple}
 use Rattle.reader.specs.declared.Header.{Header}
-use Rattle.reader.specs.declared.Headed.{Headed}
 use Rattle.reader.specs.Reader.{header_of}
 use Rattle.reader.proofs.Opens.{found}
+use Rattle.std.specs.Prelude.{Ok}
 
-module _ (tag : List ℕ) (h : Header) (e : header_of tag ≡ Headed.Found h) where
+module _ (tag : List ℕ) (h : Header) (e : header_of tag ≡ Ok h) where
   size_is : h.size ≡ size_of tag
   size_is = ap (λ (x : Header). x.size) (found tag h e).1
 

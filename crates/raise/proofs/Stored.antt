@@ -27,7 +27,8 @@ use Rattle.format.specs.Looks.{frame_look, look_for, look_at}
 use Rattle.raise.specs.Raise.{head_start, head_kind, is_popularimeter, same_bytes, user_of, body_in, is_mine, field_in, field_at}
 use Rattle.format.proofs.Looking.{Plainly, frame_plain, plain_frame}
 use Rattle.raise.proofs.Plainness.{PlainBlock}
-use Rattle.format.specs.declared.Look.{Look}
+use Rattle.std.specs.Prelude.{Result, Option, Ok}
+use Rattle.format.specs.declared.refusals.Refusal.{Refusal}
 
 -- ---- stores
 
@@ -71,12 +72,12 @@ kind_true Kind.Raw e = absurd (false_not_true e)
 module _ {v : Version} {b : List ℕ} (w : Block v b) where
   pub body_is : body_in v b ≡ drop w.start b
   unfolding body_in
-  body_is = ap (λ (h : Head). drop (head_start h) b) w.head
+  body_is = ap (λ (h : Result (Option Head) Refusal). drop (head_start h) b) w.head
 
   pub mine_is : (user : List ℕ) → is_mine v user b ≡ (is_popularimeter (shown_kind v w.id w.compressed) && same_bytes (user_of (drop w.start b)) user)
   unfolding is_mine
   mine_is user =
-      ap (λ (h : Head). is_popularimeter (head_kind v h) && same_bytes (user_of (body_in v b)) user) w.head
+      ap (λ (h : Result (Option Head) Refusal). is_popularimeter (head_kind v h) && same_bytes (user_of (body_in v b)) user) w.head
       ∙ ap (λ (s : List ℕ). is_popularimeter (shown_kind v w.id w.compressed) && same_bytes (user_of s) user) body_is
 
   pub field_is : field_in v b ≡ drop (zero_at (drop w.start b) + 2) (drop w.start b)
@@ -85,7 +86,7 @@ module _ {v : Version} {b : List ℕ} (w : Block v b) where
 
   pub at_is : field_at v b ≡ w.start + (zero_at (drop w.start b) + 2)
   unfolding field_at
-  at_is = ap (λ (h : Head). head_start h + (zero_at (body_in v b) + 2)) w.head ∙ ap (λ (s : List ℕ). w.start + (zero_at s + 2)) body_is
+  at_is = ap (λ (h : Result (Option Head) Refusal). head_start h + (zero_at (body_in v b) + 2)) w.head ∙ ap (λ (s : List ℕ). w.start + (zero_at s + 2)) body_is
 
   -- a popularimeter of this user
   pub mine_kind : (user : List ℕ) → is_mine v user b ≡ true → shown_kind v w.id w.compressed ≡ Kind.Popularimeter
@@ -175,7 +176,7 @@ module _ {v : Version} {b : List ℕ} (p : PlainBlock v b) (kind : shown_kind v 
       let c = (taken_counted body' new_taken).rated in
       sym (length-take-le (zero_at body') body' (omega arith)) ∙ ap length new_user ∙ length-take-le (zero_at body) body (omega arith)
 
-  none_look : look_at v 2 [] ≡ Look.Plain
+  none_look : look_at v 2 [] ≡ Ok true
   unfolding look_at look_for
   none_look = refl
 
@@ -186,8 +187,8 @@ module _ {v : Version} {b : List ℕ} (p : PlainBlock v b) (kind : shown_kind v 
       let f = known.no_flagged in
       let k : shown_kind v w.id false ≡ Kind.Popularimeter = ap (shown_kind v w.id) (sym c) ∙ kind in
       let fine : body_refusal (shown_kind v w.id false) body' ≡ 0 = ap (λ (j : Kind). body_refusal j body') k ∙ new_taken in
-      let run : look_at v 2 (run_of (shown_kind v w.id false) body') ≡ Look.Plain = ap (λ (j : Kind). look_at v 2 (run_of j body')) k ∙ none_look in
-      let looks : frame_look v (look_at v 2) w.id w.compressed w.flagged false (drop w.start new) ≡ Look.Plain =
+      let run : look_at v 2 (run_of (shown_kind v w.id false) body') ≡ Ok true = ap (λ (j : Kind). look_at v 2 (run_of j body')) k ∙ none_look in
+      let looks : frame_look v (look_at v 2) w.id w.compressed w.flagged false (drop w.start new) ≡ Ok true =
       ap (λ (t : Bool). frame_look v (look_at v 2) w.id t w.flagged false (drop w.start new)) c
       ∙ ap (λ (t : Bool). frame_look v (look_at v 2) w.id false t false (drop w.start new)) f
       ∙ ap (λ (s : List ℕ). frame_look v (look_at v 2) w.id false false false s) new_body

@@ -8,9 +8,10 @@ use lib.Seq.{sets}
 use lib.Dec.{ltb}
 use borrow.Author.Tests.{lt-ltb, le-ltb, le-leb, lt-leb}
 use Rattle.format.specs.Numbers.{bytes_of}
-use Rattle.raise.specs.declared.Raised.{Raised}
 use Rattle.raise.specs.Raise.{Answer}
 use Rattle.raise.specs.Seeks.{is_field, raised_at}
+use Rattle.std.specs.Prelude.{Ok, Err}
+use Rattle.format.specs.Refusals.{refusal}
 
 -- the bytes from start up to stop
 module _ (start stop : ℕ) (tag : List ℕ) where
@@ -25,21 +26,21 @@ module _ (start stop : ℕ) (tag : List ℕ) where
     field_there there = rw (le-leb start stop le, le-leb stop (length tag) there)
 
 module _ (start stop counter amount : ℕ) (tag : List ℕ) where
-  pub sum_large : 2 ^ 64 ≤ counter + amount → ◌≡◌ {A = Answer} (Raised.Refused 43, tag) (raised_at start stop counter amount tag)
+  pub sum_large : 2 ^ 64 ≤ counter + amount → ◌≡◌ {A = Answer} (Err (refusal 43), tag) (raised_at start stop counter amount tag)
   unfolding raised_at
   sum_large h = rw (le-ltb (counter + amount) (2 ^ 64) h)
 
   module _ (small : counter + amount < 2 ^ 64) where
-    pub sum_wide : ltb (counter + amount) (256 ^ (stop - start)) ≡ false → ◌≡◌ {A = Answer} (Raised.Refused 44, tag) (raised_at start stop counter amount tag)
+    pub sum_wide : ltb (counter + amount) (256 ^ (stop - start)) ≡ false → ◌≡◌ {A = Answer} (Err (refusal 44), tag) (raised_at start stop counter amount tag)
     unfolding raised_at
     sum_wide h = rw (lt-ltb (counter + amount) (2 ^ 64) small, h, and-false)
 
     -- no such bytes
-    pub sum_nowhere : is_field start stop tag ≡ false → ◌≡◌ {A = Answer} (Raised.Refused 44, tag) (raised_at start stop counter amount tag)
+    pub sum_nowhere : is_field start stop tag ≡ false → ◌≡◌ {A = Answer} (Err (refusal 44), tag) (raised_at start stop counter amount tag)
     unfolding raised_at
     sum_nowhere h = rw (lt-ltb (counter + amount) (2 ^ 64) small, h)
 
     pub sum_stored : is_field start stop tag ≡ true → ltb (counter + amount) (256 ^ (stop - start)) ≡ true → (after : List ℕ) → after ≡ sets tag start (bytes_of (stop - start) (counter + amount))
-        → ◌≡◌ {A = Answer} (Raised.Counts (counter + amount), after) (raised_at start stop counter amount tag)
+        → ◌≡◌ {A = Answer} (Ok (counter + amount), after) (raised_at start stop counter amount tag)
     unfolding raised_at
     sum_stored f h after e = rw (lt-ltb (counter + amount) (2 ^ 64) small, f, h, e)

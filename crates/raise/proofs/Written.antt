@@ -2,7 +2,7 @@
 use mathlib.Core.Path.{◌≡◌, refl, sym, ap, ◌∙◌, subst}
 use Prim.Native.Nat.{ℕ, zero, suc, ◌+◌, ◌^◌, ◌<◌}
 use native.Mathlib.Omega.{arith}
-use mathlib.Core.Bool.{false}
+use mathlib.Core.Bool.{false, true}
 use mathlib.Core.List.{List, [], ◌∷◌, ◌++◌}
 use lib.ListN.{length, take, drop, get_or}
 use lib.Seq.{length-take-le, drop-append-add, take-length}
@@ -37,8 +37,7 @@ use Rattle.raise.proofs.OffFrames.{off_block, off_body, off_plain}
 use Rattle.raise.proofs.Search.{found}
 use Rattle.raise.proofs.Records.{places_records, reads_one}
 use Rattle.raise.proofs.Accepting.{sum_at, Accepted, accept}
-use Rattle.format.specs.declared.Look.{Look}
-use Rattle.raise.specs.declared.Raised.{Raised}
+use Rattle.std.specs.Prelude.{Ok}
 
 -- what the parts of a body show is what the body holds
 view_is : (v : Version) (b : List ℕ) (c : Content) → ReadBack v c → body_bytes c ≡ b → content_in v b (kind_in c) ≡ c
@@ -86,7 +85,7 @@ off_flags v p f = refl
 -- ---- the tag
 
 pub written_looks : (version padding : ℕ) (records : List Rec) (tag : List ℕ) → Written version 0 padding records tag → PlainRuns (version_of version) records
-    → tag_look tag ≡ Look.Plain
+    → tag_look tag ≡ Ok true
 written_looks version padding records tag w runs =
     let v = version_of version in
     let t = told_written version 0 padding records tag w in
@@ -119,4 +118,4 @@ written_raises version padding records tag user i id rating counter amount w run
       fits = subst (λ (n : ℕ). n < 256 ^ length (field_in (tag_version tag) (block_at (tag_blocks tag) i))) (sym sum)
           (subst (λ (l : List ℕ). counter + amount < 256 ^ length l) (sym field) fits);
     } in
-    ap (λ (o : Answer). o.0) (accept a) ∙ ap Raised.Counts sum
+    ap (λ (o : Answer). o.0) (accept a) ∙ ap Ok sum

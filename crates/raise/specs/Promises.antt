@@ -1,5 +1,5 @@
 -- What is promised of raising a counter, on the definitions alone (document 01, "Raising a counter"; request f). Assumes nothing.
-use Rattle.std.specs.Prelude.{◌≡◌, ◌⊎◌, ℕ, suc, ◌+◌, ◌^◌, ◌≤◌, ◌<◌, Bool, false, List, [], ◌∷◌, length, take, drop, get_or, set}
+use Rattle.std.specs.Prelude.{◌≡◌, ◌⊎◌, ℕ, suc, ◌+◌, ◌^◌, ◌≤◌, ◌<◌, Bool, false, List, [], ◌∷◌, length, take, drop, get_or, set, Ok, Err, true}
 use Rattle.format.specs.Bytes.{pick, zero_at}
 use Rattle.format.specs.Header.{size_of, version_of}
 use Rattle.format.specs.Popularimeter.{counter_bytes}
@@ -10,8 +10,7 @@ use Rattle.promises.specs.Written.{Written}
 use Rattle.blocks.specs.Blocks.{joined}
 use Rattle.format.specs.Looks.{look_at, tag_look}
 use Rattle.raise.specs.Raise.{same_bytes, places_from, tag_version, tag_blocks, raised_of}
-use Rattle.format.specs.declared.Look.{Look}
-use Rattle.raise.specs.declared.Raised.{Raised}
+use Rattle.format.specs.Refusals.{refusal}
 
 -- a popularimeter's record
 abbrev pub counted : ℕ → List ℕ → ℕ → ℕ → Rec
@@ -62,34 +61,34 @@ pub record Raising (tag user : List ℕ) (amount n : ℕ) (tag' : List ℕ) : Ty
   pub same_places : (j : ℕ) → length (joined (take j (tag_blocks tag'))) ≡ length (joined (take j (tag_blocks tag)))
 
 abbrev pub RaiseReads : Type 0
-RaiseReads = (tag user : List ℕ) (amount n : ℕ) (tag' : List ℕ) → raised_of tag user amount ≡ (Raised.Counts n, tag') → Raising tag user amount n tag'
+RaiseReads = (tag user : List ℕ) (amount n : ℕ) (tag' : List ℕ) → raised_of tag user amount ≡ (Ok n, tag') → Raising tag user amount n tag'
 
 -- A refused raise leaves the tag as it was.
 abbrev pub RefusedSame : Type 0
-RefusedSame = (tag user : List ℕ) (amount k : ℕ) (tag' : List ℕ) → raised_of tag user amount ≡ (Raised.Refused k, tag') → tag' ≡ tag
+RefusedSame = (tag user : List ℕ) (amount k : ℕ) (tag' : List ℕ) → raised_of tag user amount ≡ (Err (refusal k), tag') → tag' ≡ tag
 
 -- A refusal has a number: none is 0.
 abbrev pub RefusedNumber : Type 0
-RefusedNumber = (tag user : List ℕ) (amount k : ℕ) (tag' : List ℕ) → raised_of tag user amount ≡ (Raised.Refused k, tag') → 0 < k
+RefusedNumber = (tag user : List ℕ) (amount k : ℕ) (tag' : List ℕ) → raised_of tag user amount ≡ (Err (refusal k), tag') → 0 < k
 
 -- A number below 40 is the one that reading the tag is refused with, whatever the work buffer.
 abbrev pub RefusedAsReading : Type 0
-RefusedAsReading = (tag user : List ℕ) (amount k : ℕ) (tag' work : List ℕ) → raised_of tag user amount ≡ (Raised.Refused k, tag') → k < 40
+RefusedAsReading = (tag user : List ℕ) (amount k : ℕ) (tag' work : List ℕ) → raised_of tag user amount ≡ (Err (refusal k), tag') → k < 40
     → (read_all tag work).1 ≡ refused k
 
 -- Where reading the tag is refused, with whatever work buffer, so is a raise, before 41 to 44: with that number, or with 40 at once.
 abbrev pub ReadingRefused : Type 0
 ReadingRefused = (tag user : List ℕ) (amount k : ℕ) (work : List ℕ) → (read_all tag work).1 ≡ refused k
-    → (raised_of tag user amount ≡ (Raised.Refused k, tag)) ⊎ (raised_of tag user amount ≡ (Raised.Refused 40, tag))
+    → (raised_of tag user amount ≡ (Err (refusal k), tag)) ⊎ (raised_of tag user amount ≡ (Err (refusal 40), tag))
 
 -- The search is one among the records that reading gives, with any work buffer.
 abbrev pub SearchReads : Type 0
-SearchReads = (tag user work : List ℕ) → tag_look tag ≡ Look.Plain
+SearchReads = (tag user work : List ℕ) → tag_look tag ≡ Ok true
     → places_from (tag_version tag) user 0 (tag_blocks tag) ≡ records_from user 0 (read_all tag work).0
 
 -- A user with a zero in it is in no plain tag.
 abbrev pub ZeroAbsent : Type 0
-ZeroAbsent = (tag user : List ℕ) (amount : ℕ) → tag_look tag ≡ Look.Plain → zero_at user < length user → raised_of tag user amount ≡ (Raised.Refused 41, tag)
+ZeroAbsent = (tag user : List ℕ) (amount : ℕ) → tag_look tag ≡ Ok true → zero_at user < length user → raised_of tag user amount ≡ (Err (refusal 41), tag)
 
 -- ---- two raises
 
@@ -106,13 +105,13 @@ OtherSame = (tag user other : List ℕ) (amount more : ℕ) → (user ≡ other 
 -- Two raises for two users, both accepted, are accepted in the other order, with the same counters and the same tag in the end.
 abbrev pub RaisesCommute : Type 0
 RaisesCommute = (tag user other : List ℕ) (amount more n k : ℕ) (t s : List ℕ) → (user ≡ other → ⊥)
-    → raised_of tag user amount ≡ (Raised.Counts n, t) → raised_of t other more ≡ (Raised.Counts k, s)
-    → (t' : List ℕ) × ((raised_of tag other more ≡ (Raised.Counts k, t')) × (raised_of t' user amount ≡ (Raised.Counts n, s)))
+    → raised_of tag user amount ≡ (Ok n, t) → raised_of t other more ≡ (Ok k, s)
+    → (t' : List ℕ) × ((raised_of tag other more ≡ (Ok k, t')) × (raised_of t' user amount ≡ (Ok n, s)))
 
 -- Two raises for one user, both accepted, are one by the sum.
 abbrev pub RaisesAdd : Type 0
 RaisesAdd = (tag user : List ℕ) (amount more n k : ℕ) (t s : List ℕ)
-    → raised_of tag user amount ≡ (Raised.Counts n, t) → raised_of t user more ≡ (Raised.Counts k, s) → raised_of tag user (amount + more) ≡ (Raised.Counts k, s)
+    → raised_of tag user amount ≡ (Ok n, t) → raised_of t user more ≡ (Ok k, s) → raised_of tag user (amount + more) ≡ (Ok k, s)
 
 -- ---- not empty
 
@@ -127,7 +126,7 @@ run_within (raw body) = []
 -- no subframe of these records is compressed: a writer takes such a run, and the tag is then not plain
 pub data PlainRuns (v : Version) : List Rec → Type 0 where
   none : PlainRuns v []
-  also : {r : Rec} {rs : List Rec} → look_at v 2 (run_within r.content) ≡ Look.Plain → PlainRuns v rs → PlainRuns v (r ∷ rs)
+  also : {r : Rec} {rs : List Rec} → look_at v 2 (run_within r.content) ≡ Ok true → PlainRuns v rs → PlainRuns v (r ∷ rs)
 
 -- In a tag that was written with mode off, in each edition, the one popularimeter of a user is raised whenever the sum fits 64 bits and the bytes that the writer gave its counter.
 abbrev pub WrittenRaises : Type 0
@@ -135,4 +134,4 @@ WrittenRaises = (version padding : ℕ) (records : List Rec) (tag user : List �
     → Written version 0 padding records tag → PlainRuns (version_of version) records
     → records_from user 0 records ≡ i ∷ [] → get_or records i (counted id user rating counter) ≡ counted id user rating counter
     → counter + amount < 2 ^ 64 → counter + amount < 256 ^ length (counter_bytes counter)
-    → (raised_of tag user amount).0 ≡ Raised.Counts (counter + amount)
+    → (raised_of tag user amount).0 ≡ Ok (counter + amount)

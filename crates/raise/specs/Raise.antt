@@ -1,5 +1,5 @@
 -- Raising a counter in place: found by its user among the top-level frames of a plain tag (document 01, "Raising a counter"; request f). Assumes nothing.
-use Rattle.std.specs.Prelude.{ℕ, suc, ◌+◌, ◌^◌, Bool, true, false, ◌&&◌, List, [], ◌∷◌, length, take, drop, get_or, ltb, eqb}
+use Rattle.std.specs.Prelude.{ℕ, suc, ◌+◌, ◌^◌, Bool, true, false, ◌&&◌, List, [], ◌∷◌, length, take, drop, get_or, ltb, eqb, Result, Option, Ok, Err, Some, None}
 use Rattle.std.proofs.lemmas.List.Edits.{sets}
 use Rattle.format.specs.Bytes.{pick, zero_at}
 use Rattle.format.specs.Numbers.{bytes_of}
@@ -11,9 +11,9 @@ use Rattle.format.specs.declared.Version.{Version}
 use Rattle.format.specs.declared.Kind.{Kind}
 use Rattle.format.specs.declared.Head.{Head}
 use Rattle.blocks.specs.Blocks.{joined, blocks_in, region_in}
-use Rattle.format.specs.Looks.{tag_look}
-use Rattle.format.specs.declared.Look.{Look}
-use Rattle.raise.specs.declared.Raised.{Raised}
+use Rattle.format.specs.Looks.{tag_look, Look}
+use Rattle.format.specs.declared.refusals.Refusal.{Refusal}
+use Rattle.format.specs.Refusals.{refusal}
 
 -- ---- the counter's bytes
 
@@ -23,15 +23,15 @@ field_of field value = bytes_of (length field) value
 
 -- ---- a block that is a popularimeter
 
-abbrev pub head_start : Head → ℕ
-head_start Head.Nothing = 0
-head_start (Head.Refused k) = 0
-head_start (Head.Found id compressed flagged short start len) = start
+abbrev pub head_start : Result (Option Head) Refusal → ℕ
+head_start (Ok None) = 0
+head_start (Err k) = 0
+head_start (Ok (Some h)) = h.start
 
-abbrev pub head_kind : Version → Head → Kind
-head_kind v Head.Nothing = Kind.Raw
-head_kind v (Head.Refused k) = Kind.Raw
-head_kind v (Head.Found id compressed flagged short start len) = shown_kind v id compressed
+abbrev pub head_kind : Version → Result (Option Head) Refusal → Kind
+head_kind v (Ok None) = Kind.Raw
+head_kind v (Err k) = Kind.Raw
+head_kind v (Ok (Some h)) = shown_kind v h.id h.compressed
 
 abbrev pub is_popularimeter : Kind → Bool
 is_popularimeter Kind.Text = false
@@ -86,25 +86,25 @@ unfoldable pub counted_tag : Version → List (List ℕ) → ℕ → ℕ → Lis
 counted_tag v bs i value tag = sets tag (place_of v bs i) (field_of (field_in v (block_at bs i)) value)
 
 abbrev pub Answer : Type 0
-Answer = Raised × List ℕ
+Answer = Result ℕ Refusal × List ℕ
 
 -- 43, then 44
 unfoldable pub raise_to : Version → List (List ℕ) → ℕ → ℕ → List ℕ → Answer
 raise_to v bs i value tag =
     pick (ltb value (2 ^ 64))
-    (pick (ltb value (256 ^ length (field_in v (block_at bs i)))) (Raised.Counts value, counted_tag v bs i value tag) (Raised.Refused 44, tag))
-    (Raised.Refused 43, tag)
+    (pick (ltb value (256 ^ length (field_in v (block_at bs i)))) (Ok value, counted_tag v bs i value tag) (Err (refusal 44), tag))
+    (Err (refusal 43), tag)
 
 -- 41, none; 42, two or more
 abbrev pub on_places : Version → List (List ℕ) → ℕ → List ℕ → List ℕ → Answer
-on_places v bs amount tag [] = (Raised.Refused 41, tag)
+on_places v bs amount tag [] = (Err (refusal 41), tag)
 on_places v bs amount tag (i ∷ []) = raise_to v bs i (counter_of (field_in v (block_at bs i)) + amount) tag
-on_places v bs amount tag (i ∷ j ∷ l) = (Raised.Refused 42, tag)
+on_places v bs amount tag (i ∷ j ∷ l) = (Err (refusal 42), tag)
 
 abbrev pub on_tag : List ℕ → Answer → Look → Answer
-on_tag tag on (Look.Stops k) = (Raised.Refused k, tag)
-on_tag tag on Look.Odd = (Raised.Refused 40, tag)
-on_tag tag on Look.Plain = on
+on_tag tag on (Err k) = (Err k, tag)
+on_tag tag on (Ok false) = (Err (refusal 40), tag)
+on_tag tag on (Ok true) = on
 
 abbrev pub tag_version : List ℕ → Version
 tag_version tag = version_of (edition_of tag)

@@ -1,5 +1,5 @@
 -- How a raise comes to its answer: the search goes along with the look, frame by frame (document 01, "Raising a counter"; request f). Assumes nothing.
-use Rattle.std.specs.Prelude.{ℕ, ◌+◌, ◌-◌, ◌^◌, Bool, true, false, ◌&&◌, List, [], ◌∷◌, length, ltb, leb}
+use Rattle.std.specs.Prelude.{ℕ, ◌+◌, ◌-◌, ◌^◌, Bool, true, false, ◌&&◌, List, [], ◌∷◌, length, ltb, leb, Result, Ok, Err}
 use Rattle.std.proofs.lemmas.List.Edits.{sets}
 use Rattle.format.specs.Bytes.{pick}
 use Rattle.format.specs.Numbers.{bytes_of}
@@ -7,11 +7,12 @@ use Rattle.format.specs.Popularimeter.{counter_of}
 use Rattle.format.specs.Looks.{tag_look}
 use Rattle.format.specs.declared.Version.{Version}
 use Rattle.blocks.specs.Blocks.{joined}
-use Rattle.raise.specs.declared.Raised.{Raised}
 use Rattle.raise.specs.declared.users.Found.{Found}
 use Rattle.raise.specs.declared.seeking.Sought.{Sought}
 use Rattle.raise.specs.Frames.{looked_as}
 use Rattle.raise.specs.Raise.{is_mine, field_in, field_at, Answer, tag_version, tag_blocks}
+use Rattle.format.specs.declared.refusals.Refusal.{Refusal}
+use Rattle.format.specs.Refusals.{refusal}
 
 -- ---- along the frames
 
@@ -33,18 +34,22 @@ found_on v user f at (b ∷ bs) = found_on v user (also_in v user f at b) (at + 
 
 -- ---- what the search comes to
 
+-- the one counter by its places
+abbrev pub sought_with : ℕ → ℕ → ℕ → ℕ → ℕ → Sought
+sought_with begin start stop counter last = record { begin = begin; start = start; stop = stop; counter = counter; last = last }
+
 -- 41, 42, or the one; the last frame ends at `last`
-abbrev pub sought_by : Found → ℕ → Sought
-sought_by Found.None last = Sought.Refused 41
-sought_by (Found.One begin start stop counter) last = Sought.Counter begin start stop counter last
-sought_by Found.Many last = Sought.Refused 42
+abbrev pub sought_by : Found → ℕ → Result Sought Refusal
+sought_by Found.None last = Err (refusal 41)
+sought_by (Found.One begin start stop counter) last = Ok (sought_with begin start stop counter last)
+sought_by Found.Many last = Err (refusal 42)
 
 -- in blocks one after the other, the first at a place
-unfoldable pub sought_on : Version → List ℕ → ℕ → List (List ℕ) → Sought
+unfoldable pub sought_on : Version → List ℕ → ℕ → List (List ℕ) → Result Sought Refusal
 sought_on v user at bs = sought_by (found_on v user Found.None at bs) (at + length (joined bs))
 
-unfoldable pub sought_of : List ℕ → List ℕ → Sought
-sought_of tag user = looked_as Sought.Refused (tag_look tag) (sought_on (tag_version tag) user 10 (tag_blocks tag))
+unfoldable pub sought_of : List ℕ → List ℕ → Result Sought Refusal
+sought_of tag user = looked_as (tag_look tag) (sought_on (tag_version tag) user 10 (tag_blocks tag))
 
 -- ---- the raise
 
@@ -57,9 +62,9 @@ unfoldable pub raised_at : ℕ → ℕ → ℕ → ℕ → List ℕ → Answer
 raised_at start stop counter amount tag =
     let value = counter + amount in
     pick (ltb value (2 ^ 64))
-    (pick (is_field start stop tag && ltb value (256 ^ (stop - start))) (Raised.Counts value, sets tag start (bytes_of (stop - start) value)) (Raised.Refused 44, tag))
-    (Raised.Refused 43, tag)
+    (pick (is_field start stop tag && ltb value (256 ^ (stop - start))) (Ok value, sets tag start (bytes_of (stop - start) value)) (Err (refusal 44), tag))
+    (Err (refusal 43), tag)
 
-abbrev pub raised_by : Sought → ℕ → List ℕ → Answer
-raised_by (Sought.Refused k) amount tag = (Raised.Refused k, tag)
-raised_by (Sought.Counter begin start stop counter last) amount tag = raised_at start stop counter amount tag
+abbrev pub raised_by : Result Sought Refusal → ℕ → List ℕ → Answer
+raised_by (Err k) amount tag = (Err k, tag)
+raised_by (Ok c) amount tag = raised_at c.start c.stop c.counter amount tag

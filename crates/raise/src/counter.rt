@@ -4,23 +4,13 @@ ghost use Rattle.std.proofs.lemmas.List.Edits.{sets};
 ghost use Rattle.format.specs.Numbers.{bytes_of};
 ghost use Rattle.raise.specs.Seeks.{raised_at};
 
-use crate::Raised;
-use format::refusals::{COUNTER_TOO_SHORT, SUM_TOO_LARGE};
+use format::refusals::{COUNTER_TOO_SHORT, Refusal, SUM_TOO_LARGE};
 
 // Whether n bytes hold a value.
 fn fits(value: u64, n: usize) -> bool
     ensures { result ≡ ltb value (256 ^ n) }
 {
-    let mut left = value;
-    let mut k: usize = 0;
-    while k < n {
-        if left == 0 {
-            return true;
-        }
-        left = left / 256;
-        k += 1;
-    }
-    left == 0
+    n >= 8 || value >> (8 * n) == 0
 }
 
 // Puts a value into tag[start..stop], with zeros in front, from its last byte on.
@@ -28,10 +18,8 @@ fn put_value(tag: &mut [u8], start: usize, stop: usize, value: u64)
     requires { (start ≤ stop) × (stop ≤ length tag.old) }
     ensures { tag.new ≡ sets tag.old start (bytes_of (stop - start) value) }
 {
-    let mut at = stop;
     let mut left = value;
-    while start < at {
-        at -= 1;
+    for at in (start..stop).rev() {
         tag[at] = (left % 256) as u8;
         left = left / 256;
     }
@@ -39,22 +27,21 @@ fn put_value(tag: &mut [u8], start: usize, stop: usize, value: u64)
 
 // Adds the amount to the counter in tag[start..stop]: 43, then 44, also where there are no such bytes, or the sum, with zeros
 // in front of it.
-pub fn raise_at(tag: &mut [u8], start: usize, stop: usize, counter: u64, amount: u64) -> Raised
+pub fn raise_at(
+    tag: &mut [u8],
+    start: usize,
+    stop: usize,
+    counter: u64,
+    amount: u64,
+) -> Result<u64, Refusal>
     ensures { (result, tag.new) ≡ raised_at start stop counter amount tag.old }
 {
-    if u64::MAX - counter < amount {
-        return Raised::Refused(SUM_TOO_LARGE);
-    }
-    let value = counter + amount;
-    if stop < start {
-        return Raised::Refused(COUNTER_TOO_SHORT);
-    }
-    if tag.len() < stop {
-        return Raised::Refused(COUNTER_TOO_SHORT);
-    }
-    if !fits(value, stop - start) {
-        return Raised::Refused(COUNTER_TOO_SHORT);
+    let Some(value) = counter.checked_add(amount) else {
+        return Err(SUM_TOO_LARGE);
+    };
+    if stop < start || tag.len() < stop || !fits(value, stop - start) {
+        return Err(COUNTER_TOO_SHORT);
     }
     put_value(tag, start, stop, value);
-    Raised::Counts(value)
+    Ok(value)
 }

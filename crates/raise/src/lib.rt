@@ -12,29 +12,15 @@ ghost use Rattle.std.specs.Prelude.{◌≡◌};
 ghost use Rattle.raise.specs.Raise.{raised_of};
 
 use crate::counter::raise_at;
-use crate::seeking::{Sought, seek};
-
-// The counter then, or a refusal, and then nothing has changed.
-#[derive(Drop)]
-pub enum Raised {
-    Counts(u64),
-    Refused(u8),
-}
+use crate::seeking::seek;
+use format::refusals::Refusal;
 
 // Adds an amount to the counter of a user's popularimeter at the top level of a plain tag, in the counter's bytes that are
 // there. What follows the tag may be sound. A refusal leaves all bytes as they were.
-pub fn raise(tag: &mut [u8], user: &[u8], amount: u64) -> Raised
+#[tactic(auto, using(crate::proofs::Along::raise_refused, crate::proofs::Along::raise_found))]
+pub fn raise(tag: &mut [u8], user: &[u8], amount: u64) -> Result<u64, Refusal>
     ensures { (result, tag.new) ≡ raised_of tag.old user.now amount }
 {
-    let sought = seek(&tag[..], user);
-    match sought {
-        Sought::Refused(k) => Raised::Refused(k),
-        Sought::Counter {
-            begin: _,
-            start,
-            stop,
-            counter,
-            last: _,
-        } => raise_at(tag, start, stop, counter, amount),
-    }
+    let sought = seek(&tag[..], user)?;
+    raise_at(tag, sought.start, sought.stop, sought.counter, amount)
 }

@@ -5,32 +5,29 @@ ghost use Rattle.std.proofs.Math.Seq.{slice};
 ghost use Rattle.format.specs.Looks.{all_zero};
 ghost use Rattle.raise.specs.Frames.{ended_as};
 ghost use Rattle.raise.specs.declared.scanning.Scanned.{Scanned};
-ghost use Rattle.raise.specs.Scans.{aimed_at, scanned_in, scanned_of};
+ghost use Rattle.raise.specs.Scans.{aimed_at, scanned_in, scanned_of, scanned_with};
 
 use crate::frames::{Framed, frames, is_plain_end};
 use crate::users::{Found, also, is_user};
 use format::Version;
-use format::refusals::NOT_PLAIN;
+use format::refusals::{NOT_PLAIN, Refusal};
 use walk::plain::{Seen, look_at};
 
 // So many frames before the one that is sought, or where it lies.
-#[derive(Drop)]
+#[derive(Clone, Copy)]
 pub enum Aim {
     Before(usize),
     Frame(usize, usize),
 }
 
-// A refusal, or what was found of the user and of the number, where the last frame ends, and where the room for frames ends.
-#[derive(Drop)]
-pub enum Scanned {
-    Refused(u8),
-    Frames {
-        version: Version,
-        found: Found,
-        aim: Aim,
-        last: usize,
-        end: usize,
-    },
+// What was found of the user and of the number, where the last frame ends, and where the room for frames ends.
+#[derive(Clone, Copy)]
+pub struct Scanned {
+    pub version: Version,
+    pub found: Found,
+    pub aim: Aim,
+    pub last: usize,
+    pub end: usize,
 }
 
 // What was found, after one more frame, which lies from `at` to `next`.
@@ -38,13 +35,9 @@ fn aimed(aim: Aim, at: usize, next: usize) -> Aim
     ensures { result ≡ aimed_at aim at next }
 {
     match aim {
-        Aim::Before(n) => {
-            if n == 0 {
-                return Aim::Frame(at, next);
-            }
-            Aim::Before(n - 1)
-        }
-        Aim::Frame(from, to) => Aim::Frame(from, to),
+        Aim::Before(0) => Aim::Frame(at, next),
+        Aim::Before(n) => Aim::Before(n - 1),
+        Aim::Frame(_, _) => aim,
     }
 }
 
@@ -57,50 +50,36 @@ fn after_last(
     last: usize,
     end: usize,
     odd: bool,
-) -> Scanned
-    ensures { result ≡ ended_as Scanned.Refused odd (all_zero (slice last end tag.now)) (Scanned.Frames version found aim last end) }
+) -> Result<Scanned, Refusal>
+    ensures { result ≡ ended_as odd (all_zero (slice last end tag.now)) (Ok (scanned_with version found aim last end)) }
 {
     if !is_plain_end(tag, last, end, odd) {
-        return Scanned::Refused(NOT_PLAIN);
+        return Err(NOT_PLAIN);
     }
-    Scanned::Frames {
+    Ok(Scanned {
         version,
         found,
         aim,
         last,
         end,
-    }
+    })
 }
 
-// Goes through the frames of tag[begin..end], whose header has something odd or nothing.
-fn search(
-    tag: &[u8],
-    user: &[u8],
-    number: usize,
-    version: Version,
-    begin: usize,
-    end: usize,
-    oddly: bool,
-) -> Scanned
-    requires { end ≤ length tag.now }
-    ensures { result ≡ scanned_in version user.now number begin end (slice begin end tag.now) oddly }
+// Goes through the frames of a tag, which lie where its header says.
+fn search(tag: &[u8], user: &[u8], number: usize, framed: Framed) -> Result<Scanned, Refusal>
+    requires { framed.end ≤ length tag.now }
+    ensures { result ≡ scanned_in framed.version user.now number framed.begin framed.end (slice framed.begin framed.end tag.now) framed.odd }
 {
-    let mut at = begin;
-    let mut odd = oddly;
+    let mut at = framed.begin;
+    let mut odd = framed.odd;
     let mut found = Found::None;
     let mut aim = Aim::Before(number);
-    loop {
-        match look_at(version, tag, at, end) {
-            Seen::Stops(k) => return Scanned::Refused(k),
-            Seen::End => return after_last(tag, version, found, aim, at, end, odd),
-            Seen::Frame { next, odd: itself } => {
-                aim = aimed(aim, at, next);
-                odd = odd | itself;
-                at = next;
-            }
+    while let Some(seen) = look_at(framed.version, tag, at, framed.end)? {
+        let (next, itself) = match seen {
+            Seen::Frame { next, odd } => (next, odd),
             Seen::Popularimeter {
                 next,
-                odd: itself,
+                odd,
                 user: name,
                 rating: _,
                 counter,
@@ -108,26 +87,20 @@ fn search(
                 let start = name.start + name.len + 2;
                 let mine = is_user(tag, name.start, name.len, user);
                 found = also(found, mine, at, start, next, counter);
-                aim = aimed(aim, at, next);
-                odd = odd | itself;
-                at = next;
+                (next, odd)
             }
-        }
+        };
+        aim = aimed(aim, at, next);
+        odd |= itself;
+        at = next;
     }
+    after_last(tag, framed.version, found, aim, at, framed.end, odd)
 }
 
 // What a tag has of a user and of a number: one pass over its frames.
-pub fn scan(tag: &[u8], user: &[u8], number: usize) -> Scanned
+#[tactic(auto, using(crate::proofs::OfScans::scan_refused, crate::proofs::OfScans::scan_found, crate::proofs::OfScans::scan_fits))]
+pub fn scan(tag: &[u8], user: &[u8], number: usize) -> Result<Scanned, Refusal>
     ensures { result ≡ scanned_of tag.now user.now number }
 {
-    let framed = frames(tag);
-    match framed {
-        Framed::Refused(k) => Scanned::Refused(k),
-        Framed::Frames {
-            version,
-            begin,
-            end,
-            odd,
-        } => search(tag, user, number, version, begin, end, odd),
-    }
+    search(tag, user, number, frames(tag)?)
 }

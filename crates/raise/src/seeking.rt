@@ -2,59 +2,48 @@
 ghost use Rattle.std.specs.Prelude.{◌≡◌};
 ghost use Rattle.raise.specs.Seeks.{sought_by, sought_of};
 
-use crate::scanning::{Scanned, scan};
+use crate::scanning::scan;
 use crate::users::Found;
-use format::refusals::{USER_ABSENT, USER_TWICE};
+use format::refusals::{Refusal, USER_ABSENT, USER_TWICE};
 
-// A refusal, or the one counter of the user, which lies from start up to stop. Its frame begins at `begin` and ends with the
-// counter; the last frame ends at `last`.
-#[derive(Drop)]
-pub enum Sought {
-    Refused(u8),
-    Counter {
-        begin: usize,
-        start: usize,
-        stop: usize,
-        counter: u64,
-        last: usize,
-    },
+// The one counter of a user, which lies from start up to stop. Its frame begins at `begin` and ends with the counter; the last
+// frame ends at `last`.
+#[derive(Clone, Copy)]
+pub struct Sought {
+    pub begin: usize,
+    pub start: usize,
+    pub stop: usize,
+    pub counter: u64,
+    pub last: usize,
 }
 
 // What a search through all frames of a plain tag comes to, the last of which ends at `last`: 41, 42, or the one.
-fn one_of(found: Found, last: usize) -> Sought
+fn one_of(found: Found, last: usize) -> Result<Sought, Refusal>
     ensures { result ≡ sought_by found last }
 {
     match found {
-        Found::None => Sought::Refused(USER_ABSENT),
+        Found::None => Err(USER_ABSENT),
         Found::One {
             begin,
             start,
             stop,
             counter,
-        } => Sought::Counter {
+        } => Ok(Sought {
             begin,
             start,
             stop,
             counter,
             last,
-        },
-        Found::Many => Sought::Refused(USER_TWICE),
+        }),
+        Found::Many => Err(USER_TWICE),
     }
 }
 
 // The counter of a user's one popularimeter at the top level of a plain tag, or why there is none.
-pub fn seek(tag: &[u8], user: &[u8]) -> Sought
+#[tactic(auto, using(crate::proofs::OfScans::seek_refused, crate::proofs::OfScans::seek_found))]
+pub fn seek(tag: &[u8], user: &[u8]) -> Result<Sought, Refusal>
     ensures { result ≡ sought_of tag.now user.now }
 {
-    let scanned = scan(tag, user, 0);
-    match scanned {
-        Scanned::Refused(k) => Sought::Refused(k),
-        Scanned::Frames {
-            version: _,
-            found,
-            aim: _,
-            last,
-            end: _,
-        } => one_of(found, last),
-    }
+    let scanned = scan(tag, user, 0)?;
+    one_of(scanned.found, scanned.last)
 }

@@ -5,7 +5,7 @@ ghost use Rattle.raise.specs.Raise.{same_bytes};
 ghost use Rattle.raise.specs.Seeks.{also_of};
 
 // None, one whose frame begins at `begin` and whose counter lies from start up to stop, or more than one.
-#[derive(Drop)]
+#[derive(Clone, Copy)]
 pub enum Found {
     None,
     One {
@@ -22,17 +22,7 @@ pub(crate) fn is_user(s: &[u8], start: usize, len: usize, user: &[u8]) -> bool
     requires { start + len ≤ length s.now }
     ensures { result ≡ same_bytes (slice start (start + len) s.now) user.now }
 {
-    if len != user.len() {
-        return false;
-    }
-    let mut i: usize = 0;
-    while i < len {
-        if s[start + i] != user[i] {
-            return false;
-        }
-        i += 1;
-    }
-    true
+    &s[start..start + len] == user
 }
 
 // What was found, after one more popularimeter, which is the user's or not.

@@ -8,42 +8,41 @@ use lib.ListN.{length}
 use lib.Seq.{slice}
 use lib.Dec.{ltb, eqb}
 use borrow.Author.Tests.{eqb-true, eqb-false}
+use Rattle.laws.proofs.Results.{ok_same, err_same, ok_not_err, err_not_ok}
 use Rattle.format.specs.Bytes.{pick, has, put_front}
 use Rattle.format.specs.Unsynch.{resynchronised}
 use Rattle.format.specs.Header.{edition_of, flags_of, version_of, is_whole, ext_of, header_refusal, region_start, region_end}
 use Rattle.format.specs.declared.Version.{Version}
 use Rattle.format.proofs.Checks.{not_first, not_second}
 use Rattle.unsynch.specs.Puts.{Out, into_of}
-use Rattle.unsynch.specs.declared.Put.{Put}
 use Rattle.reader.specs.declared.Header.{Header}
-use Rattle.reader.specs.declared.Headed.{Headed}
 use Rattle.reader.specs.declared.Reader.{Reader}
-use Rattle.reader.specs.declared.Opened.{Opened}
 use Rattle.reader.specs.Reader.{fields_of, header_of, reader_at, open_whole, open_of}
 use Rattle.reader.specs.Headers.{is_whole_in}
 use Rattle.reader.proofs.Refusals.{cut_end, accepted}
+use Rattle.std.specs.Prelude.{Result, Ok, Err}
+use Rattle.format.specs.declared.refusals.Refusal.{Refusal}
+use Rattle.format.specs.Refusals.{refusal}
+
+abbrev Answer : Type 0
+Answer = Result Reader Refusal × List ℕ
 
 -- ---- the header
 
-pub found : (tag : List ℕ) (h : Header) → header_of tag ≡ Headed.Found h → (header_refusal tag ≡ 0) × (h ≡ fields_of tag)
+pub found : (tag : List ℕ) (h : Header) → header_of tag ≡ Ok h → (header_refusal tag ≡ 0) × (h ≡ fields_of tag)
 unfolding header_of
 found tag h e =
-    let other : Headed.Refused (header_refusal tag) ≡ Headed.Found h → ⊥ = λ d. let z : ◌≡◌ {A = ℕ} 0 1 = cc in omega arith in
-    let p = not_second (eqb (header_refusal tag) 0) (Headed.Found (fields_of tag)) (Headed.Refused (header_refusal tag)) (Headed.Found h) e other in
-    let f : Headed.Found (fields_of tag) ≡ Headed.Found h = p.1 in
-    (eqb-true (header_refusal tag) 0 p.0, cc)
+    let p = not_second (eqb (header_refusal tag) 0) (Ok (fields_of tag)) (Err (refusal (header_refusal tag))) (Ok h) e (λ d. err_not_ok d) in
+    (eqb-true (header_refusal tag) 0 p.0, sym (ok_same p.1))
 
-pub open_refused : (tag work : List ℕ) (k : ℕ) → header_of tag ≡ Headed.Refused k → (Opened.Refused k, work) ≡ open_of tag work
+pub open_refused : (tag work : List ℕ) (k : Refusal) → header_of tag ≡ Err k → ◌≡◌ {A = Answer} (Err k, work) (open_of tag work)
 unfolding header_of open_of
 open_refused tag work k e =
-    let other : Headed.Found (fields_of tag) ≡ Headed.Refused k → ⊥ = λ d. let z : ◌≡◌ {A = ℕ} 0 1 = cc in omega arith in
-    let p = not_first (eqb (header_refusal tag) 0) (Headed.Found (fields_of tag)) (Headed.Refused (header_refusal tag)) (Headed.Refused k) e other in
-    let f : Headed.Refused (header_refusal tag) ≡ Headed.Refused k = p.1 in
-    let g : k ≡ header_refusal tag = cc in
-    rw (p.0, g)
+    let p = not_first (eqb (header_refusal tag) 0) (Ok (fields_of tag)) (Err (refusal (header_refusal tag))) (Err k) e (λ d. ok_not_err d) in
+    rw (p.0, ← err_same p.1)
 
 -- where the frames lie
-module _ (tag : List ℕ) (h : Header) (e : header_of tag ≡ Headed.Found h) (end : ℕ) (ends : end ≡ min (10 + h.size) (length tag)) where
+module _ (tag : List ℕ) (h : Header) (e : header_of tag ≡ Ok h) (end : ℕ) (ends : end ≡ min (10 + h.size) (length tag)) where
   pub region_end_lem : end ≡ region_end tag
   region_end_lem = cut_end tag (ap (λ (x : Header). x.size) (found tag h e).1) ends
 
@@ -66,29 +65,26 @@ whole_in_lem e f lo hi = by_edition (eqb e 2) refl (eqb e 3) refl
 -- ---- opening
 
 -- what was put, as an answer
-abbrev as_opened : Version → Put → Opened
-as_opened v (Put.Bytes n) = Opened.Ready (reader_at v true 0 n)
-as_opened v (Put.Refused k) = Opened.Refused k
-
-abbrev Answer : Type 0
-Answer = Opened × List ℕ
+abbrev as_opened : Version → Result ℕ Refusal → Result Reader Refusal
+as_opened v (Ok n) = Ok (reader_at v true 0 n)
+as_opened v (Err k) = Err k
 
 -- what is made of bytes that were put, by whether they had the room
-pub put_as : {A : Type 0} (f : Put → A) (u work : List ℕ)
+put_as : {A : Type 0} (f : Result ℕ Refusal → A) (u work : List ℕ)
     → ◌≡◌ {A = A × List ℕ} (f (into_of u work).0, (into_of u work).1)
-    (pick (ltb (length work) (length u)) (f (Put.Refused 14), work) (f (Put.Bytes (length u)), put_front u work))
+    (pick (ltb (length work) (length u)) (f (Err (refusal 14)), work) (f (Ok (length u)), put_front u work))
 put_as {A} f u work = by_room (ltb (length work) (length u))
   where
     by_room : (t : Bool)
         → ◌≡◌ {A = A × List ℕ}
-        (let o : Out = pick t (Put.Refused 14, work) (Put.Bytes (length u), put_front u work) in (f o.0, o.1))
-        (pick t (f (Put.Refused 14), work) (f (Put.Bytes (length u)), put_front u work))
+        (let o : Out = pick t (Err (refusal 14), work) (Ok (length u), put_front u work) in (f o.0, o.1))
+        (pick t (f (Err (refusal 14)), work) (f (Ok (length u)), put_front u work))
     by_room true = refl
     by_room false = refl
 
 -- what is known of a tag that is to be opened: its header, where its frames lie, and whether they are resynchronised
 pub record Told (tag : List ℕ) (h : Header) (start end : ℕ) (whole : Bool) : Type 0 where
-  pub head : header_of tag ≡ Headed.Found h
+  pub head : header_of tag ≡ Ok h
   pub starts : start ≡ region_start tag
   pub ends : end ≡ region_end tag
   pub says : whole ≡ is_whole_in h.version h.flags
@@ -108,12 +104,12 @@ module _ {tag : List ℕ} {h : Header} {start end : ℕ} {whole : Bool} (t : Tol
       ∙ whole_in_lem (edition_of tag) (flags_of tag) a.least a.most
 
   -- the frames stay where they are
-  pub in_tag : whole ≡ false → {r : Reader} → r ≡ reader_at h.version false start end → ◌≡◌ {A = Answer} (Opened.Ready r, work) (open_of tag work)
+  pub in_tag : whole ≡ false → {r : Reader} → r ≡ reader_at h.version false start end → ◌≡◌ {A = Answer} (Ok r, work) (open_of tag work)
   unfolding open_of
   in_tag off is = rw (none, ← whole_is, off, is, version_is, t.starts, t.ends)
 
   -- they are put into the work buffer, if it has the room
-  module _ (on : whole ≡ true) {put : Put} {left : List ℕ} (puts : ◌≡◌ {A = Out} (put, left) (into_of (resynchronised (slice start end tag)) work)) where
+  module _ (on : whole ≡ true) {put : Result ℕ Refusal} {left : List ℕ} (puts : ◌≡◌ {A = Out} (put, left) (into_of (resynchronised (slice start end tag)) work)) where
     opened : ◌≡◌ {A = Answer} (as_opened h.version put, left) (open_of tag work)
     unfolding open_of open_whole
     opened =
@@ -121,9 +117,9 @@ module _ {tag : List ℕ} {h : Header} {start end : ℕ} {whole : Bool} (t : Tol
         let there : open_of tag work ≡ open_whole h.version u work = rw (none, ← whole_is, on, version_is, t.starts, t.ends) in
         ap {B = Answer} (λ (o : Out). (as_opened h.version o.0, o.1)) puts ∙ put_as (as_opened h.version) u work ∙ sym there
 
-    pub in_work : {n : ℕ} → put ≡ Put.Bytes n → {r : Reader} → r ≡ reader_at h.version true 0 n
-        → ◌≡◌ {A = Answer} (Opened.Ready r, left) (open_of tag work)
+    pub in_work : {n : ℕ} → put ≡ Ok n → {r : Reader} → r ≡ reader_at h.version true 0 n
+        → ◌≡◌ {A = Answer} (Ok r, left) (open_of tag work)
     in_work is ready = rw ready (rw is at opened)
 
-    pub too_small : {k : ℕ} → put ≡ Put.Refused k → ◌≡◌ {A = Answer} (Opened.Refused k, left) (open_of tag work)
+    pub too_small : {k : Refusal} → put ≡ Err k → ◌≡◌ {A = Answer} (Err k, left) (open_of tag work)
     too_small is = rw is at opened

@@ -2,7 +2,7 @@
 use mathlib.Core.Path.{◌≡◌, refl, sym}
 use Prim.Native.Nat.{ℕ, zero, suc, ◌+◌, ◌%◌, ◌≤◌, ◌<◌, min}
 use native.Mathlib.Omega.{arith}
-use mathlib.Core.Bool.{Bool, true, false, ◌&&◌}
+use mathlib.Core.Bool.{true, false, ◌&&◌, and-false}
 use mathlib.Core.List.{List, [], ◌∷◌}
 use lib.ListN.{length, take, get_or, length-take}
 use lib.Seq.{slice}
@@ -14,8 +14,6 @@ use Rattle.format.specs.Numbers.{from_synchsafe}
 use Rattle.format.specs.Header.{edition_of, flags_of, size_of, cut_of, is_extended, ext_of, header_checks, header_refusal}
 use Rattle.format.specs.Numbered.{is_version}
 use Rattle.format.proofs.Checks.{first_none, none_of, none_refused, none_else}
-use Rattle.reader.specs.declared.Headed.{Headed}
-use Rattle.reader.specs.Reader.{header_of}
 use Rattle.reader.specs.Headers.{is_tag}
 
 -- those before place i pass, and the one there gives a number: it is the first that fails
@@ -31,7 +29,7 @@ first_at (suc i) k (x ∷ l) p e =
 pub cut_end : (tag : List ℕ) {size end : ℕ} → size ≡ size_of tag → end ≡ min (10 + size) (length tag) → end ≡ length (cut_of tag)
 cut_end tag e is = rw (is, e) (sym (length-take (10 + size_of tag) tag))
 
--- ---- the ten bytes
+-- ---- the first that fails
 
 pub no_tag : (tag : List ℕ) → is_tag tag ≡ false → 1 ≡ header_refusal tag
 unfolding first header_refusal
@@ -45,53 +43,51 @@ module _ (tag : List ℕ) (is : is_tag tag ≡ true) where
   unfolding first header_refusal
   unknown_version e = first_at 1 1 (header_checks tag) (rw is) (rw e)
 
-  pub unknown_flags : is_version (edition_of tag) ≡ true → eqb (flags_of tag % 16) 0 ≡ false → 3 ≡ header_refusal tag
-  unfolding first header_refusal
-  unknown_flags known e = first_at 2 2 (header_checks tag) (rw (is, known)) (rw e)
+  module _ (known : is_version (edition_of tag) ≡ true) where
+    pub unknown_flags : (flags_of tag % 16 ≡ 0 → ⊥) → 3 ≡ header_refusal tag
+    unfolding first header_refusal
+    unknown_flags ne = first_at 2 2 (header_checks tag) (rw (is, known)) (rw (ne_eqb _ 0 ne))
 
--- the first three checks pass; x says whether there is an extended header
-pub record Begun (tag : List ℕ) (x : Bool) : Type 0 where
+-- the first three checks pass
+pub record Begun (tag : List ℕ) : Type 0 where
   pub is : is_tag tag ≡ true
   pub known : is_version (edition_of tag) ≡ true
-  pub clear : eqb (flags_of tag % 16) 0 ≡ true
-  pub says : x ≡ is_extended tag
+  pub clear : flags_of tag % 16 ≡ 0
 
-module _ {tag : List ℕ} {x : Bool} (b : Begun tag x) where
-  pub compressed : (eqb (edition_of tag) 2 && x) ≡ true → 4 ≡ header_refusal tag
+module _ {tag : List ℕ} (b : Begun tag) where
+  pub no_extended : is_extended tag ≡ false → 0 ≡ header_refusal tag
   unfolding first header_refusal
-  compressed e = first_at 3 3 (header_checks tag) (rw (b.is, b.known, b.clear)) (rw (← b.says, e))
+  no_extended e = rw (b.is, b.known, b.clear, e, and-false)
 
   -- ---- the extended header
 
-  module _ (plain : (eqb (edition_of tag) 2 && x) ≡ false) where
-    pub no_extended : x ≡ false → 0 ≡ header_refusal tag
+  module _ (there : is_extended tag ≡ true) where
+    pub compressed : edition_of tag ≡ 2 → 4 ≡ header_refusal tag
     unfolding first header_refusal
-    no_extended e = rw (b.is, b.known, b.clear, ← b.says, plain, e)
+    compressed e = first_at 3 3 (header_checks tag) (rw (b.is, b.known, b.clear)) (rw (e, there))
 
-    module _ (there : x ≡ true) {end : ℕ} (ends : end ≡ length (cut_of tag)) where
-      pub missing_bytes : end < 16 → 5 ≡ header_refusal tag
+    module _ (ne : edition_of tag ≡ 2 → ⊥) where
+      plain : (eqb (edition_of tag) 2 && is_extended tag) ≡ false
+      plain = rw (ne_eqb _ 2 ne)
+
+      pub missing_bytes : length (cut_of tag) < 16 → 5 ≡ header_refusal tag
       unfolding first header_refusal
       missing_bytes h =
-          first_at 4 4 (header_checks tag) (rw (b.is, b.known, b.clear, ← b.says, plain))
-          (rw (← b.says, there, ← ends, lt-ltb end 16 h))
+          first_at 4 4 (header_checks tag) (rw (b.is, b.known, b.clear, plain)) (rw (there, lt-ltb (length (cut_of tag)) 16 h))
 
       -- it is there: its size decides
-      pub by_size : 16 ≤ end → {size : ℕ} → size ≡ from_synchsafe (slice 10 14 tag)
-          → (size < 6 → 6 ≡ header_refusal tag) × (6 ≤ size → 0 ≡ header_refusal tag)
-      unfolding first header_refusal ext_of
-      by_size h {size} is =
-          let before : first (take 5 (header_checks tag)) ≡ 0 =
-          rw (b.is, b.known, b.clear, ← b.says, plain, there, ← ends, le-ltb end 16 h) in (
-            λ less. first_at 5 5 (header_checks tag) before (rw (← b.says, there, ← is, lt-ltb size 6 less)),
-            λ more.
-                rw (b.is, b.known, b.clear, ← b.says, plain, there, ← ends, le-ltb end 16 h, ← is, le-ltb size 6 more),
-          )
+      module _ (h : 16 ≤ length (cut_of tag)) where
+        abbrev size : ℕ
+        size = from_synchsafe (slice 10 14 tag)
 
--- ---- one of them fails
+        pub small_extended : size < 6 → 6 ≡ header_refusal tag
+        unfolding first header_refusal ext_of
+        small_extended less =
+            first_at 5 5 (header_checks tag) (rw (b.is, b.known, b.clear, plain, there, le-ltb (length (cut_of tag)) 16 h)) (rw (there, lt-ltb size 6 less))
 
-pub refused : (tag : List ℕ) {k : ℕ} → k ≡ header_refusal tag → (k ≡ 0 → ⊥) → Headed.Refused k ≡ header_of tag
-unfolding header_of
-refused tag {k} e ne = rw (← e, ne_eqb k 0 ne)
+        pub extended : 6 ≤ size → 0 ≡ header_refusal tag
+        unfolding first header_refusal ext_of
+        extended more = rw (b.is, b.known, b.clear, plain, there, le-ltb (length (cut_of tag)) 16 h, le-ltb size 6 more)
 
 -- ---- none of them fails
 

@@ -18,10 +18,12 @@ use Rattle.format.specs.Walk.{inside_of, resynced_of, on_head, walk_bytes, walke
 use Rattle.format.specs.Walk as walk
 use Rattle.format.specs.Listing.{decimal_in, hex_in, hex, tag_line, frame_line, end_line}
 use Rattle.reader.specs.Reader.{header_of, open_whole, open_of, step_of}
-use Rattle.reader.specs.declared.Headed.{Headed}
 use Rattle.reader.specs.declared.Reader.{Reader}
-use Rattle.reader.specs.declared.Opened.{Opened}
-use Rattle.reader.specs.declared.Step.{Step}
+use Rattle.reader.specs.Reader.{Step}
+use Rattle.std.specs.Prelude.{Result, Ok, Err, Some, None}
+use Rattle.format.specs.declared.refusals.Refusal.{Refusal}
+use Rattle.format.specs.Refusals.{refusal}
+use Rattle.reader.specs.declared.Header.{Header}
 
 -- ---- what a caller sees: records, the end and refusals, in so many steps
 
@@ -33,9 +35,9 @@ data Seen : Type 0 where
 -- of one step, and of those that follow with the reader and the work buffer as it left them
 on_step : (Reader → List ℕ → List Seen) → List ℕ → Step → List ℕ → List Seen
 unfolding view_of spread gathered unpack digits onto
-on_step go tag (Step.Frame rec r) work = frame (view_of rec tag work) ∷ go r work
-on_step go tag (Step.End r) work = end ∷ go r work
-on_step go tag (Step.Refused k r) work = refused k ∷ go r work
+on_step go tag (Ok (Some rec), r) work = frame (view_of rec tag work) ∷ go r work
+on_step go tag (Ok None, r) work = end ∷ go r work
+on_step go tag (Err k, r) work = refused k.number ∷ go r work
 
 steps : ℕ → List ℕ → Reader → List ℕ → List Seen
 unfolding
@@ -44,10 +46,10 @@ unfolding
 steps zero tag r work = []
 steps (suc n) tag r work = on_step (steps n tag) tag (step_of r tag work).0 (step_of r tag work).1
 
-on_open : ℕ → List ℕ → Opened → List ℕ → List Seen
+on_open : ℕ → List ℕ → Result Reader Refusal → List ℕ → List Seen
 unfolding steps
-on_open n tag (Opened.Ready r) work = steps n tag r work
-on_open n tag (Opened.Refused k) work = refused k ∷ []
+on_open n tag (Ok r) work = steps n tag r work
+on_open n tag (Err k) work = refused k.number ∷ []
 
 sees : ℕ → List ℕ → List ℕ → List Seen
 unfolding first digits onto resync ext_of header_refusal open_whole open_of on_open
@@ -79,22 +81,22 @@ unfolding sees listed plain
 listed_seen = refl
 
 -- the lines of the listing, from the header and from the record
-head_line : Headed → List ℕ
+head_line : Result Header Refusal → List ℕ
 unfolding decimal_in tag_line
-head_line (Headed.Found h) = tag_line 4 h.size h.flags h.ext
-head_line (Headed.Refused k) = []
+head_line (Ok h) = tag_line 4 h.size h.flags h.ext
+head_line (Err k) = []
 
 record_line : List ℕ → Step → List ℕ
 unfolding decimal_in hex_in hex digits frame_line
-record_line t (Step.Frame rec r) =
+record_line t (Ok (Some rec), r) =
     frame_line 0 (digits 256 4 rec.heading.id) rec.at rec.body.len rec.heading.short rec.heading.fields (0x61 ∷ [])
-record_line t (Step.End r) = []
-record_line t (Step.Refused k r) = []
+record_line t (Ok None, r) = []
+record_line t (Err k, r) = []
 
-lines_on : List ℕ → Opened → List ℕ
+lines_on : List ℕ → Result Reader Refusal → List ℕ
 unfolding steps record_line
-lines_on t (Opened.Ready r) = record_line t (step_of r t []).0
-lines_on t (Opened.Refused k) = []
+lines_on t (Ok r) = record_line t (step_of r t []).0
+lines_on t (Err k) = []
 
 lines : List ℕ → List ℕ
 unfolding first digits onto ext_of header_refusal header_of open_of head_line lines_on decimal_in end_line
@@ -159,7 +161,7 @@ unfolding sees tag frame3 plain
 whole_22 = refl
 
 -- one byte too few: refused before any frame, and nothing is written
-whole_full : open_of (tag 2 0x80 9 (frame3 (ascii "XAB") (0xFF ∷ 0x00 ∷ 0xE0 ∷ []))) (replicate 7 7) ≡ (Opened.Refused 14, replicate 7 7)
+whole_full : open_of (tag 2 0x80 9 (frame3 (ascii "XAB") (0xFF ∷ 0x00 ∷ 0xE0 ∷ []))) (replicate 7 7) ≡ (Err (refusal 14), replicate 7 7)
 unfolding sees tag frame3
 whole_full = refl
 

@@ -5,7 +5,8 @@ pub mod headers;
 pub mod opening;
 pub mod stepping;
 
-use format::{Record, Version};
+use format::Version;
+use format::refusals::Refusal;
 
 // The fields of a tag header; ext is 0 where there is no extended header.
 #[derive(Clone, Copy)]
@@ -16,18 +17,12 @@ pub struct Header {
     pub ext: u32,
 }
 
-#[derive(Drop)]
-pub enum Headed {
-    Found(Header),
-    Refused(u8),
-}
-
 // Whether a reader goes on, has met the end, or was refused with a number.
 #[derive(Clone, Copy)]
 pub enum Stop {
     Running,
     Ended,
-    Failed(u8),
+    Failed(Refusal),
 }
 
 // A reader's place: the frames lie from `begin` up to `end` in the tag, or resynchronised in the work buffer.
@@ -39,18 +34,4 @@ pub struct Reader {
     pub at: usize,
     pub end: usize,
     pub stop: Stop,
-}
-
-#[derive(Drop)]
-pub enum Opened {
-    Ready(Reader),
-    Refused(u8),
-}
-
-// What a step found, with the moved reader.
-#[derive(Drop)]
-pub enum Step {
-    Frame(Record, Reader),
-    End(Reader),
-    Refused(u8, Reader),
 }

@@ -1,79 +1,63 @@
 // The steps of a reader.
 ghost use Rattle.std.specs.Prelude.{◌≡◌};
-ghost use Rattle.reader.specs.Reader.{stopped_as, moved_to, answer_of, run_step, step_of};
+ghost use Rattle.reader.specs.Reader.{answer_of, run_step, step_of};
 
-use crate::{Reader, Step, Stop};
-use format::Shown;
+use crate::{Reader, Stop};
+use format::Record;
+use format::refusals::Refusal;
 use walk::record::frame_at;
 
 impl Reader {
-    // The same reader, stopped.
-    fn stopped(self, stop: Stop) -> Reader
-        ensures { result ≡ stopped_as stop self }
-    {
-        let version = self.version;
-        Reader {
-            version,
-            in_work: self.in_work,
-            begin: self.begin,
-            at: self.at,
-            end: self.end,
-            stop,
-        }
-    }
-
-    // The same reader, after the frame that it was at.
-    fn moved(self, next: usize) -> Reader
-        ensures { result ≡ moved_to next self }
-    {
-        let version = self.version;
-        Reader {
-            version,
-            in_work: self.in_work,
-            begin: self.begin,
-            at: next,
-            end: self.end,
-            stop: Stop::Running,
-        }
-    }
-
     // What a running reader answers where this is at its place.
-    fn answer(self, shown: Shown) -> Step
-        ensures { result ≡ answer_of shown self }
+    fn answer(
+        &mut self,
+        shown: Result<Option<(Record, usize)>, Refusal>,
+    ) -> Result<Option<Record>, Refusal>
+        ensures { (result, self.new) ≡ answer_of shown self.old }
     {
         match shown {
-            Shown::Nothing => Step::End(self.stopped(Stop::Ended)),
-            Shown::Refused(k) => Step::Refused(k, self.stopped(Stop::Failed(k))),
-            Shown::Frame(record, next) => Step::Frame(record, self.moved(next)),
+            Ok(Some((record, next))) => {
+                self.at = next;
+                self.stop = Stop::Running;
+                Ok(Some(record))
+            }
+            Ok(None) => {
+                self.stop = Stop::Ended;
+                Ok(None)
+            }
+            Err(k) => {
+                self.stop = Stop::Failed(k);
+                Err(k)
+            }
         }
     }
 
     // A step of a running reader.
-    fn go(self, work: &mut [u8], tag: &[u8]) -> Step
-        ensures { (result, work.new) ≡ run_step self.in_work self tag.now work.old }
+    fn go(&mut self, work: &mut [u8], tag: &[u8]) -> Result<Option<Record>, Refusal>
+        ensures { ((result, self.new), work.new) ≡ run_step self.old.in_work self.old tag.now work.old }
     {
-        let version = self.version;
-        self.answer(frame_at(
+        let shown = frame_at(
             work,
             tag,
-            version,
+            self.version,
             self.in_work,
             self.begin,
             self.at,
             self.end,
-        ))
+        );
+        self.answer(shown)
     }
 
-    // Takes the next frame: its record, the end or a refusal, with the moved reader. An ended reader stays ended, a
-    // refused one refused with its number.
-    pub fn step(self, work: &mut [u8], tag: &[u8]) -> Step
-        ensures { (result, work.new) ≡ step_of self tag.now work.old }
+    // Takes the next frame: its record, or nothing at the end, or a refusal. An ended reader stays ended, a refused one
+    // refused with its number.
+    #[tactic(auto, using(crate::proofs::Steps::running, crate::proofs::Steps::ended, crate::proofs::Steps::failed))]
+    pub fn step(&mut self, work: &mut [u8], tag: &[u8]) -> Result<Option<Record>, Refusal>
+        ensures { ((result, self.new), work.new) ≡ step_of self.old tag.now work.old }
     {
-        let stop = self.stop;
-        match stop {
+        match self.stop {
             Stop::Running => self.go(work, tag),
-            Stop::Ended => Step::End(self),
-            Stop::Failed(k) => Step::Refused(k, self),
+            Stop::Ended => Ok(None),
+            Stop::Failed(k) => Err(k),
         }
     }
 }

@@ -1,23 +1,24 @@
 -- The last line is always there. Assumes nothing.
 use mathlib.Core.Path.{◌≡◌, refl, sym, ap, ◌∙◌}
-use Prim.Native.Nat.{ℕ, zero, suc, ◌+◌}
+use Prim.Native.Nat.{ℕ, zero, suc, ◌+◌, ◌≤◌}
 use native.Mathlib.Omega.{arith}
 use mathlib.Core.List.{List, [], ◌∷◌, ◌++◌, append_assoc, append-nil}
 use lib.ListN.{length}
 use Rattle.format.specs.Listing.{end_line, refused_line}
 use Rattle.format.specs.Record.{Rec, view_of}
 use Rattle.reader.specs.Reader.{header_of, open_of, step_of}
-use Rattle.reader.specs.declared.Headed.{Headed}
 use Rattle.reader.specs.declared.Reader.{Reader}
-use Rattle.reader.specs.declared.Opened.{Opened}
-use Rattle.reader.specs.declared.Step.{Step}
+use Rattle.reader.specs.Reader.{Step}
 use Rattle.reader.proofs.Opens.{open_refused}
 use Rattle.printout.specs.Lines.{Line, line, header_line, record_in, on_step, frame_lines, on_open, opened_lines, on_header, lines_of, text_of}
 use Rattle.reader.proofs.Numbered.{Stopped, OfStep, step_number_lem, OfOpened, open_stopped}
-use Rattle.promises.specs.Reading.{Reading, ended, refused, unfinished, and_record, read_from, read_for, read_all}
+use Rattle.promises.specs.Reading.{Reading, ended, refused, unfinished, ending_of, and_record, read_from, read_for, read_all}
 use Rattle.promises.specs.Reading as reading
 use Rattle.promises.proofs.Bounds.{finishes}
 use Rattle.room.specs.Listings.{LastOf, end, refusal, LastLine}
+use Rattle.std.specs.Prelude.{Result, Ok, Err, Some, None}
+use Rattle.format.specs.declared.refusals.Refusal.{Refusal}
+use Rattle.reader.specs.declared.Header.{Header}
 
 -- ---- the last line where n frames were listed before
 
@@ -54,15 +55,19 @@ one_more_lem n r l c = record {
 
 -- ---- the frames
 
+ending_refused : (k : ℕ) → 1 ≤ k → ending_of k ≡ refused k
+ending_refused zero h = absurd (omega arith)
+ending_refused (suc k) h = refl
+
 module _ (f : ℕ) (tag : List ℕ)
     (go : (r : Reader) (n : ℕ) (work : List ℕ) → Stopped r.stop → ((read_from f tag r work).1 ≡ unfinished → ⊥) → ClosedFrom n (frame_lines f tag r n work) (read_from f tag r work)) where
   step_closed : (x : Step) (n : ℕ) (work : List ℕ) → OfStep x → ((reading.on_step (read_from f tag) tag x work).1 ≡ unfinished → ⊥)
       → ClosedFrom n (on_step (frame_lines f tag) n tag x work) (reading.on_step (read_from f tag) tag x work)
-  step_closed (Step.Frame rec r) n work s h =
+  step_closed (Ok (Some rec), r) n work s h =
       one_more_lem n (view_of rec tag work) (line (record_in r.version n rec tag work) work) (go r (n + 1) work s h)
-  step_closed (Step.End r) n work s h = alone n ([], ended) (end_line n) work (ends_here n)
-  step_closed (Step.Refused zero r) n work s h = absurd (omega (arith, s.0.0))
-  step_closed (Step.Refused (suc k) r) n work s h = alone n ([], refused (suc k)) (refused_line (suc k)) work (refuses n [] (suc k))
+  step_closed (Ok None, r) n work s h = alone n ([], ended) (end_line n) work (ends_here n)
+  step_closed (Err k, r) n work s h =
+      rw (ending_refused k.number s.0.0) (alone n ([], refused k.number) (refused_line k.number) work (refuses n [] k.number))
 
 frames_closed : (f : ℕ) (tag : List ℕ) (r : Reader) (n : ℕ) (work : List ℕ) → Stopped r.stop → ((read_from f tag r work).1 ≡ unfinished → ⊥)
     → ClosedFrom n (frame_lines f tag r n work) (read_from f tag r work)
@@ -73,22 +78,22 @@ frames_closed (suc f) tag r n work s h =
 
 -- ---- a tag
 
-open_closed : (tag : List ℕ) (o : Opened) (work : List ℕ) → OfOpened (o, work) → ((reading.on_open (length tag) tag o work).1 ≡ unfinished → ⊥)
+open_closed : (tag : List ℕ) (o : Result Reader Refusal) (work : List ℕ) → OfOpened (o, work) → ((reading.on_open (length tag) tag o work).1 ≡ unfinished → ⊥)
     → ClosedFrom 0 (on_open tag o work) (reading.on_open (length tag) tag o work)
-open_closed tag (Opened.Ready r) work s h = frames_closed (length tag) tag r 0 work s h
-open_closed tag (Opened.Refused k) work s h = alone 0 ([], refused k) (refused_line k) work (refuses 0 [] k)
+open_closed tag (Ok r) work s h = frames_closed (length tag) tag r 0 work s h
+open_closed tag (Err k) work s h = alone 0 ([], refused k.number) (refused_line k.number) work (refuses 0 [] k.number)
 
 opened_closed : (tag work : List ℕ) → ClosedFrom 0 (opened_lines tag work) (read_all tag work)
 unfolding opened_lines read_for
 opened_closed tag work = open_closed tag (open_of tag work).0 (open_of tag work).1 (open_stopped tag work) (finishes tag work)
 
 -- a refused header is answered by opening with its number
-not_read : (tag work : List ℕ) (k : ℕ) → header_of tag ≡ Headed.Refused k → read_all tag work ≡ ([], refused k)
+not_read : (tag work : List ℕ) (k : Refusal) → header_of tag ≡ Err k → read_all tag work ≡ ([], refused k.number)
 unfolding read_for
 not_read tag work k e = rw (← open_refused tag work k e)
 
-head_closed : (tag work : List ℕ) (h : Headed) → header_of tag ≡ h → ClosedFrom 0 (on_header h tag work) (read_all tag work)
-head_closed tag work (Headed.Found h) e =
+head_closed : (tag work : List ℕ) (h : Result Header Refusal) → header_of tag ≡ h → ClosedFrom 0 (on_header h tag work) (read_all tag work)
+head_closed tag work (Ok h) e =
     let c = opened_closed tag work in
     record {
       before = line (header_line h) work ∷ c.before;
@@ -96,8 +101,8 @@ head_closed tag work (Headed.Found h) e =
       lines = ap (λ (x : List Line). line (header_line h) work ∷ x) c.lines;
       says = c.says;
     }
-head_closed tag work (Headed.Refused k) e =
-    rw (not_read tag work k e) (alone 0 ([], refused k) (refused_line k) work (refuses 0 [] k))
+head_closed tag work (Err k) e =
+    rw (not_read tag work k e) (alone 0 ([], refused k.number) (refused_line k.number) work (refuses 0 [] k.number))
 
 lines_closed : (tag work : List ℕ) → ClosedFrom 0 (lines_of tag work) (read_all tag work)
 unfolding lines_of

@@ -1,5 +1,5 @@
 -- A frame that a reader passes: what its line shows of it, held against the bytes that it takes. Assumes nothing.
-use mathlib.Core.Path.{◌≡◌, refl}
+use mathlib.Core.Path.{◌≡◌, refl, sym, ap}
 use Prim.Native.Nat.{ℕ, ◌+◌, ◌≤◌}
 use native.Mathlib.Omega.{arith}
 use mathlib.Core.Bool.{Bool, true, false}
@@ -9,6 +9,7 @@ use lib.Seq.{slice}
 use lib.Dec.{ltb, eqb}
 use borrow.Author.Tests.{eqb-true}
 use Rattle.laws.proofs.Cuts.{length_cut}
+use Rattle.laws.proofs.Results.{err_not_ok, found_same, none_not_found}
 use Rattle.format.specs.Bytes.{pick}
 use Rattle.format.specs.Unsynch.{resynchronised}
 use Rattle.format.specs.Frame.{head_of}
@@ -18,7 +19,6 @@ use Rattle.format.specs.declared.Version.{Version}
 use Rattle.format.specs.declared.Kind.{Kind}
 use Rattle.format.specs.declared.Head.{Head}
 use Rattle.format.specs.declared.Record.{Record}
-use Rattle.format.specs.declared.Shown.{Shown}
 use Rattle.format.proofs.Checks.{not_second}
 use Rattle.format.proofs.Heads.{stands, lies}
 use Rattle.format.proofs.Popularimeter.{taken_counted}
@@ -27,9 +27,10 @@ use Rattle.format.proofs.Unsynch.{resync_shorter}
 use Rattle.lines.proofs.Parts.{body_least}
 use Rattle.reader.specs.Reader.{step_of}
 use Rattle.reader.specs.declared.Reader.{Reader}
-use Rattle.reader.specs.declared.Step.{Step}
 use Rattle.reader.proofs.Steps.{answered}
 use Rattle.promises.proofs.Bounds.{ahead}
+use Rattle.std.specs.Prelude.{Result, Option, Ok, Err, Some, None}
+use Rattle.format.specs.declared.refusals.Refusal.{Refusal}
 
 -- ---- bodies
 
@@ -69,39 +70,33 @@ record Shows (at n : ℕ) (rec : Record) (next : ℕ) : Type 0 where
   bytes : at + (6 + body_least rec.heading.fields rec.name.len) ≤ next
   within : next ≤ at + n
 
-nothing_not : (rec : Record) (next : ℕ) → Shown.Nothing ≡ Shown.Frame rec next → ⊥
-nothing_not rec next e = let z : ◌≡◌ {A = ℕ} 0 1 = cc in omega arith
-
-refused_not : (k : ℕ) (rec : Record) (next : ℕ) → Shown.Refused k ≡ Shown.Frame rec next → ⊥
-refused_not k rec next e = let z : ◌≡◌ {A = ℕ} 0 1 = cc in omega arith
-
-shown_is : (k : ℕ) (rec rec' : Record) (next next' : ℕ) → shown_of k rec next ≡ Shown.Frame rec' next'
+shown_is : (k : ℕ) (rec rec' : Record) (next next' : ℕ) → shown_of k rec next ≡ Ok (Some (rec', next'))
     → (k ≡ 0) × ((rec' ≡ rec) × (next' ≡ next))
 shown_is k rec rec' next next' e =
-    let q = not_second (eqb k 0) _ _ _ e (refused_not k rec' next') in
-    let p : Shown.Frame rec next ≡ Shown.Frame rec' next' = q.1 in
-    (eqb-true k 0 q.0, (cc, cc))
+    let q = not_second (eqb k 0) _ _ _ e err_not_ok in
+    let p = found_same q.1 in
+    (eqb-true k 0 q.0, (sym (ap (λ (o : Record × ℕ). o.0) p), sym (ap (λ (o : Record × ℕ). o.1) p)))
 
 module _ (v : Version) (inWork : Bool) (begin at : ℕ) (s room : List ℕ) {rec : Record} {next : ℕ} where
-  head_shows : (x : Head) → head_of v 1 s ≡ x → (on_shown v inWork begin at s room x).0 ≡ Shown.Frame rec next → Shows at (length s) rec next
+  head_shows : (x : Result (Option Head) Refusal) → head_of v 1 s ≡ x → (on_shown v inWork begin at s room x).0 ≡ Ok (Some (rec, next)) → Shows at (length s) rec next
   unfolding on_shown
-  head_shows Head.Nothing h e = absurd (nothing_not rec next e)
-  head_shows (Head.Refused k) h e = absurd (refused_not k rec next e)
-  head_shows (Head.Found id c f short start len) h e =
-      let l = lies (stands v 1 s id c f short start len h) in
-      let stored = take len (drop start s) in
-      let resynced = is_resynced c f in
-      let kind = shown_kind v id c in
+  head_shows (Ok None) h e = none_not_found e
+  head_shows (Err k) h e = err_not_ok e
+  head_shows (Ok (Some h')) h e =
+      let l = lies (stands v 1 s h'.id h'.compressed h'.flagged h'.short h'.start h'.len h) in
+      let stored = take h'.len (drop h'.start s) in
+      let resynced = is_resynced h'.compressed h'.flagged in
+      let kind = shown_kind v h'.id h'.compressed in
       let b = shown_body resynced stored in
-      let place = pick resynced 0 (at + start) in
+      let place = pick resynced 0 (at + h'.start) in
       let o = body_of resynced (walked false v 2) kind stored room in
       let q = shown_is o.0 _ rec _ next e in
       let least = has_least v kind place b (body_passed resynced (walked false v 2) kind stored room q.0) in
-      let fewer : length b ≤ len = omega (arith, body_shorter resynced stored, length-take len (drop start s)) in
+      let fewer : length b ≤ h'.len = omega (arith, body_shorter resynced stored, length-take h'.len (drop h'.start s)) in
       rw (q.1.0, q.1.1)
       (record { place = omega arith; body = omega (arith, l.within); bytes = omega (arith, l.six, least, fewer); within = omega (arith, l.within) })
 
-  shows : (frame_of v inWork begin at s room).0 ≡ Shown.Frame rec next → Shows at (length s) rec next
+  shows : (frame_of v inWork begin at s room).0 ≡ Ok (Some (rec, next)) → Shows at (length s) rec next
   unfolding frame_of
   shows e = head_shows (head_of v 1 s) refl e
 
@@ -121,7 +116,7 @@ passes r s rec next h =
     let m = length_cut next r.end s in
     record { place = h.place; body = h.body; onward = omega (arith, n, m, h.bytes, h.within); bytes = omega (arith, n, m, h.bytes, h.within) }
 
-pub step_passed : (r : Reader) (tag work : List ℕ) (rec : Record) (r' : Reader) → (step_of r tag work).0 ≡ Step.Frame rec r'
+pub step_passed : (r : Reader) (tag work : List ℕ) (rec : Record) (r' : Reader) → (step_of r tag work).0 ≡ (Ok (Some rec), r')
     → Passed r.at (ahead r tag work) rec r'.at (ahead r' tag (step_of r tag work).1)
 step_passed r tag work rec r' e =
     let a = answered r tag work rec r' e in

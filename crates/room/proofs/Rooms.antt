@@ -12,13 +12,10 @@ use Rattle.format.specs.Listing.{end_line, refused_line}
 use Rattle.format.specs.declared.Version.{Version}
 use Rattle.format.specs.declared.Fields.{Fields}
 use Rattle.format.specs.declared.Record.{Record}
-use Rattle.lines.specs.declared.Placed.{Placed}
 use Rattle.lines.proofs.Parts.{body_least, tag_length, end_length, refused_length, frame_room}
 use Rattle.reader.specs.Reader.{header_of, open_of, step_of}
-use Rattle.reader.specs.declared.Headed.{Headed}
 use Rattle.reader.specs.declared.Reader.{Reader}
-use Rattle.reader.specs.declared.Opened.{Opened}
-use Rattle.reader.specs.declared.Step.{Step}
+use Rattle.reader.specs.Reader.{Step}
 use Rattle.reader.proofs.Refusals.{accepted}
 use Rattle.reader.proofs.Opens.{found}
 use Rattle.printout.specs.Lines.{Line, line, header_line, record_in, on_step, frame_lines, on_open, opened_lines, on_header, lines_of, text_of, input_room, text_room}
@@ -27,6 +24,9 @@ use Rattle.printout.proofs.Texts.{holds, all_put}
 use Rattle.promises.proofs.Bounds.{ahead, Opens, open_within}
 use Rattle.room.specs.Listings.{Room, WholeText}
 use Rattle.room.proofs.Passing.{step_passed}
+use Rattle.std.specs.Prelude.{Result, Option, Ok, Err, Some, None}
+use Rattle.format.specs.declared.refusals.Refusal.{Refusal}
+use Rattle.reader.specs.declared.Header.{Header}
 
 -- ---- a line
 
@@ -69,7 +69,7 @@ module _ (f : ℕ) (tag : List ℕ)
     (go : (r : Reader) (n : ℕ) (work : List ℕ) → Begins r n (ahead r tag work) → length (text_of (frame_lines f tag r n work)) ≤ 16 * ahead r tag work + 29)
     (r : Reader) (n : ℕ) (work : List ℕ) (b : Begins r n (ahead r tag work)) where
   step_room : (x : Step) → (step_of r tag work).0 ≡ x → length (text_of (on_step (frame_lines f tag) n tag x (step_of r tag work).1)) ≤ 16 * ahead r tag work + 29
-  step_room (Step.Frame rec r') e =
+  step_room (Ok (Some rec), r') e =
       let left = (step_of r tag work).1 in
       let p = step_passed r tag work rec r' e in
       let next : Begins r' (n + 1) (ahead r' tag left) = record {
@@ -84,8 +84,8 @@ module _ (f : ℕ) (tag : List ℕ)
         go r' (n + 1) left next,
         p.bytes,
       )
-  step_room (Step.End r') e = omega (arith, alone (end_line n) (step_of r tag work).1, end_length n)
-  step_room (Step.Refused k r') e = omega (arith, alone (refused_line k) (step_of r tag work).1, refused_length k)
+  step_room (Ok None, r') e = omega (arith, alone (end_line n) (step_of r tag work).1, end_length n)
+  step_room (Err k, r') e = omega (arith, alone (refused_line k.number) (step_of r tag work).1, refused_length k.number)
 
 frames_room : (f : ℕ) (tag : List ℕ) (r : Reader) (n : ℕ) (work : List ℕ) → Begins r n (ahead r tag work)
     → length (text_of (frame_lines f tag r n work)) ≤ 16 * ahead r tag work + 29
@@ -96,26 +96,26 @@ frames_room (suc f) tag r n work b = step_room f tag (frames_room f tag) r n wor
 -- ---- a tag
 
 module _ (tag : List ℕ) (small : length tag ≤ input_room) (ten : 10 ≤ length tag) where
-  open_room : (o : Opened) (work : List ℕ) → Opens tag (o, work) → length (text_of (on_open tag o work)) + 131 ≤ 16 * length tag
-  open_room (Opened.Ready r) work h =
+  open_room : (o : Result Reader Refusal) (work : List ℕ) → Opens tag (o, work) → length (text_of (on_open tag o work)) + 131 ≤ 16 * length tag
+  open_room (Ok r) work h =
       let w = h r refl in
       let b : Begins r 0 (ahead r tag work) = record { place = omega (arith, w.place); number = omega (arith, w.few) } in
       omega (arith, frames_room (length tag) tag r 0 work b, w.few)
-  open_room (Opened.Refused k) work h = omega (arith, alone (refused_line k) work, refused_length k)
+  open_room (Err k) work h = omega (arith, alone (refused_line k.number) work, refused_length k.number)
 
   opened_room : (work : List ℕ) → length (text_of (opened_lines tag work)) + 131 ≤ 16 * length tag
   unfolding opened_lines
   opened_room work = open_room (open_of tag work).0 (open_of tag work).1 (open_within tag work)
 
-head_room : (tag work : List ℕ) → length tag ≤ input_room → (h : Headed) → header_of tag ≡ h → length (text_of (on_header h tag work)) ≤ text_room
-head_room tag work small (Headed.Found h) e =
+head_room : (tag work : List ℕ) → length tag ≤ input_room → (h : Result Header Refusal) → header_of tag ≡ h → length (text_of (on_header h tag work)) ≤ text_room
+head_room tag work small (Ok h) e =
     omega (
       arith,
       first_line (line (header_line h) work) (opened_lines tag work),
       tag_length (version_number h.version) h.size h.flags h.ext,
       opened_room tag small (accepted tag (found tag h e).0).begun work,
     )
-head_room tag work small (Headed.Refused k) e = omega (arith, alone (refused_line k) work, refused_length k)
+head_room tag work small (Err k) e = omega (arith, alone (refused_line k.number) work, refused_length k.number)
 
 -- ---- the promises
 
@@ -130,6 +130,6 @@ whole_text tag work out small large =
     let fits : 0 + length t ≤ length out = omega (arith, room tag work small) in
     let all : 0 + length t ≡ length t = omega arith in
     let o : Outcome = put_lines ls 0 work out in
-    let put : o.0 ≡ Placed.Upto (length t) = rw all at (all_put ls 0 work out fits) in
-    let is : o ≡ (Placed.Upto (length t), (o.1.0, o.1.1)) = ap {B = Outcome} (λ (p : Placed). (p, o.1)) put in
+    let put : o.0 ≡ Some (length t) = rw all at (all_put ls 0 work out fits) in
+    let is : o ≡ (Some (length t), (o.1.0, o.1.1)) = ap {B = Outcome} (λ (p : Option ℕ). (p, o.1)) put in
     (put, (holds ls 0 work out is).bytes ∙ sets_in out 0 t fits)

@@ -3,10 +3,10 @@ use Rattle.std.specs.Prelude.{◌≡◌, ℕ, ◌≤◌, List, [], ◌∷◌, �
 use Rattle.format.specs.Bytes.{put_front}
 use Rattle.format.specs.Listing.{end_line, refused_line}
 use Rattle.format.specs.Record.{Rec}
-use Rattle.lines.specs.declared.Placed.{Placed}
 use Rattle.printout.specs.Lines.{Line, lines_of, text_of, input_room, text_room}
 use Rattle.printout.specs.Turns.{put_lines}
 use Rattle.promises.specs.Reading.{Reading, ended, refused, read_all}
+use Rattle.std.specs.Prelude.{Some}
 
 -- ---- the last line
 
@@ -36,5 +36,5 @@ Room = (tag work : List ℕ) → length tag ≤ input_room → length (text_of (
 -- So a buffer of so many bytes is never full (`list` answers by `put_lines`): the whole text is put at its front, and nothing else changes in it.
 abbrev pub WholeText : Type 0
 WholeText = (tag work out : List ℕ) → length tag ≤ input_room → text_room ≤ length out
-    → ((put_lines (lines_of tag work) 0 work out).0 ≡ Placed.Upto (length (text_of (lines_of tag work))))
+    → ((put_lines (lines_of tag work) 0 work out).0 ≡ Some (length (text_of (lines_of tag work))))
     × ((put_lines (lines_of tag work) 0 work out).1.1 ≡ put_front (text_of (lines_of tag work)) out)

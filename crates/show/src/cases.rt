@@ -49,13 +49,7 @@ fn show_case<R: Read, W: Write>(
     }
     let room = read32(&head, 0) as usize;
     let len = read32(&head, 4) as usize;
-    if work.len() < room {
-        return Ok(false);
-    }
-    if area.len() < len {
-        return Ok(false);
-    }
-    if !read_tag(from, area, len)? {
+    if work.len() < room || area.len() < len || !read_tag(from, area, len)? {
         return Ok(false);
     }
     show_number(to, number)?;
@@ -71,9 +65,10 @@ fn show_cases<R: Read, W: Write>(
     work: &mut [u8],
     text: &mut [u8],
 ) -> io::Result<()> {
-    let mut number = 1;
-    while number < u64::MAX && show_case(from, to, area, work, text, number)? {
-        number += 1;
+    for number in 1..u64::MAX {
+        if !show_case(from, to, area, work, text, number)? {
+            break;
+        }
     }
     Ok(())
 }

@@ -7,17 +7,17 @@ ghost use Rattle.std.specs.Prelude.{◌≡◌, length, replicate};
 ghost use Rattle.printout.specs.Lines.{lines_of, text_room};
 ghost use Rattle.printout.specs.Turns.{put_lines};
 
-use format::refusals::NO_ROOM;
-use lines::{Placed, refused_line};
+use format::refusals::{NO_ROOM, Refusal};
+use lines::refused_line;
 use printout::list;
 use std::io;
 use std::io::{Read, Write};
 use streams::read_full;
 
 // Writes the line of a refusal.
-fn show_refused<W: Write>(to: &mut W, number: u8) -> io::Result<()> {
+fn show_refused<W: Write>(to: &mut W, refusal: Refusal) -> io::Result<()> {
     let mut line = [0u8; 16];
-    if let Placed::Upto(n) = refused_line(&mut line, 0, number) {
+    if let Some(n) = refused_line(&mut line, 0, refusal.number) {
         to.write_all(&line[..n])?;
     }
     Ok(())
@@ -29,8 +29,8 @@ pub fn show<W: Write>(to: &mut W, work: &mut [u8], text: &mut [u8], tag: &[u8]) 
     ensures { (work.new, text.new) ≡ (put_lines (lines_of tag.now work.old) 0 work.old text.old).1 }
 {
     match list(work, text, tag) {
-        Placed::Upto(n) => to.write_all(&text[..n]),
-        Placed::Full => show_refused(to, NO_ROOM),
+        Some(n) => to.write_all(&text[..n]),
+        None => show_refused(to, NO_ROOM),
     }
 }
 
@@ -53,10 +53,8 @@ pub fn run<R: Read, W: Write>(from: &mut R, to: &mut W) -> io::Result<()> {
     let mut work = [0u8; 65_536];
     let mut text = room_for_text();
     let n = read_full(from, &mut area[..])?;
-    if n == area.len() {
-        if is_more(from)? {
-            return show_refused(to, NO_ROOM);
-        }
+    if n == area.len() && is_more(from)? {
+        return show_refused(to, NO_ROOM);
     }
     show(to, &mut work, &mut text, &area[..n])
 }

@@ -10,6 +10,7 @@ use lib.Seq.{take_all}
 use lib.Dec.{ltb, eqb}
 use borrow.Author.Tests.{ltb-true, ltb-false}
 use Rattle.laws.proofs.Bools.{false_not_true}
+use Rattle.laws.proofs.Results.{found_same}
 use Rattle.format.specs.Bytes.{pick}
 use Rattle.format.specs.Header.{version_of}
 use Rattle.format.specs.Numbered.{mode_of}
@@ -39,6 +40,8 @@ use Rattle.stopped.proofs.Regions.{part_no_block, cut_frame}
 use Rattle.stopped.proofs.Tails.{sight_nothing, sight_refuses, then_end, last_reads}
 use Rattle.stopped.proofs.Rooms.{ended_not, head_is, cut_fits}
 use Rattle.stopped.proofs.Reading.{flagged_room, tail_fits, last_then, all_read}
+use Rattle.std.specs.Prelude.{Result, Option, Ok, Err, Some, None}
+use Rattle.format.specs.declared.refusals.Refusal.{Refusal}
 
 -- ---- a frame of 2.3 that is cut
 
@@ -49,12 +52,12 @@ module _ (m : Mode) (r : Rec) (sound : Sound Id3v23 m r) (n : ℕ) (less : n < l
   abbrev part : List ℕ
   part = take n (encode Id3v23 m r)
 
-  by_head : (x : Head) → head_of Id3v23 1 part ≡ x → EndOrFive (then_end (sight_of Id3v23 part room).0)
-  by_head Head.Nothing e = inl (ap then_end (sight_nothing Id3v23 part room e))
-  by_head (Head.Refused k) e =
-      let five : k ≡ 5 = cut_refused Id3v23 1 n (encode Id3v23 m r) (encode_block Id3v23 m r sound).head e in
+  by_head : (x : Result (Option Head) Refusal) → head_of Id3v23 1 part ≡ x → EndOrFive (then_end (sight_of Id3v23 part room).0)
+  by_head (Ok None) e = inl (ap then_end (sight_nothing Id3v23 part room e))
+  by_head (Err k) e =
+      let five : k.number ≡ 5 = cut_refused Id3v23 1 n (encode Id3v23 m r) (encode_block Id3v23 m r sound).head e in
       inr (ap then_end (sight_refuses Id3v23 part room e) ∙ ap {B = Reading} (λ (j : ℕ). ([], refused j)) five)
-  by_head (Head.Found id c f short start len) e =
+  by_head (Ok (Some h)) e =
       let b = encode_block Id3v23 m r sound in
       absurd (false_not_true (sym (never_short 1 part e) ∙ cut_short Id3v23 1 (encode Id3v23 m r) b.head n (omega (arith, b.ends)) e))
 
@@ -71,18 +74,18 @@ module _ (v : Version) (m : Mode) (one : Rec) (sound : Sound v m one) (n : ℕ) 
   abbrev piece : List ℕ
   piece = take n (encode v m one)
 
-  of_head : (x : Head) → head_of v 1 piece ≡ x → OfNext one (then_end (sight_of v piece room).0)
-  of_head Head.Nothing e = rw (sight_nothing v piece room e) OfNext.ends
-  of_head (Head.Refused k) e = rw (sight_refuses v piece room e) (OfNext.stops k)
-  of_head (Head.Found id c f short start len) e =
+  of_head : (x : Result (Option Head) Refusal) → head_of v 1 piece ≡ x → OfNext one (then_end (sight_of v piece room).0)
+  of_head (Ok None) e = rw (sight_nothing v piece room e) OfNext.ends
+  of_head (Err k) e = rw (sight_refuses v piece room e) (OfNext.stops k.number)
+  of_head (Ok (Some h)) e =
       let w = of_whole v 1 n (encode v m one) e in
-      let same = sym w.head ∙ head_is v m one sound in
-      let is_id_lem : id ≡ one.id = cc in
-      let is_compressed_lem : c ≡ false = cc in
+      let same = found_same (sym w.head ∙ head_is v m one sound) in
+      let is_id_lem : h.id ≡ one.id = ap (λ (x : Head). x.id) same in
+      let is_compressed_lem : h.compressed ≡ false = ap (λ (x : Head). x.compressed) same in
       let is_short_lem = cut_short v 1 (encode v m one) (head_is v m one sound) n (omega (arith, encode_length v m one)) e in
-      let stored = take len (drop start piece) in
-      let k = (out_of v id c f stored room).0 in
-      rw (sight_is v id c f short start len piece e room) (of_verdict one (rec_in v id c f short stored) (eqb k 0) k is_short_lem is_id_lem is_compressed_lem)
+      let stored = take h.len (drop h.start piece) in
+      let k = (out_of v h.id h.compressed h.flagged stored room).0 in
+      rw (sight_is v h.id h.compressed h.flagged h.short h.start h.len piece e room) (of_verdict one (rec_in v h.id h.compressed h.flagged h.short stored) (eqb k 0) k is_short_lem is_id_lem is_compressed_lem)
 
   -- A part of the frame is read as that frame, short, or refused, or nothing of it is read.
   piece_read : OfNext one (then_end (sight_of v (take n (encode v m one)) room).0)

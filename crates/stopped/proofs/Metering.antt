@@ -15,7 +15,6 @@ use Rattle.format.specs.Record.{Rec}
 use Rattle.format.specs.Encode.{whole_of, region_bytes, tag_of}
 use Rattle.format.proofs.Tags.{tag_headed}
 use Rattle.reader.specs.Reader.{reader_at}
-use Rattle.reader.specs.declared.Opened.{Opened}
 use Rattle.meter.specs.Meter.{is_missing, meter_at, opened_as, meter_open_of, one_more}
 use Rattle.meter.specs.Answers.{opened_meter}
 use Rattle.meter.specs.declared.Meter.{Meter}
@@ -34,6 +33,9 @@ use Rattle.stopped.specs.Stopped.{reach_of, whole_in}
 use Rattle.stopped.specs.Promises.{Stopped, FirstThen, StoppedMeters, StoppedTold, StoppedOwed}
 use Rattle.stopped.proofs.Regions.{same_front}
 use Rattle.stopped.proofs.Reading.{can_open, stopped_reads, stopped_behind}
+use Rattle.std.specs.Prelude.{Result}
+use Rattle.format.specs.declared.refusals.Refusal.{Refusal}
+use Rattle.reader.specs.declared.Reader.{Reader}
 
 -- ---- counters
 
@@ -59,7 +61,7 @@ opened_meter_lem tag work o =
     let w = is_whole tag in
     let p = opened (version_in tag) tag work o.taken refl w refl o.room in
     let r = reader_at (version_in tag) w p.begin p.end in
-    (meter_at (is_missing tag) r, ap (λ (x : Opened × List ℕ). opened_meter (opened_as (is_missing tag) x.0)) p.opens)
+    (meter_at (is_missing tag) r, ap (λ (x : Result Reader Refusal × List ℕ). opened_meter (opened_as (is_missing tag) x.0)) p.opens)
 
 last_is : {tag : List ℕ} {rs : List Rec} {first : Meter} {l : List Meter} → Last tag rs (first ∷ []) l → (m : Meter) × (l ≡ m ∷ []) × Marked tag rs m
 last_is (one {m = m} marked) = (m, refl, marked)

@@ -10,15 +10,14 @@ use Rattle.format.specs.Header.{ext_of, header_refusal}
 use Rattle.format.specs.Frame.{head_of}
 use Rattle.format.specs.Record.{popularimeter, Rec, body_refusal, run_of}
 use Rattle.format.specs.Looks.{all_zero, frame_look, on_look, look_for, look_at, tag_look}
-use Rattle.format.specs.declared.Look.{Look}
 use Rattle.promises.specs.Metering.{counters_of}
 use Rattle.promises.specs.Samples.{plain}
 use Rattle.blocks.specs.Blocks.{blocks_for, and_records}
 use Rattle.raise.specs.Raise.{body_in, is_mine, field_in, field_at, places_from, counted_tag, raise_to, raised_of}
-use Rattle.raise.specs.declared.Raised.{Raised}
 use Rattle.stopped.specs.Stopped.{most_in}
 use Rattle.stopped.specs.Plain.{plain_whole}
 use Rattle.stopped.proofs.Samples.{Seen, seen_in, ends, then_short}
+use Rattle.std.specs.Prelude.{Ok}
 
 -- a 2.4 tag of two users, each with a counter of two bytes; a byte of padding, and sound behind
 abbrev frame4 : ℕ → ℕ → ℕ → List ℕ
@@ -28,7 +27,7 @@ abbrev two : ℕ → ℕ → List ℕ
 two high low = ascii "ID3" ++ (4 ∷ 0 ∷ 0 ∷ 0 ∷ 0 ∷ 0 ∷ 31 ∷ frame4 0x61 high low ++ (frame4 0x62 0 1 ++ (0 ∷ 0xFF ∷ 0xFB ∷ [])))
 
 -- the first one's counter is raised to 256, and the tag is plain again
-pub raised : (raised_of (two 0 255) (ascii "a") 1 ≡ (Raised.Counts 256, two 1 0)) × (tag_look (two 1 0) ≡ Look.Plain)
+pub raised : (raised_of (two 0 255) (ascii "a") 1 ≡ (Ok 256, two 1 0)) × (tag_look (two 1 0) ≡ Ok true)
 unfolding
     kind_of first zero_at digits onto utf8_from ext_of header_refusal head_of body_refusal run_of blocks_for all_zero frame_look on_look look_for look_at tag_look body_in
     is_mine field_in field_at places_from counted_tag raise_to raised_of

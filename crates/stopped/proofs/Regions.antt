@@ -33,6 +33,8 @@ use Rattle.stopped.specs.Stopped.{reach_of, whole_in}
 use Rattle.stopped.proofs.Members.{member}
 use Rattle.stopped.proofs.Counts.{frames_append, there_reach, there_next}
 use Rattle.stopped.proofs.Cuts.{cut_inside, cut_behind}
+use Rattle.std.specs.Prelude.{Result, Option, Ok, Err, Some, None}
+use Rattle.format.specs.declared.refusals.Refusal.{Refusal}
 
 -- ---- a part of a block
 
@@ -40,10 +42,10 @@ use Rattle.stopped.proofs.Cuts.{cut_inside, cut_behind}
 pub part_no_block : (v : Version) (b : List ℕ) (n : ℕ) → Block v b → n < length b → NoBlock v (take n b)
 part_no_block v b n w lt = by_head (head_of v 1 (take n b)) refl
   where
-    by_head : (x : Head) → head_of v 1 (take n b) ≡ x → block_len x ≡ 0
-    by_head Head.Nothing e = refl
-    by_head (Head.Refused k) e = refl
-    by_head (Head.Found id c f short start len) e = rw (cut_short v 1 b w.head n (omega (arith, w.ends)) e)
+    by_head : (x : Result (Option Head) Refusal) → head_of v 1 (take n b) ≡ x → block_len x ≡ 0
+    by_head (Ok None) e = refl
+    by_head (Err k) e = refl
+    by_head (Ok (Some h)) e = rw (cut_short v 1 b w.head n (omega (arith, w.ends)) e)
 
 -- ---- the cut tag
 

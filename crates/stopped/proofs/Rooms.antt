@@ -9,9 +9,10 @@ use lib.Seq.{take-take}
 use lib.Dec.{eqb}
 use borrow.Author.Tests.{le-ltb}
 use Rattle.laws.proofs.Slices.{take_drop_take}
+use Rattle.laws.proofs.Results.{found_same}
 use Rattle.format.specs.Bytes.{pick}
 use Rattle.format.specs.Unsynch.{resynchronised, dropped, unsynchronised, is_on}
-use Rattle.format.specs.Frame.{head_len, head_of}
+use Rattle.format.specs.Frame.{head_len, head_of, head}
 use Rattle.format.specs.Record.{Rec, body_refusal, run_of}
 use Rattle.format.specs.Walk.{Out, and_then, inside_of, resynced_of, is_resynced, shown_body, body_of, shown_kind, walked}
 use Rattle.format.specs.Encode.{body_bytes, stored_of, encode}
@@ -35,6 +36,8 @@ use Rattle.blocks.specs.Blocks.{refuses, shows, sight_of, Unresynced}
 use Rattle.blocks.proofs.Sights.{out_of, rec_in, sight_is}
 use Rattle.stopped.proofs.Runs.{PartOf, run_part, part_unresynced}
 use Rattle.stopped.proofs.Tails.{sight_nothing, sight_refuses, then_end}
+use Rattle.std.specs.Prelude.{Result, Option, Ok, Err, Some, None}
+use Rattle.format.specs.declared.refusals.Refusal.{Refusal}
 
 -- ---- the checks of headers and bodies
 
@@ -42,7 +45,7 @@ use Rattle.stopped.proofs.Tails.{sight_nothing, sight_refuses, then_end}
 abbrev pub NotRoom : ℕ → Type 0
 NotRoom k = k ≡ 14 → ⊥
 
-head_fits : (v : Version) (depth : ℕ) (s : List ℕ) {k : ℕ} → head_of v depth s ≡ Head.Refused k → NotRoom k
+head_fits : (v : Version) (depth : ℕ) (s : List ℕ) {k : Refusal} → head_of v depth s ≡ Err k → NotRoom k.number
 head_fits v depth s e = subst NotRoom (head_refuses v depth s e).is (of_frame NotRoom (omega arith) v depth s)
 
 body_fits : (kind : Kind) (b : List ℕ) → NotRoom (body_refusal kind b)
@@ -117,7 +120,7 @@ verdict_fits false k x h e = h (cc)
 
 -- the header of all of it
 pub head_is : (v : Version) (m : Mode) (r : Rec) → Sound v m r
-    → head_of v 1 (encode v m r) ≡ Head.Found r.id false (flagged_by v m) false (head_len v) (length (stored_of v m (body_bytes r.content)))
+    → head_of v 1 (encode v m r) ≡ Ok (Some (head r.id false (flagged_by v m) false (head_len v) (length (stored_of v m (body_bytes r.content)))))
 head_is v m r sound = rw append-nil at (head_back v m 1 r [] (omega arith) sound.is_id_lem sound.sizes)
 
 module _ (v : Version) (m : Mode) (r : Rec) (sound : Sound v m r) (room : List ℕ) where
@@ -150,17 +153,17 @@ module _ (v : Version) (m : Mode) (r : Rec) (sound : Sound v m r) (room : List �
     abbrev part : List ℕ
     part = take n (encode v m r)
 
-    found_fits : {id : ℕ} {c f short : Bool} {start len : ℕ} → head_of v 1 part ≡ Head.Found id c f short start len
+    found_fits : {id : ℕ} {c f short : Bool} {start len : ℕ} → head_of v 1 part ≡ Ok (Some (head id c f short start len))
         → OutFits (out_of v id c f (take len (drop start part)) room)
     found_fits {id} {c} {f} {short} {start} {len} e =
         let l = lies (stands v 1 part id c f short start len e) in
         let w = of_whole v 1 n (encode v m r) e in
-        let same = sym w.head ∙ head_is v m r sound in
-        let is_id_lem : id ≡ r.id = cc in
-        let is_compressed_lem : c ≡ false = cc in
-        let is_flagged_lem : f ≡ flagged_by v m = cc in
-        let is_start : start ≡ head_len v = cc in
-        let is_long : w.long ≡ length stored = cc in
+        let same = found_same (sym w.head ∙ head_is v m r sound) in
+        let is_id_lem : id ≡ r.id = ap (λ (h : Head). h.id) same in
+        let is_compressed_lem : c ≡ false = ap (λ (h : Head). h.compressed) same in
+        let is_flagged_lem : f ≡ flagged_by v m = ap (λ (h : Head). h.flagged) same in
+        let is_start : start ≡ head_len v = ap (λ (h : Head). h.start) same in
+        let is_long : w.long ≡ length stored = ap (λ (h : Head). h.len) same in
         let inside : start + len ≤ n = omega (arith, l.within, length-take n (encode v m r)) in
         let there : take (length stored) (drop (head_len v) (encode v m r)) ≡ stored = rw append-nil at (body_there v m r []) in
         let bytes : take len (drop start part) ≡ take len stored =
@@ -169,13 +172,13 @@ module _ (v : Version) (m : Mode) (r : Rec) (sound : Sound v m r) (room : List �
         ∙ rw (is_long, is_start, there) in
         rw (bytes, is_id_lem, is_compressed_lem, is_flagged_lem) (stored_fits len (λ g. omega (arith, long g)))
 
-    by_head : (x : Head) → head_of v 1 part ≡ x → (then_end (sight_of v part room).0).1 ≡ refused 14 → ⊥
-    by_head Head.Nothing e z = ended_not 14 (rw (sight_nothing v part room e) at z)
-    by_head (Head.Refused k) e z = verdict_fits false k r (head_fits v 1 part e) (rw (sight_refuses v part room e) at z)
-    by_head (Head.Found id c f short start len) e z =
-        let s = take len (drop start part) in
-        let k = (out_of v id c f s room).0 in
-        verdict_fits (eqb k 0) k (rec_in v id c f short s) (found_fits e) (rw (sight_is v id c f short start len part e room) at z)
+    by_head : (x : Result (Option Head) Refusal) → head_of v 1 part ≡ x → (then_end (sight_of v part room).0).1 ≡ refused 14 → ⊥
+    by_head (Ok None) e z = ended_not 14 (rw (sight_nothing v part room e) at z)
+    by_head (Err k) e z = verdict_fits false k.number r (head_fits v 1 part e) (rw (sight_refuses v part room e) at z)
+    by_head (Ok (Some h)) e z =
+        let s = take h.len (drop h.start part) in
+        let k = (out_of v h.id h.compressed h.flagged s room).0 in
+        verdict_fits (eqb k 0) k (rec_in v h.id h.compressed h.flagged h.short s) (found_fits e) (rw (sight_is v h.id h.compressed h.flagged h.short h.start h.len part e room) at z)
 
     -- A front part of it is not refused for want of room, if the room is as long or none is needed.
     pub cut_fits : (then_end (sight_of v (take n (encode v m r)) room).0).1 ≡ refused 14 → ⊥

@@ -12,7 +12,7 @@ use borrow.Author.Tests.{leb-true, leb-false}
 use Rattle.laws.proofs.Slices.{take_drop_take}
 use Rattle.laws.proofs.Cuts.{drop_part}
 use Rattle.format.specs.Bytes.{pick, zero_at}
-use Rattle.format.specs.Frame.{head_of}
+use Rattle.format.specs.Frame.{head_of, head}
 use Rattle.format.specs.Chapter.{chapter_run, names_len, count_in, after_count, names_in, contents_run}
 use Rattle.format.specs.Record.{run_of}
 use Rattle.format.specs.Walk.{is_resynced, shown_kind, walked}
@@ -26,6 +26,8 @@ use Rattle.format.proofs.Walks.{none_begins, run_shorter}
 use Rattle.format.proofs.Strict.{accepted}
 use Rattle.blocks.specs.Blocks.{Unresynced}
 use Rattle.blocks.proofs.Tails.{short_all}
+use Rattle.std.specs.Prelude.{Result, Option, Ok, Err, Some, None}
+use Rattle.format.specs.declared.refusals.Refusal.{Refusal}
 
 -- ---- where a run begins in a front part
 
@@ -112,7 +114,7 @@ unflagged c f e = rw e
 module _ (v : Version) (depth n : ℕ) (s room : List ℕ) (a : (walked true v depth s room).0 ≡ 0)
     (h : (d i : ℕ) (t r : List ℕ) → length t < length s → (walked true v d t r).0 ≡ 0 → Unresynced v d (take i t)) where
   -- what follows a frame that is found
-  part_rest : {id : ℕ} {c f : Bool} (short : Bool) {start len : ℕ} → head_of v depth (take n s) ≡ Head.Found id c f short start len
+  part_rest : {id : ℕ} {c f : Bool} (short : Bool) {start len : ℕ} → head_of v depth (take n s) ≡ Ok (Some (head id c f short start len))
       → Unresynced v depth (drop (start + len) (take n s))
   part_rest true {start} {len} e =
       unresynced_none v depth (ap (λ (i : ℕ). drop i (take n s)) (short_all v depth (take n s) e) ∙ drop-length (take n s))
@@ -124,25 +126,25 @@ module _ (v : Version) (depth n : ℕ) (s room : List ℕ) (a : (walked true v d
       (h depth (n - (start + len)) (drop (start + len) s) (accepted v depth s room whole a).after
       (omega (arith, l.six, l.within, length-take n s, length-drop (start + len) s)) (accepted v depth s room whole a).rest)
 
-  part_head : (x : Head) → head_of v depth (take n s) ≡ x → Unresynced v depth (take n s)
-  part_head Head.Nothing e = Unresynced.ends e
-  part_head (Head.Refused k) e = Unresynced.stops e
-  part_head (Head.Found id c f short start len) e =
-      let l = lies (stands v depth (take n s) id c f short start len e) in
+  part_head : (x : Result (Option Head) Refusal) → head_of v depth (take n s) ≡ x → Unresynced v depth (take n s)
+  part_head (Ok None) e = Unresynced.ends e
+  part_head (Err k) e = Unresynced.stops e
+  part_head (Ok (Some one)) e =
+      let l = lies (stands v depth (take n s) one.id one.compressed one.flagged one.short one.start one.len e) in
       let w = of_whole v depth n s e in
-      let m = lies (stands v depth s id c f w.short start w.long w.head) in
+      let m = lies (stands v depth s one.id one.compressed one.flagged w.short one.start w.long w.head) in
       let t = accepted v depth s room w.head a in
-      let kind = shown_kind v id c in
-      let body = take w.long (drop start s) in
-      let inside : start + len ≤ n = omega (arith, l.within, length-take n s) in
-      let stored : take len (drop start (take n s)) ≡ take len body =
-      take_drop_take len start n s inside ∙ sym (take-take len w.long (drop start s) w.longer) in
-      let run = run_part kind len body in
+      let kind = shown_kind v one.id one.compressed in
+      let body = take w.long (drop one.start s) in
+      let inside : one.start + one.len ≤ n = omega (arith, l.within, length-take n s) in
+      let stored : take one.len (drop one.start (take n s)) ≡ take one.len body =
+      take_drop_take one.len one.start n s inside ∙ sym (take-take one.len w.long (drop one.start s) w.longer) in
+      let run = run_part kind one.len body in
       let shorter : length (run_of kind body) < length s =
-      omega (arith, m.six, m.within, run_shorter kind body, length-take w.long (drop start s), length-drop start s) in
-      Unresynced.frame e (unflagged c f t.unflagged)
+      omega (arith, m.six, m.within, run_shorter kind body, length-take w.long (drop one.start s), length-drop one.start s) in
+      Unresynced.frame e (unflagged one.compressed one.flagged t.unflagged)
       (rw (stored, run.1) (h (depth + 1) run.0 (run_of kind body) room shorter t.run))
-      (part_rest short e)
+      (part_rest one.short e)
 
 part_within : (size : ℕ) (v : Version) (depth n : ℕ) (s room : List ℕ) → length s < size → (walked true v depth s room).0 ≡ 0 → Unresynced v depth (take n s)
 part_within zero v depth n s room le a = absurd (omega arith)

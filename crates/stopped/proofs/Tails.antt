@@ -8,7 +8,7 @@ use lib.ListN.{length, drop}
 use lib.Seq.{slice, drop-length}
 use Rattle.laws.proofs.Slices.{slice_drop}
 use Rattle.format.specs.Header.{is_whole}
-use Rattle.format.specs.Frame.{head_of}
+use Rattle.format.specs.Frame.{head_of, head}
 use Rattle.format.specs.Walk.{on_shown, frame_of}
 use Rattle.format.specs.declared.Version.{Version}
 use Rattle.format.specs.declared.Head.{Head}
@@ -22,10 +22,12 @@ use Rattle.blocks.proofs.Reading.{room_of, work_then, go_on, first_read, end_rea
 use Rattle.blocks.proofs.Regions.{quiet_read, source_then, steps_all}
 use Rattle.blocks.proofs.Opens.{opened}
 use Rattle.blocks.proofs.Tails.{no_block_short, short_all, none_quiet}
+use Rattle.std.specs.Prelude.{Result, Option, Ok, Err, Some, None}
+use Rattle.format.specs.declared.refusals.Refusal.{Refusal}
 
 -- ---- what a header alone shows
 
-pub sight_nothing : (v : Version) (s room : List ℕ) → head_of v 1 s ≡ Head.Nothing → (sight_of v s room).0 ≡ nothing
+pub sight_nothing : (v : Version) (s room : List ℕ) → head_of v 1 s ≡ Ok None → (sight_of v s room).0 ≡ nothing
 unfolding sight_of frame_of on_shown
 sight_nothing v s room e = rw e
 
@@ -33,9 +35,9 @@ none_refuses : (k : ℕ) → 1 ≤ k → none_by k ≡ refuses k
 none_refuses zero h = absurd (omega arith)
 none_refuses (suc k) h = refl
 
-pub sight_refuses : (v : Version) (s room : List ℕ) {k : ℕ} → head_of v 1 s ≡ Head.Refused k → (sight_of v s room).0 ≡ refuses k
+pub sight_refuses : (v : Version) (s room : List ℕ) {k : Refusal} → head_of v 1 s ≡ Err k → (sight_of v s room).0 ≡ refuses k.number
 unfolding sight_of frame_of on_shown
-sight_refuses v s room {k} e = rw e (none_refuses k (subst OfHead e (head_number_lem v 1 s)).0)
+sight_refuses v s room {k} e = rw e (none_refuses k.number (subst OfHead e (head_number_lem v 1 s)).0)
 
 -- ---- one frame, and the end
 
@@ -55,15 +57,15 @@ module _ (v : Version) (begin at end : ℕ) (tag work : List ℕ) (w : Bool) (n 
   abbrev s : List ℕ
   s = slice at end (source w tag work)
 
-  by_head : (x : Head) → head_of v 1 s ≡ x → read_from (suc (suc n)) tag (reader v w begin at end) work ≡ then_end (sight_of v s (room_of w work)).0
-  by_head Head.Nothing x = end_read v (suc n) begin at end tag work w x ∙ ap then_end (sym (sight_nothing v s (room_of w work) x))
-  by_head (Head.Refused k) x = refused_read v (suc n) begin at end tag work w x ∙ ap then_end (sym (sight_refuses v s (room_of w work) x))
-  by_head (Head.Found id c f short start len) x =
-      let k = start + len in
+  by_head : (x : Result (Option Head) Refusal) → head_of v 1 s ≡ x → read_from (suc (suc n)) tag (reader v w begin at end) work ≡ then_end (sight_of v s (room_of w work)).0
+  by_head (Ok None) x = end_read v (suc n) begin at end tag work w x ∙ ap then_end (sym (sight_nothing v s (room_of w work) x))
+  by_head (Err k) x = refused_read v (suc n) begin at end tag work w x ∙ ap then_end (sym (sight_refuses v s (room_of w work) x))
+  by_head (Ok (Some one)) x =
+      let k = one.start + one.len in
       let o = sight_of v s (room_of w work) in
       let on = go_on (suc n) tag (reader v w begin (at + k) end) work in
-      let is_short_lem : short ≡ true = no_block_short v s h x in
-      let all : k ≡ length s = short_all v 1 s (x ∙ ap (λ (y : Bool). Head.Found id c f y start len) is_short_lem) in
+      let is_short_lem : one.short ≡ true = no_block_short v s h x in
+      let all : k ≡ length s = short_all v 1 s (x ∙ ap (λ (y : Bool). Ok (Some (head one.id one.compressed one.flagged y one.start one.len))) is_short_lem) in
       let behind : slice (at + k) end (source w tag work) ≡ [] = slice_drop at k end (source w tag work) ∙ ap (λ (i : ℕ). drop i s) all ∙ drop-length s in
       first_read v (suc n) begin at end tag work w x
       ∙ on_end on o.0 o.1 (quiet_read v begin (at + k) end tag work w n o.1 (rw behind (none_quiet v)))

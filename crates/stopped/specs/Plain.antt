@@ -1,8 +1,7 @@
 -- What is promised of a tag that was changed in place and then cut: one of the plain sort, as a raise, a lift and most edits leave it (document 02, f, j and m). Assumes nothing.
-use Rattle.std.specs.Prelude.{◌≡◌, ℕ, suc, ◌+◌, ◌≤◌, ◌<◌, ◌↔◌, List, [], ◌∷◌, length, take, ltb}
+use Rattle.std.specs.Prelude.{◌≡◌, ℕ, suc, ◌+◌, ◌≤◌, ◌<◌, ◌↔◌, List, [], ◌∷◌, length, take, ltb, Ok, true}
 use Rattle.format.specs.Header.{size_of}
 use Rattle.format.specs.Looks.{tag_look}
-use Rattle.format.specs.declared.Look.{Look}
 use Rattle.meter.specs.declared.Meter.{Meter}
 use Rattle.promises.specs.Reading.{read_all}
 use Rattle.promises.specs.Metering.{counters_of, meter_all}
@@ -32,12 +31,12 @@ PlainWhole = (n : ℕ) (tag : List ℕ)
 
 -- Reading gives the records of the frames that are there whole, as the whole tag reads, and then at most one short frame or a refusal.
 abbrev pub PlainStopped : Type 0
-PlainStopped = (n : ℕ) (tag work : List ℕ) → tag_look tag ≡ Look.Plain → 10 ≤ n
+PlainStopped = (n : ℕ) (tag work : List ℕ) → tag_look tag ≡ Ok true → 10 ≤ n
     → FirstThen (plain_whole n tag) (read_all tag work).0 (read_all (take n tag) work)
 
 -- The meter answers just the popularimeters among these records, ends as reading does, and says that bytes are missing exactly where the cut is before the tag's end.
 abbrev pub PlainStoppedMeters : Type 0
-PlainStoppedMeters = (n : ℕ) (tag work : List ℕ) → tag_look tag ≡ Look.Plain → 10 ≤ n →
+PlainStoppedMeters = (n : ℕ) (tag work : List ℕ) → tag_look tag ≡ Ok true → 10 ≤ n →
     let cut = take n tag in
     ((meter_all cut work).counted ≡ counters_of (take (plain_whole n tag) (read_all tag work).0))
     × ((meter_all cut work).ending ≡ (read_all cut work).1)

@@ -1,12 +1,12 @@
-// Reading the cases of writing: what a case and a record say apart from their bytes. Their layout stands in tests/records.py.
+// Reading the cases of writing: what a case says, and its records. Their layout stands in tests/records.py.
 #![tactic(auto)]
 
 ghost use Rattle.std.specs.Io.{ReadsAtMost};
 
-use format::{Fields, Heading};
+use format::{Fields, Given, Heading};
 use std::io;
 use std::io::Read;
-use test_prints::input::{next_u8, next_u32, next_u64};
+use test_prints::input::{next_bytes, next_u8, next_u32, next_u64};
 
 // A case apart from its records. Its last lengths are of the collecting buffer, of what is lent beside the output, and of the output.
 #[derive(Clone, Copy)]
@@ -38,6 +38,7 @@ pub fn next_case<R: Read>(from: &mut R, version: &[u8; 1]) -> io::Result<Case> {
 }
 
 // The low bytes of a number.
+// Kept: one expression each.
 fn low_8(n: u64) -> u8 {
     (n % 256) as u8
 }
@@ -108,10 +109,70 @@ pub fn next_heading<R: Read>(from: &mut R) -> io::Result<Heading> {
 pub fn next_numbers<R: Read>(from: &mut R, space: &mut [u32], n: u32) -> io::Result<usize>
     ensures { ReadsAtMost result space.new }
 {
-    let mut i: usize = 0;
-    while i < n as usize && i < space.len() {
-        space[i] = next_u32(from)?;
-        i += 1;
+    let len = space.len().min(n as usize);
+    for x in &mut space[..len] {
+        *x = next_u32(from)?;
     }
-    Ok(i)
+    Ok(len)
+}
+
+// Up to 4096 bytes or numbers, and how many there are.
+#[derive(Drop)]
+struct Part<T> {
+    space: [T; 4096],
+    len: usize,
+}
+
+impl<T> Part<T> {
+    // Those that are there.
+    fn lent(&self) -> &[T] {
+        &self.space[..self.space.len().min(self.len)]
+    }
+}
+
+// What comes with the heading of a record.
+#[derive(Drop)]
+pub struct Parts {
+    name: Part<u8>,
+    names: Part<u8>,
+    rest: Part<u8>,
+    deviations: Part<u32>,
+}
+
+impl Parts {
+    // It, as it is given to a call.
+    pub fn given(&self) -> Given<'_> {
+        Given {
+            name: self.name.lent(),
+            names: self.names.lent(),
+            rest: self.rest.lent(),
+            deviations: self.deviations.lent(),
+        }
+    }
+}
+
+// The next number and as many bytes.
+fn next_part<R: Read>(from: &mut R) -> io::Result<Part<u8>> {
+    let mut space = [0u8; 4096];
+    let n = next_u32(from)?;
+    let len = next_bytes(from, &mut space, n)?;
+    Ok(Part { space, len })
+}
+
+// The next number and as many numbers.
+fn next_deviations<R: Read>(from: &mut R) -> io::Result<Part<u32>> {
+    let mut space = [0u32; 4096];
+    let n = next_u32(from)?;
+    let len = next_numbers(from, &mut space, n)?;
+    Ok(Part { space, len })
+}
+
+// What comes with the heading that was read.
+pub fn next_parts<R: Read>(from: &mut R) -> io::Result<Parts> {
+    Ok(Parts {
+        name: next_part(from)?,
+        names: next_part(from)?,
+        rest: next_part(from)?,
+        deviations: next_deviations(from)?,
+    })
 }

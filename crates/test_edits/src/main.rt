@@ -3,38 +3,37 @@
 // has at most 4096 bytes, and so has a user or a part of a record.
 #![tactic(auto)]
 
-use format::Heading;
+use format::refusals::Refusal;
+use format::{Given, Heading};
 use loads::read32;
-use raise::Raised;
 use std::io;
 use std::io::{Read, Write};
 use streams::read_full;
 use test_prints::input::{next_bytes, next_u8, next_u32, next_u64};
 use test_prints::{decimal, hex, say, sums};
-use writer::Edited;
 
 // The number of a refusal.
-fn refused<W: Write>(to: &mut W, k: u8) -> io::Result<()> {
+fn refused<W: Write>(to: &mut W, k: Refusal) -> io::Result<()> {
     say(to, b" refused")?;
-    decimal(to, k as u64)
+    decimal(to, k.number as u64)
 }
 
 // What an edit answers.
-fn edited<W: Write>(to: &mut W, answer: Edited) -> io::Result<()> {
+fn edited<W: Write>(to: &mut W, answer: Result<(), Refusal>) -> io::Result<()> {
     match answer {
-        Edited::Done => say(to, b" done"),
-        Edited::Refused(k) => refused(to, k),
+        Ok(()) => say(to, b" done"),
+        Err(k) => refused(to, k),
     }
 }
 
 // What a lift answers.
-fn lifted<W: Write>(to: &mut W, answer: Raised) -> io::Result<()> {
+fn lifted<W: Write>(to: &mut W, answer: Result<u64, Refusal>) -> io::Result<()> {
     match answer {
-        Raised::Counts(counter) => {
+        Ok(counter) => {
             say(to, b" counts")?;
             decimal(to, counter)
         }
-        Raised::Refused(k) => refused(to, k),
+        Err(k) => refused(to, k),
     }
 }
 
@@ -44,15 +43,12 @@ fn put(
     last: bool,
     number: usize,
     heading: Heading,
-    name: &[u8],
-    names: &[u8],
-    rest: &[u8],
-    deviations: &[u32],
-) -> Edited {
+    given: &Given<'_>,
+) -> Result<(), Refusal> {
     if last {
-        edit::append(tag, heading, name, names, rest, deviations)
+        edit::append(tag, heading, given)
     } else {
-        edit::replace(tag, number, heading, name, names, rest, deviations)
+        edit::replace(tag, number, heading, given)
     }
 }
 
@@ -65,28 +61,8 @@ fn put_next<R: Read, W: Write>(
     number: usize,
 ) -> io::Result<()> {
     let heading = test_cases::next_heading(from)?;
-    let mut name = [0u8; 4096];
-    let n = next_u32(from)?;
-    let a = next_bytes(from, &mut name, n)?;
-    let mut names = [0u8; 4096];
-    let n = next_u32(from)?;
-    let b = next_bytes(from, &mut names, n)?;
-    let mut rest = [0u8; 4096];
-    let n = next_u32(from)?;
-    let c = next_bytes(from, &mut rest, n)?;
-    let mut deviations = [0u32; 4096];
-    let n = next_u32(from)?;
-    let d = test_cases::next_numbers(from, &mut deviations, n)?;
-    let answer = put(
-        tag,
-        last,
-        number,
-        heading,
-        &name[..a],
-        &names[..b],
-        &rest[..c],
-        &deviations[..d],
-    );
+    let parts = test_cases::next_parts(from)?;
+    let answer = put(tag, last, number, heading, &parts.given());
     edited(to, answer)
 }
 
@@ -130,12 +106,10 @@ fn replay<R: Read, W: Write>(
     tag: &mut [u8],
     edits: u32,
 ) -> io::Result<()> {
-    let mut i = 0;
-    while i < edits {
+    for _ in 0..edits {
         edit_next(from, to, tag)?;
         sums(to, tag)?;
         say(to, b"\n")?;
-        i += 1;
     }
     say(to, b"then")?;
     hex(to, tag)?;
@@ -162,9 +136,10 @@ fn next<R: Read, W: Write>(from: &mut R, to: &mut W, number: u64) -> io::Result<
 fn main(rt: HostRuntime) -> io::Result<()> {
     let mut from = rt.stdin();
     let mut to = rt.stdout();
-    let mut number = 1;
-    while number < u64::MAX && next(&mut from, &mut to, number)? {
-        number += 1;
+    for number in 1..u64::MAX {
+        if !next(&mut from, &mut to, number)? {
+            break;
+        }
     }
     Ok(())
 }

@@ -5,8 +5,8 @@
 mod print;
 
 use format::numbered::version_of;
-use format::small::{least, wide64};
-use format::{Shown, Version};
+use format::refusals::Refusal;
+use format::{Record, Version};
 use std::io;
 use std::io::{Read, Write};
 use streams::read_full;
@@ -29,7 +29,7 @@ struct Case {
 // A case whose edition was read.
 fn next_case<R: Read>(from: &mut R, edition: &[u8; 1]) -> io::Result<Case> {
     Ok(Case {
-        version: version_of(wide64(edition[0])),
+        version: version_of(edition[0] as u64),
         in_work: next_u8(from)? != 0,
         room: next_u32(from)?,
         begin: next_u32(from)?,
@@ -40,14 +40,14 @@ fn next_case<R: Read>(from: &mut R, edition: &[u8; 1]) -> io::Result<Case> {
 }
 
 // What stands at a place.
-fn answer<W: Write>(to: &mut W, shown: Shown) -> io::Result<()> {
+fn answer<W: Write>(to: &mut W, shown: Result<Option<(Record, usize)>, Refusal>) -> io::Result<()> {
     match shown {
-        Shown::Nothing => say(to, b" nothing"),
-        Shown::Refused(k) => {
+        Ok(None) => say(to, b" nothing"),
+        Err(k) => {
             say(to, b" refused")?;
-            decimal(to, k as u64)
+            decimal(to, k.number as u64)
         }
-        Shown::Frame(found, next) => print::frame(to, found, next),
+        Ok(Some((found, next))) => print::frame(to, found, next),
     }
 }
 
@@ -65,7 +65,7 @@ fn shown<W: Write>(to: &mut W, case: Case, work: &mut [u8], tag: &[u8]) -> io::R
 // Lends a case its room beside the bytes.
 fn replay<W: Write>(to: &mut W, case: Case, tag: &[u8]) -> io::Result<()> {
     let mut space = [0xA5u8; 65536];
-    let n = least(case.room as usize, space.len());
+    let n = space.len().min(case.room as usize);
     shown(to, case, &mut space[..n], tag)
 }
 
@@ -91,9 +91,10 @@ fn next<R: Read, W: Write>(from: &mut R, to: &mut W, number: u64) -> io::Result<
 fn main(rt: HostRuntime) -> io::Result<()> {
     let mut from = rt.stdin();
     let mut to = rt.stdout();
-    let mut number = 1;
-    while number < u64::MAX && next(&mut from, &mut to, number)? {
-        number += 1;
+    for number in 1..u64::MAX {
+        if !next(&mut from, &mut to, number)? {
+            break;
+        }
     }
     Ok(())
 }

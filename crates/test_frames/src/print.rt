@@ -1,5 +1,4 @@
 // What is printed of a record and of a room.
-use format::small::least;
 use format::{Fields, Heading, Record, Span};
 use std::io;
 use std::io::Write;
@@ -56,10 +55,9 @@ fn fields<W: Write>(to: &mut W, f: Fields) -> io::Result<()> {
 
 // An id, a kind with its numbers, and the marks.
 fn heading<W: Write>(to: &mut W, h: Heading) -> io::Result<()> {
-    let f = h.fields;
     say(to, b" frame ")?;
     write!(to, "{:08x}", h.id)?;
-    fields(to, f)?;
+    fields(to, h.fields)?;
     either(to, h.short, b" short", b" whole")?;
     either(to, h.compressed, b" compressed", b" plain")
 }
@@ -73,8 +71,7 @@ fn span<W: Write>(to: &mut W, word: &[u8], s: Span) -> io::Result<()> {
 
 // A record and the place after it.
 pub fn frame<W: Write>(to: &mut W, r: Record, next: usize) -> io::Result<()> {
-    let h = r.heading;
-    heading(to, h)?;
+    heading(to, r.heading)?;
     say(to, b" at")?;
     decimal(to, r.at as u64)?;
     either(to, r.in_work, b" work", b" tag")?;
@@ -85,19 +82,15 @@ pub fn frame<W: Write>(to: &mut W, r: Record, next: usize) -> io::Result<()> {
 
 // The spans of a record.
 fn spans<W: Write>(to: &mut W, r: Record) -> io::Result<()> {
-    let body = r.body;
-    let name = r.name;
-    let names = r.names;
-    let rest = r.rest;
-    span(to, b" body", body)?;
-    span(to, b" name", name)?;
-    span(to, b" names", names)?;
-    span(to, b" rest", rest)
+    span(to, b" body", r.body)?;
+    span(to, b" name", r.name)?;
+    span(to, b" names", r.names)?;
+    span(to, b" rest", r.rest)
 }
 
 // What a room holds: its length, its first 64 bytes and, if there are more, the sums of all.
 pub fn room<W: Write>(to: &mut W, s: &[u8]) -> io::Result<()> {
-    let n = least(64, s.len());
+    let n = s.len().min(64);
     say(to, b" room")?;
     decimal(to, s.len() as u64)?;
     test_prints::hex(to, &s[..n])?;

@@ -1,22 +1,16 @@
 // Reading test data, numbers with the highest byte first. What is missing at the end counts as 0.
 ghost use Rattle.std.specs.Io.{ReadsAtMost};
 
-use format::small::least;
 use loads::read32;
 use std::io;
 use std::io::Read;
 use streams::read_full;
 
-// A byte.
-fn of_one(b: &[u8; 1]) -> u8 {
-    b[0]
-}
-
 // The next byte.
 pub fn next_u8<R: Read>(from: &mut R) -> io::Result<u8> {
     let mut b = [0u8; 1];
     read_full(from, &mut b)?;
-    Ok(of_one(&b))
+    Ok(b[0])
 }
 
 // The number in the next four bytes.
@@ -30,13 +24,13 @@ pub fn next_u32<R: Read>(from: &mut R) -> io::Result<u32> {
 pub fn next_u64<R: Read>(from: &mut R) -> io::Result<u64> {
     let high = next_u32(from)? as u64;
     let low = next_u32(from)? as u64;
-    Ok(high * 4294967296 + low)
+    Ok((high << 32) + low)
 }
 
 // Puts the next n bytes at the front of a space, or as many as it takes, and answers how many there were.
 pub fn next_bytes<R: Read>(from: &mut R, space: &mut [u8], n: u32) -> io::Result<usize>
     ensures { ReadsAtMost result space.new }
 {
-    let most = least(n as usize, space.len());
+    let most = space.len().min(n as usize);
     read_full(from, &mut space[..most])
 }

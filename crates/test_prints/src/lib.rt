@@ -3,7 +3,6 @@
 
 pub mod input;
 
-use format::small::wide64;
 use std::io;
 use std::io::Write;
 
@@ -33,7 +32,7 @@ fn pairs<W: Write>(to: &mut W, s: &[u8]) -> io::Result<()> {
 // A space, and bytes in hexadecimal, a dash for none.
 pub fn hex<W: Write>(to: &mut W, s: &[u8]) -> io::Result<()> {
     say(to, b" ")?;
-    if s.len() == 0 {
+    if s.is_empty() {
         say(to, b"-")?;
     }
     pairs(to, s)
@@ -41,11 +40,11 @@ pub fn hex<W: Write>(to: &mut W, s: &[u8]) -> io::Result<()> {
 
 // The sum of the bytes, and the sum of these sums, byte by byte.
 pub fn sums<W: Write>(to: &mut W, s: &[u8]) -> io::Result<()> {
-    let mut a = 0;
-    let mut b = 0;
+    let mut a = 0u64;
+    let mut b = 0u64;
     for x in s {
-        a = std::num::wrapping_add_u64(a, wide64(*x));
-        b = std::num::wrapping_add_u64(b, a);
+        a = a.wrapping_add(*x as u64);
+        b = b.wrapping_add(a);
     }
     decimal(to, a)?;
     decimal(to, b)

@@ -3,30 +3,24 @@
 #![tactic(auto)]
 
 use loads::read32;
-use raise::Raised;
 use std::io;
 use std::io::{Read, Write};
 use streams::read_full;
 use test_prints::input::{next_bytes, next_u32, next_u64};
 use test_prints::{decimal, hex, say};
 
-// The new counter, or the number of the refusal.
-fn answer<W: Write>(to: &mut W, raised: Raised) -> io::Result<()> {
-    match raised {
-        Raised::Counts(counter) => {
+// Raises a counter, and prints the new counter, or the number of the refusal, and the bytes.
+fn replay<W: Write>(to: &mut W, tag: &mut [u8], user: &[u8], amount: u64) -> io::Result<()> {
+    match raise::raise(tag, user, amount) {
+        Ok(counter) => {
             say(to, b" counts")?;
-            decimal(to, counter)
+            decimal(to, counter)?;
         }
-        Raised::Refused(k) => {
+        Err(k) => {
             say(to, b" refused")?;
-            decimal(to, k as u64)
+            decimal(to, k.number as u64)?;
         }
     }
-}
-
-// Raises a counter, and prints what came of it.
-fn replay<W: Write>(to: &mut W, tag: &mut [u8], user: &[u8], amount: u64) -> io::Result<()> {
-    answer(to, raise::raise(tag, user, amount))?;
     hex(to, tag)?;
     say(to, b"\n")
 }
@@ -53,9 +47,10 @@ fn next<R: Read, W: Write>(from: &mut R, to: &mut W, number: u64) -> io::Result<
 fn main(rt: HostRuntime) -> io::Result<()> {
     let mut from = rt.stdin();
     let mut to = rt.stdout();
-    let mut number = 1;
-    while number < u64::MAX && next(&mut from, &mut to, number)? {
-        number += 1;
+    for number in 1..u64::MAX {
+        if !next(&mut from, &mut to, number)? {
+            break;
+        }
     }
     Ok(())
 }

@@ -4,21 +4,20 @@
 
 mod same;
 
-use back::{Back, there_and_back};
-use format::Heading;
-use format::small::least;
+use back::there_and_back;
+use format::refusals::Refusal;
+use format::{Given, Heading};
 use same::is_same;
 use std::io;
 use std::io::{Read, Write};
 use streams::read_full;
 use test_cases::Case;
-use test_prints::input::{next_bytes, next_u32};
 use test_prints::{decimal, either, say};
 
 // The number of a refusal.
-fn refused<W: Write>(to: &mut W, k: u8) -> io::Result<()> {
+fn refused<W: Write>(to: &mut W, k: Refusal) -> io::Result<()> {
     say(to, b" refused")?;
-    decimal(to, k as u64)?;
+    decimal(to, k.number as u64)?;
     say(to, b"\n")
 }
 
@@ -30,10 +29,7 @@ fn trip<W: Write>(
     work: &mut [u8],
     case: Case,
     heading: Heading,
-    name: &[u8],
-    names: &[u8],
-    rest: &[u8],
-    deviations: &[u32],
+    given: &Given<'_>,
 ) -> io::Result<()> {
     let back = there_and_back(
         buffer,
@@ -43,24 +39,22 @@ fn trip<W: Write>(
         case.mode,
         case.padding as usize,
         heading,
-        name,
-        names,
-        rest,
-        deviations,
+        given,
     );
     match back {
-        Back::Read(n, record) => {
+        Ok(Some((n, record))) => {
             say(to, b" read")?;
             decimal(to, n as u64)?;
-            let same = if record.in_work {
-                is_same(work, record, heading, name, names, rest, deviations)
+            let s = if record.in_work {
+                &work[..]
             } else {
-                is_same(output, record, heading, name, names, rest, deviations)
+                &output[..]
             };
+            let same = is_same(s, record, heading, given);
             either(to, same, b" same\n", b" changed\n")
         }
-        Back::Refused(k) => refused(to, k),
-        Back::Lost => say(to, b" lost\n"),
+        Err(k) => refused(to, k),
+        Ok(None) => say(to, b" lost\n"),
     }
 }
 
@@ -74,40 +68,18 @@ fn trip_next<R: Read, W: Write>(
     case: Case,
 ) -> io::Result<()> {
     let heading = test_cases::next_heading(from)?;
-    let mut name = [0u8; 4096];
-    let n = next_u32(from)?;
-    let a = next_bytes(from, &mut name, n)?;
-    let mut names = [0u8; 4096];
-    let n = next_u32(from)?;
-    let b = next_bytes(from, &mut names, n)?;
-    let mut rest = [0u8; 4096];
-    let n = next_u32(from)?;
-    let c = next_bytes(from, &mut rest, n)?;
-    let mut deviations = [0u32; 4096];
-    let n = next_u32(from)?;
-    let d = test_cases::next_numbers(from, &mut deviations, n)?;
-    trip(
-        to,
-        buffer,
-        output,
-        work,
-        case,
-        heading,
-        &name[..a],
-        &names[..b],
-        &rest[..c],
-        &deviations[..d],
-    )
+    let parts = test_cases::next_parts(from)?;
+    trip(to, buffer, output, work, case, heading, &parts.given())
 }
 
 // Lends a case its buffers.
 fn replay<R: Read, W: Write>(from: &mut R, to: &mut W, case: Case) -> io::Result<()> {
     let mut buffer = [0xA5u8; 4096];
-    let a = least(case.buffer as usize, buffer.len());
+    let a = buffer.len().min(case.buffer as usize);
     let mut output = [0xA5u8; 4096];
-    let b = least(case.output as usize, output.len());
+    let b = output.len().min(case.output as usize);
     let mut work = [0xA5u8; 4096];
-    let c = least(case.lent as usize, work.len());
+    let c = work.len().min(case.lent as usize);
     trip_next(
         from,
         to,
@@ -135,9 +107,10 @@ fn next<R: Read, W: Write>(from: &mut R, to: &mut W, number: u64) -> io::Result<
 fn main(rt: HostRuntime) -> io::Result<()> {
     let mut from = rt.stdin();
     let mut to = rt.stdout();
-    let mut number = 1;
-    while number < u64::MAX && next(&mut from, &mut to, number)? {
-        number += 1;
+    for number in 1..u64::MAX {
+        if !next(&mut from, &mut to, number)? {
+            break;
+        }
     }
     Ok(())
 }

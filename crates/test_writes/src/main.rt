@@ -4,43 +4,36 @@
 
 mod print;
 
-use format::Heading;
-use format::small::least;
+use format::refusals::Refusal;
+use format::{Given, Heading};
 use print::is_kept;
 use std::io;
 use std::io::{Read, Write};
 use streams::read_full;
 use test_cases::Case;
-use test_prints::input::{next_bytes, next_u32};
 use test_prints::{decimal, say};
-use writer::{Added, Begun, Finished, Writer};
+use writer::Writer;
 
 // Adds a record, and prints what the call answers and leaves in the buffer, which held the bytes `before`.
 fn add<W: Write>(
     to: &mut W,
     buffer: &mut [u8],
     before: &[u8],
-    writer: Writer,
+    writer: &mut Writer,
     heading: Heading,
-    name: &[u8],
-    names: &[u8],
-    rest: &[u8],
-    deviations: &[u32],
-) -> io::Result<Writer> {
+    given: &Given<'_>,
+) -> io::Result<()> {
     let at = writer.used;
-    let added = writer.add(buffer, heading, name, names, rest, deviations);
-    match added {
-        Added::Accepted(n, next) => {
+    match writer.add(buffer, heading, given) {
+        Ok(n) => {
             let kept = is_kept(buffer, before, at, n);
             say(to, b"add accepted")?;
-            print::reported(to, buffer, at, n, next.used, kept)?;
-            Ok(next)
+            print::reported(to, buffer, at, n, writer.used, kept)
         }
-        Added::Refused(k, next) => {
+        Err(k) => {
             let kept = is_kept(buffer, before, 0, 0);
             say(to, b"add refused")?;
-            print::refused(to, k, next.used, kept)?;
-            Ok(next)
+            print::refused(to, k, writer.used, kept)
         }
     }
 }
@@ -51,32 +44,11 @@ fn add_next<R: Read, W: Write>(
     to: &mut W,
     buffer: &mut [u8],
     before: &[u8],
-    writer: Writer,
-) -> io::Result<Writer> {
+    writer: &mut Writer,
+) -> io::Result<()> {
     let heading = test_cases::next_heading(from)?;
-    let mut name = [0u8; 4096];
-    let n = next_u32(from)?;
-    let a = next_bytes(from, &mut name, n)?;
-    let mut names = [0u8; 4096];
-    let n = next_u32(from)?;
-    let b = next_bytes(from, &mut names, n)?;
-    let mut rest = [0u8; 4096];
-    let n = next_u32(from)?;
-    let c = next_bytes(from, &mut rest, n)?;
-    let mut deviations = [0u32; 4096];
-    let n = next_u32(from)?;
-    let d = test_cases::next_numbers(from, &mut deviations, n)?;
-    add(
-        to,
-        buffer,
-        before,
-        writer,
-        heading,
-        &name[..a],
-        &names[..b],
-        &rest[..c],
-        &deviations[..d],
-    )
+    let parts = test_cases::next_parts(from)?;
+    add(to, buffer, before, writer, heading, &parts.given())
 }
 
 // Finishes a tag, and prints what the call answers and leaves in the output and in the buffer, which held the bytes `was` and
@@ -90,19 +62,19 @@ fn finish<W: Write>(
     buffer: &[u8],
     before: &[u8],
 ) -> io::Result<()> {
-    let lent = least(case.lent as usize, buffer.len());
+    let lent = buffer.len().min(case.lent as usize);
     let finished = writer.finish(output, &buffer[..lent], case.padding as usize);
     let same = is_kept(buffer, before, 0, 0);
     match finished {
-        Finished::Done(n, next) => {
+        Ok(n) => {
             let kept = is_kept(output, was, 0, n) & same;
             say(to, b"finish done")?;
-            print::reported(to, output, 0, n, next.used, kept)
+            print::reported(to, output, 0, n, writer.used, kept)
         }
-        Finished::Refused(k, next) => {
+        Err(k) => {
             let kept = is_kept(output, was, 0, 0) & same;
             say(to, b"finish refused")?;
-            print::refused(to, k, next.used, kept)
+            print::refused(to, k, writer.used, kept)
         }
     }
 }
@@ -116,7 +88,7 @@ fn finish_in_output<W: Write>(
     before: &[u8],
 ) -> io::Result<()> {
     let mut space = [0xA5u8; 4096];
-    let n = least(case.output as usize, space.len());
+    let n = space.len().min(case.output as usize);
     let was = space;
     finish(to, &mut space[..n], &was[..n], case, writer, buffer, before)
 }
@@ -126,23 +98,20 @@ fn write<R: Read, W: Write>(
     from: &mut R,
     to: &mut W,
     case: Case,
-    writer: Writer,
+    mut writer: Writer,
 ) -> io::Result<()> {
     let mut space = [0xA5u8; 4096];
-    let n = least(case.buffer as usize, space.len());
-    let mut next = writer;
-    let mut i = 0;
-    while i < case.records {
+    let n = space.len().min(case.buffer as usize);
+    for _ in 0..case.records {
         let before = space;
-        next = add_next(from, to, &mut space[..n], &before[..n], next)?;
-        i += 1;
+        add_next(from, to, &mut space[..n], &before[..n], &mut writer)?;
     }
     let before = space;
-    finish_in_output(to, case, next, &space[..n], &before[..n])
+    finish_in_output(to, case, writer, &space[..n], &before[..n])
 }
 
 // Begins the writer of a case.
-fn begun(case: Case) -> Begun {
+fn begun(case: Case) -> Result<Writer, Refusal> {
     if case.by_mode {
         writer::begin::begin(case.version, case.mode, case.altered)
     } else {
@@ -152,12 +121,11 @@ fn begun(case: Case) -> Begun {
 
 // Replays a case. One whose beginning is refused has no records.
 fn replay<R: Read, W: Write>(from: &mut R, to: &mut W, case: Case) -> io::Result<()> {
-    let b = begun(case);
-    match b {
-        Begun::Ready(writer) => write(from, to, case, writer),
-        Begun::Refused(k) => {
+    match begun(case) {
+        Ok(writer) => write(from, to, case, writer),
+        Err(k) => {
             say(to, b"begin refused")?;
-            decimal(to, k as u64)?;
+            decimal(to, k.number as u64)?;
             say(to, b"\n")
         }
     }
@@ -181,9 +149,10 @@ fn next<R: Read, W: Write>(from: &mut R, to: &mut W, number: u64) -> io::Result<
 fn main(rt: HostRuntime) -> io::Result<()> {
     let mut from = rt.stdin();
     let mut to = rt.stdout();
-    let mut number = 1;
-    while number < u64::MAX && next(&mut from, &mut to, number)? {
-        number += 1;
+    for number in 1..u64::MAX {
+        if !next(&mut from, &mut to, number)? {
+            break;
+        }
     }
     Ok(())
 }

@@ -1,26 +1,21 @@
 // What is printed of a call after its words, and whether a buffer was left as it was.
+use format::refusals::Refusal;
 use std::io;
 use std::io::Write;
 use test_prints::{decimal, either, say};
 
 // Whether a place is one of n from `at` on.
 fn is_within(i: usize, at: usize, n: usize) -> bool {
-    if i < at { false } else { i - at < n }
+    at <= i && i - at < n
 }
 
 // Whether bytes are as they were before, but for n from `at` on.
 pub fn is_kept(s: &[u8], before: &[u8], at: usize, n: usize) -> bool {
-    if s.len() != before.len() {
-        return false;
-    }
-    let mut i = 0;
-    while i < s.len() {
-        if s[i] != before[i] && !is_within(i, at, n) {
-            return false;
-        }
-        i += 1;
-    }
-    true
+    s.len() == before.len()
+        && s.iter()
+            .zip(before)
+            .enumerate()
+            .all(|(i, (x, y))| x == y || is_within(i, at, n))
 }
 
 // How much is used after a call, and whether it changed nothing but what it reports.
@@ -32,13 +27,10 @@ fn left<W: Write>(to: &mut W, used: usize, kept: bool) -> io::Result<()> {
 
 // The n bytes from `at` on.
 fn part<W: Write>(to: &mut W, s: &[u8], at: usize, n: usize) -> io::Result<()> {
-    if s.len() < at {
-        say(to, b" outside")
-    } else if s.len() - at < n {
+    if s.len() < at || s.len() - at < n {
         say(to, b" outside")
     } else {
-        let end = at + n;
-        test_prints::hex(to, &s[at..end])
+        test_prints::hex(to, &s[at..at + n])
     }
 }
 
@@ -58,8 +50,8 @@ pub fn reported<W: Write>(
 }
 
 // A refused call, which reports no bytes.
-pub fn refused<W: Write>(to: &mut W, k: u8, used: usize, kept: bool) -> io::Result<()> {
-    decimal(to, k as u64)?;
+pub fn refused<W: Write>(to: &mut W, k: Refusal, used: usize, kept: bool) -> io::Result<()> {
+    decimal(to, k.number as u64)?;
     left(to, used, kept)?;
     say(to, b"\n")
 }

@@ -4,6 +4,8 @@ use Prim.Native.Nat.{ℕ, zero, suc, ◌+◌, ◌-◌, ◌≤◌, ◌<◌}
 use native.Mathlib.Omega.{arith}
 use mathlib.Core.Bool.{Bool, true, false, cond, not, ◌&&◌, ◌||◌, or-false, or_assoc}
 use mathlib.Core.List.{List, [], ◌∷◌, ◌++◌}
+use mir.Val.{bool_byte}
+use Rattle.std.specs.List.{fold}
 use lib.ListN.{length, take, get_or}
 use lib.Seq.{slice, length-slice, sets, length-sets}
 use lib.Dec.{eqb, leb, ltb}
@@ -47,16 +49,16 @@ unsyncs m prev (x ∷ s) =
     pick_only true l = refl
     pick_only false l = refl
 
--- the loop that looks for an FF
-pub any_turn : (s : List ℕ) (i k to : ℕ) (any w : Bool) → i + k < to → to ≤ length s → (any || any_ff (slice (i + k) to s)) ≡ w
-    → ((any || eqb (get_or s (i + k) 0) 255) || any_ff (slice (i + (k + 1)) to s)) ≡ w
+-- what looks for an FF
+pub any_found : (l : List ℕ) (any : Bool) → fold (λ a x. a || eqb x 255) any l ≡ (any || any_ff l)
 unfolding any_ff
-any_turn s i k to any w lt le e =
-    let next : i + k + 1 ≡ i + (k + 1) = omega arith in
-    or_assoc any (eqb (get_or s (i + k) 0) 255) (any_ff (slice (i + (k + 1)) to s))
-    ∙ ap (λ (j : ℕ). any || (eqb (get_or s (i + k) 0) 255 || any_ff (slice j to s))) (sym next)
-    ∙ sym (ap (λ (l : List ℕ). any || any_ff l) (slice_next (i + k) to s lt le))
-    ∙ e
+any_found [] any = sym (or-false any)
+any_found (x ∷ l) any = any_found l (any || eqb x 255) ∙ or_assoc any (eqb x 255) (any_ff l)
+
+-- a truth value as a number
+pub number_of : (b : Bool) → (bool_byte b ≡ cond b 1 0) × (bool_byte b ≤ 1)
+number_of true = (refl, omega arith)
+number_of false = (refl, omega arith)
 
 -- one byte x before what l the rest becomes: f says that the edit concerns it, g that it inserts
 abbrev turned : Bool → Bool → ℕ → List ℕ → List ℕ

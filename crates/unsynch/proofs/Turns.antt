@@ -2,15 +2,16 @@
 use mathlib.Core.Path.{◌≡◌, refl, sym, ap, ◌∙◌}
 use Prim.Native.Nat.{ℕ, suc, ◌+◌, ◌-◌, ◌≤◌, ◌<◌}
 use native.Mathlib.Omega.{arith}
-use mathlib.Core.Bool.{Bool, true, false, cond}
+use mathlib.Core.Bool.{Bool, true, false, cond, not, ◌&&◌, ◌||◌}
 use mathlib.Core.List.{List, ◌∷◌}
 use lib.ListN.{length, get_or, take, set, length-set, length-append}
+use lib.Dec.{eqb, ltb}
 use lib.Seq.{slice, length-slice, sets, set-set}
 use Rattle.laws.proofs.Stores.{take_sets, Storing, begin, lies, same_list, same_buffer, same_place, put, puts, over}
 use Rattle.format.specs.Bytes.{pick}
 use Rattle.unsynch.specs.declared.loops.How.{How}
-use Rattle.unsynch.specs.Edits.{edited, edited_after, hits_after, stored}
-use Rattle.unsynch.proofs.Edits.{plain_first, parted, left_alone, same_front}
+use Rattle.unsynch.specs.Edits.{resync_by, edited, edited_after, hits_after, stored}
+use Rattle.unsynch.proofs.Edits.{plain_first, parted, left_alone, same_front, stays, next_stays, comes, above, guard_by}
 
 -- a byte that lies where the next one will be stored does not matter
 under : {o₀ : List ℕ} {p₀ : ℕ} {l₀ o : List ℕ} {p y : ℕ} {l : List ℕ} (x : ℕ) → Storing o₀ p₀ l₀ o p (y ∷ l) → Storing o₀ p₀ l₀ (set o p x) p (y ∷ l)
@@ -42,6 +43,24 @@ module _ {o₀ : List ℕ} {p₀ : ℕ} {l₀ o : List ℕ} {p : ℕ} {m : List 
   insert_turn false q e is =
       let z : p ≡ q = omega arith in
       (omega arith, omega (arith, lies (same_list e s)), same_buffer (ap (λ (k : ℕ). set (set o p 0) k x) z) (same_place (ap (λ (k : ℕ). k + 1) z) (over 0 (same_list e s))))
+
+-- a byte in the loop that resynchronises: f says that it stays
+pub drop_byte : (s : List ℕ) (i to : ℕ) → i + 2 < to → to ≤ length s → {o₀ : List ℕ} {p₀ : ℕ} {l₀ o : List ℕ} {p : ℕ}
+    → Storing o₀ p₀ l₀ o p (edited_after resync_by s i to)
+    → (f : Bool) (q : ℕ) → f ≡ not (eqb (get_or s i 0) 255 && eqb (get_or s (i + 1) 0) 0) → q ≡ p + cond f 1 0
+    → (p < length o) × Storing o₀ p₀ l₀ (set o p (get_or s (i + 1) 0)) q (edited_after resync_by s (i + 1) to)
+drop_byte s i to lt le t f q e is =
+    drop_turn t (get_or s (i + 1) 0) (edited_after resync_by s (i + 1) to) f q _ _ (stays s i to (omega arith) le f e) (λ z. next_stays s i to lt le (sym e ∙ z)) is
+
+-- a byte in the loop that inserts: f says that it gets a 00 before it
+pub insert_byte : (high : Bool) (top : ℕ) → top ≡ pick high 0xDF 0xFF → (s : List ℕ) (i to : ℕ) → i + 1 < to → to ≤ length s → get_or s (i + 1) 0 ≤ 255
+    → {o₀ : List ℕ} {p₀ : ℕ} {l₀ o : List ℕ} {p : ℕ} → Storing o₀ p₀ l₀ o p (edited_after (guard_by top) s i to)
+    → (f : Bool) (q : ℕ) → f ≡ (eqb (get_or s i 0) 255 && (eqb (get_or s (i + 1) 0) 0 || ltb top (get_or s (i + 1) 0))) → q ≡ p + cond f 1 0
+    → (p ≤ q) × (q < length o) × Storing o₀ p₀ l₀ (set (set o p 0) q (get_or s (i + 1) 0)) (q + 1) (edited_after (guard_by top) s (i + 1) to)
+insert_byte high top t s i to lt le byte storing f q e is =
+    let x : ℕ = get_or s (i + 1) 0 in
+    let h = e ∙ ap (λ (g : Bool). eqb (get_or s i 0) 255 && g) (above high top t x byte) in
+    insert_turn storing x (edited_after (guard_by top) s (i + 1) to) f q (comes (guard_by top) s i to lt le f h refl) is
 
 -- what the edit makes of the bytes after place i, up to place m, is stored by another function
 module _ (how : How) (s : List ℕ) (i m to : ℕ) (after : i ≤ m) (lt : m < to) (le : to ≤ length s) where

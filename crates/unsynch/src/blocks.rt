@@ -11,13 +11,7 @@ pub(crate) fn any_ff(s: &[u8], i: usize, n: usize) -> bool
     requires { i + n ≤ length s.now }
     ensures { result ≡ any_ff (slice i (i + n) s.now) }
 {
-    let mut any = false;
-    let mut k: usize = 0;
-    while k < n {
-        any = any | (s[i + k] == 0xFF);
-        k += 1;
-    }
-    any
+    s[i..i + n].iter().fold(false, |any, b| any | (*b == 0xFF))
 }
 
 // How many of the 64 bytes of s after place i the edit concerns.
@@ -26,10 +20,8 @@ fn count(s: &[u8], i: usize, how: How) -> u8
     ensures { result ≡ hits_after how s.now i (i + 64 + 1) }
 {
     let mut n: u8 = 0;
-    let mut k: usize = 0;
-    while k < 64 {
-        n += loops::hit(how, s[i + k] == 0xFF, s[i + k + 1]) as u8;
-        k += 1;
+    for k in 0..64 {
+        n += u8::from(loops::hit(how, s[i + k] == 0xFF, s[i + k + 1]));
     }
     n
 }
@@ -40,7 +32,7 @@ pub(crate) fn hits(s: &[u8], i: usize, how: How) -> usize
     ensures { result ≡ hits_after how s.now i (i + 64 + 1) }
 {
     if any_ff(s, i, 64) {
-        return count(s, i, how) as usize;
+        return usize::from(count(s, i, how));
     }
     0
 }
@@ -52,7 +44,7 @@ pub(crate) fn copy_behind(buf: &mut [u8], at: usize, s: &[u8], i: usize, n: usiz
     ensures { (result, buf.new) ≡ stored (slice (i + 1) (i + n + 1) s.now) at buf.old }
 {
     let mut block = [0u8; 64];
-    loops::copy(&mut block, 0, s, i + 1, i + n + 1);
-    loops::copy(buf, at, &block, 0, n);
+    block[..n].copy_from_slice(&s[i + 1..i + n + 1]);
+    buf[at..at + n].copy_from_slice(&block[..n]);
     at + n
 }

@@ -13,37 +13,22 @@ ghost use Rattle.unsynch.specs.Edits.{Known, edited};
 ghost use Rattle.format.specs.Bytes.{pick};
 
 use format::Mode;
-use format::refusals::{NO_ROOM, TOO_LONG, WORK_TOO_SMALL};
-use format::small::least;
+use format::refusals::{NO_ROOM, Refusal, TOO_LONG, WORK_TOO_SMALL};
 use loops::How;
-
-// A synchsafe number as one word, or a refusal.
-#[derive(Drop)]
-pub enum Encoded {
-    Word(u32),
-    Refused(u8),
-}
-
-// How many bytes were put, or a refusal.
-#[derive(Drop)]
-pub enum Put {
-    Bytes(usize),
-    Refused(u8),
-}
 
 // The synchsafe form of n: four bytes, each the next seven bits, highest first.
 #[tactic(auto, using(crate::proofs::Synchsafe::encoded_by_digits))]
-pub fn encode_u32(n: u32) -> Encoded
+pub fn encode_u32(n: u32) -> Result<u32, Refusal>
     ensures { result ≡ encoded_of n }
 {
     if n >= 0x1000_0000 {
-        return Encoded::Refused(TOO_LONG);
+        return Err(TOO_LONG);
     }
     let first = n / 128 / 128 / 128 % 128;
     let second = n / 128 / 128 % 128;
     let third = n / 128 % 128;
     let fourth = n % 128;
-    Encoded::Word(first * 0x100_0000 + second * 0x1_0000 + third * 0x100 + fourth)
+    Ok(first * 0x100_0000 + second * 0x1_0000 + third * 0x100 + fourth)
 }
 
 // The number that four synchsafe bytes make: each moves to its seven-bit place, and a bit 7 is joined by or.
@@ -65,18 +50,18 @@ pub fn unsync_len(s: &[u8], from: usize, to: usize, prev: bool, mode: Mode) -> u
     ensures { result ≡ length (unsync (guards mode) prev (slice from to s.now)) }
 {
     let how = loops::unsync_by(mode);
-    let end = least(to, s.len());
+    let end = to.min(s.len());
     if end <= from {
         return 0;
     }
     if !how.zero {
         return end - from;
     }
-    loops::bit(loops::hit(how, prev, s[from])) + loops::edited_len(s, from, end, how)
+    usize::from(loops::hit(how, prev, s[from])) + loops::edited_len(s, from, end, how)
 }
 
 // Resynchronises s[from..to] to the front of a room. One that is too small is left as it was.
-pub fn resync_into(room: &mut [u8], s: &[u8], from: usize, to: usize) -> Put
+pub fn resync_into(room: &mut [u8], s: &[u8], from: usize, to: usize) -> Result<usize, Refusal>
     ensures { (result, room.new) ≡ into_of (resynchronised (slice from to s.now)) room.old }
 {
     put_part(room, 0, s, from, to, loops::resync_by(), WORK_TOO_SMALL)
@@ -91,7 +76,7 @@ pub fn unsync_into(
     to: usize,
     prev: bool,
     mode: Mode,
-) -> Put
+) -> Result<usize, Refusal>
     ensures { (result, out.new) ≡ placed_of (unsync (guards mode) prev (slice from to s.now)) at out.old }
 {
     let how = loops::unsync_by(mode);
@@ -103,19 +88,19 @@ pub fn unsync_into(
 
 // Resynchronises area[from..to], of what lies before split, to the front of what lies from split on.
 // Where that is too small, the area is left as it was.
-pub fn resync_in(area: &mut [u8], from: usize, to: usize, split: usize) -> Put
+pub fn resync_in(area: &mut [u8], from: usize, to: usize, split: usize) -> Result<usize, Refusal>
     ensures { (result, area.new) ≡ in_area_of from to split area.old }
 {
-    let mid = least(split, area.len());
-    let end = least(to, mid);
+    let mid = split.min(area.len());
+    let end = to.min(mid);
     if end <= from {
-        return Put::Bytes(0);
+        return Ok(0);
     }
     let how = loops::resync_by();
     if loops::fits(&area[..], from, end, how, area.len() - mid) {
-        return Put::Bytes(loops::edit_in(area, mid, from, end, how) - mid);
+        return Ok(loops::edit_in(area, mid, from, end, how) - mid);
     }
-    Put::Refused(WORK_TOO_SMALL)
+    Err(WORK_TOO_SMALL)
 }
 
 // Whether a 00 goes in before s[from..to] when it is edited; prev says that the byte before it was FF.
@@ -123,7 +108,7 @@ fn is_led(s: &[u8], from: usize, to: usize, prev: bool, how: How) -> bool
     requires { how.insert ≡ true }
     ensures { let u = edited how false (slice from to s.now) in edited how «prev» (slice from to s.now) ≡ pick result (0 ∷ u) u }
 {
-    let end = least(to, s.len());
+    let end = to.min(s.len());
     if end <= from {
         return false;
     }
@@ -131,36 +116,47 @@ fn is_led(s: &[u8], from: usize, to: usize, prev: bool, how: How) -> bool
 }
 
 // Puts a 00 and s[from..to], edited, at the place `at` of a buffer. One that is too small is left as it was.
-fn put_led(out: &mut [u8], at: usize, s: &[u8], from: usize, to: usize, how: How) -> Put
+fn put_led(
+    out: &mut [u8],
+    at: usize,
+    s: &[u8],
+    from: usize,
+    to: usize,
+    how: How,
+) -> Result<usize, Refusal>
     requires { Known how }
     ensures { (result, out.new) ≡ placed_of (0 ∷ edited how false (slice from to s.now)) at out.old }
 {
     if out.len() <= at {
-        return Put::Refused(NO_ROOM);
+        return Err(NO_ROOM);
     }
-    match put_part(out, at + 1, s, from, to, how, NO_ROOM) {
-        Put::Refused(k) => Put::Refused(k),
-        Put::Bytes(n) => {
-            out[at] = 0;
-            Put::Bytes(n + 1)
-        }
-    }
+    let n = put_part(out, at + 1, s, from, to, how, NO_ROOM)?;
+    out[at] = 0;
+    Ok(n + 1)
 }
 
-// Puts s[from..to], edited, at the place `at` of a buffer. One that is too small is left as it was, and the answer is the refusal k.
-fn put_part(buf: &mut [u8], at: usize, s: &[u8], from: usize, to: usize, how: How, k: u8) -> Put
+// Puts s[from..to], edited, at the place `at` of a buffer. One that is too small is left as it was, and the answer is that refusal.
+fn put_part(
+    buf: &mut [u8],
+    at: usize,
+    s: &[u8],
+    from: usize,
+    to: usize,
+    how: How,
+    k: Refusal,
+) -> Result<usize, Refusal>
     requires { Known how }
-    ensures { (result, buf.new) ≡ put_of k (edited how false (slice from to s.now)) at buf.old }
+    ensures { (result, buf.new) ≡ put_of k.number (edited how false (slice from to s.now)) at buf.old }
 {
     if buf.len() < at {
-        return Put::Refused(k);
+        return Err(k);
     }
-    let end = least(to, s.len());
+    let end = to.min(s.len());
     if end <= from {
-        return Put::Bytes(0);
+        return Ok(0);
     }
     if loops::fits(s, from, end, how, buf.len() - at) {
-        return Put::Bytes(loops::edit(buf, at, s, from, end, how) - at);
+        return Ok(loops::edit(buf, at, s, from, end, how) - at);
     }
-    Put::Refused(k)
+    Err(k)
 }

@@ -7,7 +7,6 @@ ghost use Rattle.unsynch.specs.Edits.{concerns, resync_by, unsync_by, Known, edi
 
 use crate::blocks;
 use format::Mode;
-use format::small::least;
 
 // An edit of bytes directly after an FF: of 00 where `zero` says so, of E0 to FF where `high` does.
 // Such a byte gets a 00 before it where `insert` says so, else it goes.
@@ -52,20 +51,6 @@ pub(crate) fn unsync_by(mode: Mode) -> How
     }
 }
 
-// 1 for true, 0 for false.
-pub(crate) fn bit(x: bool) -> usize
-    ensures { (result ≡ cond x 1 0) × (result ≤ 1) }
-{
-    if x { 1 } else { 0 }
-}
-
-// The first where the test holds, else the second.
-fn either(x: bool, a: u8, b: u8) -> u8
-    ensures { result ≡ pick x a b }
-{
-    if x { a } else { b }
-}
-
 // Whether the edit concerns b; prev says that the byte before it was FF.
 pub(crate) fn hit(how: How, prev: bool, b: u8) -> bool
     ensures { result ≡ (prev && concerns how b) }
@@ -93,12 +78,11 @@ fn hits_after(s: &[u8], from: usize, to: usize, how: How) -> usize
     ensures { result ≡ hits_after how s.now from to }
 {
     let mut n: usize = 0;
-    let mut i = from;
-    while i + 64 < to {
-        n += blocks::hits(s, i, how);
-        i += 64;
+    let blocks = (to - from - 1) / 64;
+    for k in 0..blocks {
+        n += blocks::hits(s, from + k * 64, how);
     }
-    n + hits_by_byte(s, i, to, how)
+    n + hits_by_byte(s, from + blocks * 64, to, how)
 }
 
 // The same, byte by byte.
@@ -107,10 +91,8 @@ fn hits_by_byte(s: &[u8], from: usize, to: usize, how: How) -> usize
     ensures { result ≡ hits_after how s.now from to }
 {
     let mut n: usize = 0;
-    let mut k = from;
-    while k + 1 < to {
-        n += bit(hit(how, s[k] == 0xFF, s[k + 1]));
-        k += 1;
+    for k in from..to - 1 {
+        n += usize::from(hit(how, s[k] == 0xFF, s[k + 1]));
     }
     n
 }
@@ -155,16 +137,14 @@ fn drop_bytes(buf: &mut [u8], at: usize, s: &[u8], from: usize, to: usize) -> us
     requires to_in_bounds { at + length (edited_after resync_by s.now from to) ≤ length buf.old }
     ensures { (result, buf.new) ≡ stored (edited_after resync_by s.now from to) at buf.old }
 {
-    let last = to - 1;
+    let rest = from + (to - from).saturating_sub(2);
     let mut o = at;
-    let mut i = from;
-    while i + 1 < last {
+    for i in from..rest {
         let b = s[i + 1];
         buf[o] = b;
-        o += bit(stays(s[i], b));
-        i += 1;
+        o += usize::from(stays(s[i], b));
     }
-    drop_last(buf, o, s, i, to)
+    drop_last(buf, o, s, rest, to)
 }
 
 // The same of at most one byte, which is stored only where it stays.
@@ -189,18 +169,18 @@ fn drop_words(buf: &mut [u8], at: usize, s: &[u8], from: usize, to: usize) -> us
     requires to_in_bounds { at + length (edited_after resync_by s.now from to) ≤ length buf.old }
     ensures { (result, buf.new) ≡ stored (edited_after resync_by s.now from to) at buf.old }
 {
+    let words = (to - from - 1) / 8;
     let mut o = at;
-    let mut i = from;
-    while i + 8 < to {
+    for k in 0..words {
+        let i = from + k * 8;
         let last = i + 8;
         if blocks::any_ff(s, i, 8) {
             o = drop_bytes(buf, o, s, i, last + 1);
         } else {
             o = blocks::copy_behind(buf, o, s, i, 8);
         }
-        i = last;
     }
-    drop_bytes(buf, o, s, i, to)
+    drop_bytes(buf, o, s, from + words * 8, to)
 }
 
 // Stores what the edit makes of the bytes of s after place from, up to place to, where 00, and E0 to FF with `high`, get a 00 before them.
@@ -210,16 +190,14 @@ fn insert_bytes(buf: &mut [u8], at: usize, s: &[u8], from: usize, to: usize, how
     requires to_in_bounds { at + length (edited_after how s.now from to) ≤ length buf.old }
     ensures { (result, buf.new) ≡ stored (edited_after how s.now from to) at buf.old }
 {
-    let top = either(how.high, 0xDF, 0xFF);
+    let top = if how.high { 0xDF } else { 0xFF };
     let mut o = at;
-    let mut i = from;
-    while i + 1 < to {
+    for i in from..to - 1 {
         let b = s[i + 1];
-        let p = o + bit(guarded(s[i], b, top));
+        let p = o + usize::from(guarded(s[i], b, top));
         buf[o] = 0;
         buf[p] = b;
         o = p + 1;
-        i += 1;
     }
     o
 }
@@ -235,16 +213,17 @@ fn edit_after(buf: &mut [u8], at: usize, s: &[u8], from: usize, to: usize, how: 
     let mut o = at;
     let mut i = from;
     let mut run: usize = 64;
+    // Kept: a turn goes 64 bytes on, or as many as the turns before it tell; no range and no chunks of a slice have these turns.
     while i + 64 < to {
         if blocks::hits(s, i, how) == 0 {
             o = blocks::copy_behind(buf, o, s, i, 64);
             i += 64;
             run = 64;
         } else {
-            let last = i + least(to - i - 1, run);
+            let last = i + (to - i - 1).min(run);
             o = edit_by_byte(buf, o, s, i, last + 1, how);
             i = last;
-            run = least(run + run, 1024);
+            run = (run + run).min(1024);
         }
     }
     edit_by_byte(buf, o, s, i, to, how)
@@ -261,8 +240,9 @@ fn edit_by_byte(buf: &mut [u8], at: usize, s: &[u8], from: usize, to: usize, how
         if how.zero {
             return insert_bytes(buf, at, s, from, to, how);
         }
-        copy(buf, at, s, from + 1, to);
-        return at + (to - from - 1);
+        let end = at + (to - from - 1);
+        buf[at..end].copy_from_slice(&s[from + 1..to]);
+        return end;
     }
     drop_words(buf, at, s, from, to)
 }
@@ -300,12 +280,12 @@ fn edit_in_after(area: &mut [u8], at: usize, from: usize, to: usize, how: How) -
     requires known { Known how }
     ensures { (result, area.new) ≡ stored (edited_after how area.old from to) at area.old }
 {
+    let chunks = (to - from - 1).div_ceil(1024);
     let mut o = at;
-    let mut i = from;
-    while i + 1 < to {
-        let last = i + least(to - i - 1, 1024);
+    for k in 0..chunks {
+        let i = from + k * 1024;
+        let last = i + (to - i - 1).min(1024);
         o = edit_chunk(area, o, i, last + 1, how);
-        i = last;
     }
     o
 }
@@ -318,19 +298,7 @@ fn edit_chunk(area: &mut [u8], at: usize, from: usize, to: usize, how: How) -> u
     ensures { (result, area.new) ≡ stored (edited_after how area.old from to) at area.old }
 {
     let mut chunk = [0u8; 1025];
-    copy(&mut chunk, 0, &area[..], from, to);
-    edit_after(area, at, &chunk, 0, to - from, how)
-}
-
-// Stores s[from..to] from `at` on.
-pub(crate) fn copy(buf: &mut [u8], at: usize, s: &[u8], from: usize, to: usize)
-    requires { (from ≤ to) × (to ≤ length s.now) × (at + (to - from) ≤ length buf.old) }
-    ensures { buf.new ≡ sets buf.old at (slice from to s.now) }
-{
     let n = to - from;
-    let mut k = 0;
-    while k < n {
-        buf[at + k] = s[from + k];
-        k += 1;
-    }
+    chunk[..n].copy_from_slice(&area[from..to]);
+    edit_after(area, at, &chunk, 0, n, how)
 }

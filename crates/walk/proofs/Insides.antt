@@ -1,24 +1,24 @@
 -- What looking into a body answers. Assumes nothing.
 use mathlib.Core.Path.{◌≡◌, refl, sym, ap, ◌∙◌}
-use Prim.Native.Nat.{ℕ, suc, ◌+◌, ◌≤◌, ◌<◌}
+use Prim.Native.Nat.{ℕ, suc, ◌+◌, ◌≤◌}
 use native.Mathlib.Nat.{le_refl}
 use native.Mathlib.Omega.{arith}
-use mathlib.Core.Bool.{Bool, true, false}
 use mathlib.Core.List.{List}
-use lib.ListN.{length, drop, get_or, drop_of_length-le}
-use lib.Seq.{slice}
-use lib.Dec.{eqb}
-use borrow.Author.Tests.{eqb-true, ne_eqb}
-use Rattle.laws.proofs.Slices.{slice_drop, slice_next}
-use Rattle.format.specs.Bytes.{pick}
+use lib.ListN.{length, drop, drop_of_length-le}
+use lib.Seq.{slice, length-slice}
+use borrow.Author.Tests.{ne_eqb}
+use Rattle.laws.proofs.Slices.{slice_drop}
 use Rattle.format.specs.Record.{body_refusal, run_of, parts_of}
 use Rattle.format.specs.Walk.{Out, inside_of}
 use Rattle.format.specs.declared.Version.{Version}
 use Rattle.format.specs.declared.Kind.{Kind}
-use Rattle.frame.specs.declared.body.Parsed.{Parsed}
 use Rattle.frame.specs.Bodies.{parsed_of}
-use Rattle.walk.specs.declared.inside.Inside.{Inside}
-use Rattle.walk.specs.Insides.{run_start, inside_at, place_of, after_parsed}
+use Rattle.walk.proofs.Answers.{checked_ok, checked_err}
+use Rattle.walk.specs.Insides.{run_start, inside_at, place_of}
+use Rattle.std.specs.Prelude.{Result, Ok, Err}
+use Rattle.format.specs.declared.refusals.Refusal.{Refusal}
+use Rattle.format.specs.Refusals.{refusal, passed_with}
+use Rattle.format.specs.declared.Parts.{Parts}
 
 -- ---- the run lies from its start on
 
@@ -47,58 +47,54 @@ module _ (v : Version) (at to : ℕ) (b : List ℕ) (ends : at + length b ≡ to
   parts_place Kind.Contents = refl
   parts_place Kind.Raw = sym ends
 
-  by_refusal : (kind : Kind) (t : Bool) → eqb (body_refusal kind b) 0 ≡ t
-      → after_parsed kind (pick t (Parsed.Parts (parts_of v kind at b)) (Parsed.Refused (body_refusal kind b))) to
-      ≡ pick t (Inside.Run (at + run_start kind b)) (Inside.Refused (body_refusal kind b))
-  unfolding after_parsed
-  by_refusal kind true e = ap Inside.Run (parts_place kind)
-  by_refusal kind false e = refl
-
-  pub after_parsed_lem : (kind : Kind) (p : Parsed) → p ≡ parsed_of v kind at b → after_parsed kind p to ≡ inside_at kind at b
+-- of a body in a list that was read as one of its kind, or was refused
+module _ (v : Version) (kind : Kind) (from to : ℕ) (s : List ℕ) where
+  pub parsed_run : {p : Parts} → from ≤ to → to ≤ length s → Ok p ≡ parsed_of v kind from (slice from to s) → Ok (place_of kind p to) ≡ inside_at kind from (slice from to s)
   unfolding parsed_of inside_at
-  after_parsed_lem kind p e = ap (λ (q : Parsed). after_parsed kind q to) e ∙ by_refusal kind (eqb (body_refusal kind b) 0) refl
+  parsed_run le fit e =
+      let b = slice from to s in
+      let l = length-slice from to s fit in
+      let q = checked_ok (body_refusal kind b) (sym e) in
+      rw q.0 (ap Ok (ap (λ (x : Parts). place_of kind x to) (sym q.1) ∙ parts_place v from to b (omega arith) kind))
 
-  -- of a body that was read as one of a kind
-  pub after_as : (kind read : Kind) (p : Parsed) → kind ≡ read → p ≡ parsed_of v read at b → after_parsed kind p to ≡ inside_at kind at b
-  after_as kind read p e f = after_parsed_lem kind p (f ∙ ap (λ (x : Kind). parsed_of v x at b) (sym e))
+  pub parsed_stop : {k : Refusal} → Err k ≡ parsed_of v kind from (slice from to s) → Err k ≡ inside_at kind from (slice from to s)
+  unfolding parsed_of inside_at
+  parsed_stop e =
+      let b = slice from to s in
+      let q = checked_err (body_refusal kind b) _ (sym e) in
+      rw (ne_eqb (body_refusal kind b) 0 q.1) (ap {B = Result ℕ Refusal} (λ (n : ℕ). Err (refusal n)) (sym q.0))
 
 -- ---- the answer
 
 module _ (kind : Kind) (at : ℕ) (b : List ℕ) where
-  pub refused_inside : (k : ℕ) → body_refusal kind b ≡ suc k → Inside.Refused (suc k) ≡ inside_at kind at b
+  pub refused_inside : (k : ℕ) → body_refusal kind b ≡ suc k → Err (refusal (suc k)) ≡ inside_at kind at b
   unfolding inside_at
   refused_inside k e = rw (e, ne_eqb (suc k) 0 (λ z. omega arith))
 
-  pub runs_inside : (place : ℕ) → body_refusal kind b ≡ 0 → place ≡ at + run_start kind b → Inside.Run place ≡ inside_at kind at b
+  pub runs_inside : (place : ℕ) → body_refusal kind b ≡ 0 → place ≡ at + run_start kind b → Ok place ≡ inside_at kind at b
   unfolding inside_at
   runs_inside place e f = rw (e, f)
 
   -- a raw body has no run
-  pub raw_inside : (to : ℕ) → at + length b ≡ to → kind ≡ Kind.Raw → Inside.Run to ≡ inside_at kind at b
+  pub raw_inside : (to : ℕ) → at + length b ≡ to → kind ≡ Kind.Raw → Ok to ≡ inside_at kind at b
   unfolding inside_at body_refusal run_start
   raw_inside to ends e = rw (e, ends)
 
   -- what an answer says
-  pub looked_refused : (k : ℕ) (go : List ℕ → List ℕ → Out) (room : List ℕ) → Inside.Refused k ≡ inside_at kind at b → inside_of go kind b room ≡ (k, room)
+  pub looked_refused : {k : Refusal} (go : List ℕ → List ℕ → Out) (room : List ℕ) → Err k ≡ inside_at kind at b → ◌≡◌ {A = Result Unit Refusal × List ℕ} (Err k, room) (passed_with (inside_of go kind b room))
   unfolding inside_at inside_of
-  looked_refused k go room e = on_refusal (eqb (body_refusal kind b) 0) e
-    where
-      on_refusal : (t : Bool) → Inside.Refused k ≡ pick t (Inside.Run (at + run_start kind b)) (Inside.Refused (body_refusal kind b))
-          → pick t (go (run_of kind b) room) (body_refusal kind b, room) ≡ (k, room)
-      on_refusal true h = absurd (let z : ◌≡◌ {A = ℕ} 0 1 = cc in omega arith)
-      on_refusal false h = let z : body_refusal kind b ≡ k = cc in ap {B = Out} (λ (j : ℕ). (j, room)) z
+  looked_refused {k} go room e =
+      let q = checked_err (body_refusal kind b) _ (sym e) in
+      rw (ne_eqb (body_refusal kind b) 0 q.1, ne_eqb (body_refusal kind b) 0 q.1) (ap {B = Result Unit Refusal × List ℕ} (λ (n : ℕ). (Err (refusal n), room)) (sym q.0))
 
-  pub looked_run : (place : ℕ) → Inside.Run place ≡ inside_at kind at b → (body_refusal kind b ≡ 0) × (place ≡ at + run_start kind b)
+  pub looked_run : (place : ℕ) → Ok place ≡ inside_at kind at b → (body_refusal kind b ≡ 0) × (place ≡ at + run_start kind b)
   unfolding inside_at
-  looked_run place e = on_refusal (eqb (body_refusal kind b) 0) refl e
-    where
-      on_refusal : (t : Bool) → eqb (body_refusal kind b) 0 ≡ t → Inside.Run place ≡ pick t (Inside.Run (at + run_start kind b)) (Inside.Refused (body_refusal kind b))
-          → (body_refusal kind b ≡ 0) × (place ≡ at + run_start kind b)
-      on_refusal true f h = (eqb-true _ _ f, cc)
-      on_refusal false f h = absurd (let z : ◌≡◌ {A = ℕ} 0 1 = cc in omega arith)
+  looked_run place e =
+      let q = checked_ok (body_refusal kind b) (sym e) in
+      (q.0, sym q.1)
 
 -- a body in a list: its run is what lies from the answer to the body's end
-module _ (kind : Kind) (from to place : ℕ) (s : List ℕ) (e : Inside.Run place ≡ inside_at kind from (slice from to s)) where
+module _ (kind : Kind) (from to place : ℕ) (s : List ℕ) (e : Ok place ≡ inside_at kind from (slice from to s)) where
   pub run_from : from ≤ place
   run_from = omega (arith, (looked_run kind from (slice from to s) place e).1)
 
@@ -110,10 +106,6 @@ module _ (kind : Kind) (from to place : ℕ) (s : List ℕ) (e : Inside.Run plac
       rw (l.0, r)
 
 -- ---- text
-
--- the first byte of a part
-pub first_byte : (from to : ℕ) (s : List ℕ) → from < to → to ≤ length s → get_or (slice from to s) 0 0 ≡ get_or s from 0
-first_byte from to s lt le = rw (slice_next from to s lt le)
 
 pub text_runs : (at to : ℕ) (b : List ℕ) → at + length b ≡ to → to ≡ at + run_start Kind.Text b
 unfolding run_start

@@ -1,4 +1,5 @@
 -- Laws that the proofs of several functions use.
+pub mod Answers
 pub mod Insides
 pub mod Onwards
 pub mod Areas

@@ -1,13 +1,12 @@
 -- What entering a body answers. Assumes nothing.
-use mathlib.Core.Path.{◌≡◌, refl, sym, ap, ◌∙◌}
+use mathlib.Core.Path.{◌≡◌, sym, ap, ◌∙◌}
 use Prim.Native.Nat.{ℕ, ◌+◌, ◌-◌}
 use native.Mathlib.Omega.{arith}
-use mathlib.Core.Bool.{Bool, true, false, ◌||◌}
+use mathlib.Core.Bool.{Bool, false, ◌||◌}
 use mathlib.Core.List.{List}
 use lib.ListN.{length, take, drop}
 use lib.Seq.{slice}
-use lib.Dec.{eqb}
-use borrow.Author.Tests.{eqb-true, eqb-false, ne_eqb}
+use borrow.Author.Tests.{ne_eqb}
 use Rattle.format.specs.Bytes.{pick, span}
 use Rattle.format.specs.Record.{body_refusal, run_of, parts_of}
 use Rattle.format.specs.Frame.{head_of}
@@ -16,48 +15,42 @@ use Rattle.format.specs.declared.Version.{Version}
 use Rattle.format.specs.declared.Kind.{Kind}
 use Rattle.format.specs.declared.Parts.{Parts}
 use Rattle.format.specs.declared.Span.{Span}
-use Rattle.format.specs.declared.Head.{Head}
 use Rattle.format.specs.declared.Record.{Record}
-use Rattle.format.specs.declared.Shown.{Shown}
+use Rattle.format.specs.Walk.{Shown}
 use Rattle.format.proofs.Strict.{inside_run}
-use Rattle.frame.specs.declared.body.Parsed.{Parsed}
 use Rattle.frame.specs.Bodies.{parsed_of}
-use Rattle.walk.specs.declared.record.Entered.{Entered}
 use Rattle.walk.specs.Insides.{run_start, place_of}
 use Rattle.walk.specs.Openings.{opened_at, opened_of}
 use Rattle.walk.proofs.Insides.{run_at, parts_place}
+use Rattle.std.specs.Prelude.{Result, Ok, Err, Some, None}
+use Rattle.format.specs.declared.refusals.Refusal.{Refusal}
+use Rattle.format.specs.Refusals.{refusal}
+use Rattle.walk.proofs.Answers.{checked_ok, checked_err}
+use Rattle.format.specs.Frame.{head}
 
 -- ---- what reading a body says
 
 module _ (v : Version) (kind : Kind) (at : ℕ) (b : List ℕ) where
-  pub parsed_refused : (k : ℕ) → Parsed.Refused k ≡ parsed_of v kind at b → (body_refusal kind b ≡ k) × (k ≡ 0 → ⊥)
+  pub parsed_refused : {k : Refusal} → Err k ≡ parsed_of v kind at b → (body_refusal kind b ≡ k.number) × (body_refusal kind b ≡ 0 → ⊥)
   unfolding parsed_of
-  parsed_refused k e = on_refusal (eqb (body_refusal kind b) 0) refl e
-    where
-      on_refusal : (t : Bool) → eqb (body_refusal kind b) 0 ≡ t → Parsed.Refused k ≡ pick t (Parsed.Parts (parts_of v kind at b)) (Parsed.Refused (body_refusal kind b))
-          → (body_refusal kind b ≡ k) × (k ≡ 0 → ⊥)
-      on_refusal true f h = absurd (let z : ◌≡◌ {A = ℕ} 0 1 = cc in omega arith)
-      on_refusal false f h = let z : body_refusal kind b ≡ k = cc in (z, λ n. eqb-false _ _ f (z ∙ n))
+  parsed_refused e = checked_err (body_refusal kind b) _ (sym e)
 
-  pub parsed_parts_lem : (p : Parts) → Parsed.Parts p ≡ parsed_of v kind at b → (body_refusal kind b ≡ 0) × (p ≡ parts_of v kind at b)
+  pub parsed_parts_lem : (p : Parts) → Ok p ≡ parsed_of v kind at b → (body_refusal kind b ≡ 0) × (p ≡ parts_of v kind at b)
   unfolding parsed_of
-  parsed_parts_lem p e = on_refusal (eqb (body_refusal kind b) 0) refl e
-    where
-      on_refusal : (t : Bool) → eqb (body_refusal kind b) 0 ≡ t → Parsed.Parts p ≡ pick t (Parsed.Parts (parts_of v kind at b)) (Parsed.Refused (body_refusal kind b))
-          → (body_refusal kind b ≡ 0) × (p ≡ parts_of v kind at b)
-      on_refusal true f h = (eqb-true _ _ f, cc)
-      on_refusal false f h = absurd (let z : ◌≡◌ {A = ℕ} 0 1 = cc in omega arith)
+  parsed_parts_lem p e =
+      let q = checked_ok (body_refusal kind b) (sym e) in
+      (q.0, sym q.1)
 
   -- a body that is refused leaves the room alone
-  pub inside_refused : (k : ℕ) → Parsed.Refused k ≡ parsed_of v kind at b → (go : List ℕ → List ℕ → Out) (room : List ℕ) → inside_of go kind b room ≡ (k, room)
+  pub inside_refused : {k : Refusal} → Err k ≡ parsed_of v kind at b → (go : List ℕ → List ℕ → Out) (room : List ℕ) → inside_of go kind b room ≡ (k.number, room)
   unfolding inside_of
-  inside_refused k e go room =
-      let p = parsed_refused k e in
-      rw (p.0, ne_eqb k 0 p.1)
+  inside_refused e go room =
+      let p = parsed_refused e in
+      rw (ne_eqb (body_refusal kind b) 0 p.1, p.0)
 
 -- a body that is read lies in a list: its run is what lies from its place to the body's end
 pub inside_parts : (v : Version) (kind : Kind) (from to : ℕ) (s : List ℕ) → from + length (slice from to s) ≡ to
-    → (p : Parts) → Parsed.Parts p ≡ parsed_of v kind from (slice from to s) → (at : ℕ) → at ≡ place_of kind p to
+    → (p : Parts) → Ok p ≡ parsed_of v kind from (slice from to s) → (at : ℕ) → at ≡ place_of kind p to
     → (go : List ℕ → List ℕ → Out) (room : List ℕ) → inside_of go kind (slice from to s) room ≡ go (slice at to s) room
 inside_parts v kind from to s ends p e at ea go room =
     let q = parsed_parts_lem v kind from (slice from to s) p e in
@@ -69,57 +62,49 @@ inside_parts v kind from to s ends p e at ea go room =
 -- ---- the answer
 
 module _ (v : Version) (kind : Kind) (at : ℕ) (b : List ℕ) (o : Out) where
-  pub opened_refused : (k : ℕ) (room : List ℕ) → o ≡ (k, room) → (k ≡ 0 → ⊥) → ◌≡◌ {A = Entered × List ℕ} (Entered.Refused k, room) (opened_at v kind at b o)
+  pub opened_refused : (k : ℕ) (room : List ℕ) → o ≡ (k, room) → (k ≡ 0 → ⊥) → ◌≡◌ {A = Result (Span × Parts) Refusal × List ℕ} (Err (refusal k), room) (opened_at v kind at b o)
   opened_refused k room e some = rw (e, ne_eqb k 0 some)
 
-  pub opened_body : (r : ℕ) (room : List ℕ) (len : ℕ) (p : Parts) → o ≡ (r, room) → r ≡ 0 → len ≡ length b → p ≡ parts_of v kind at b
-      → ◌≡◌ {A = Entered × List ℕ} (Entered.Body (span at len) p, room) (opened_at v kind at b o)
-  opened_body r room len p e z l ep = rw (e, z, l, ep)
+  pub opened_body : (room : List ℕ) (len : ℕ) (p : Parts) → o ≡ (0, room) → len ≡ length b → p ≡ parts_of v kind at b
+      → ◌≡◌ {A = Result (Span × Parts) Refusal × List ℕ} (Ok (span at len, p), room) (opened_at v kind at b o)
+  opened_body room len p e l ep = rw (e, l, ep)
 
   -- what it says
-  pub says_refused : (k : ℕ) (room : List ℕ) → ◌≡◌ {A = Entered × List ℕ} (Entered.Refused k, room) (opened_at v kind at b o)
-      → (o.0 ≡ k) × (k ≡ 0 → ⊥) × (o.1 ≡ room)
-  says_refused k room e = by_number (eqb o.0 0) refl (ap (λ (q : Entered × List ℕ). q.0) e)
-    where
-      last : o.1 ≡ room
-      last = sym (ap (λ (q : Entered × List ℕ). q.1) e)
+  pub says_refused : {k : Refusal} {room : List ℕ} → ◌≡◌ {A = Result (Span × Parts) Refusal × List ℕ} (Err k, room) (opened_at v kind at b o)
+      → (o.0 ≡ k.number) × (o.0 ≡ 0 → ⊥) × (o.1 ≡ room)
+  says_refused e =
+      let q = checked_err o.0 (span at (length b), parts_of v kind at b) (sym (ap (λ (q : Result (Span × Parts) Refusal × List ℕ). q.0) e)) in
+      (q.0, q.1, sym (ap (λ (q : Result (Span × Parts) Refusal × List ℕ). q.1) e))
 
-      by_number : (t : Bool) → eqb o.0 0 ≡ t → Entered.Refused k ≡ pick t (Entered.Body (span at (length b)) (parts_of v kind at b)) (Entered.Refused o.0)
-          → (o.0 ≡ k) × (k ≡ 0 → ⊥) × (o.1 ≡ room)
-      by_number true f h = absurd (let z : ◌≡◌ {A = ℕ} 0 1 = cc in omega arith)
-      by_number false f h = let z : o.0 ≡ k = cc in (z, λ n. eqb-false _ _ f (z ∙ n), last)
-
-  pub says_body : (s : Span) (p : Parts) (room : List ℕ) → ◌≡◌ {A = Entered × List ℕ} (Entered.Body s p, room) (opened_at v kind at b o)
+  pub says_body : {s : Span} {p : Parts} {room : List ℕ} → ◌≡◌ {A = Result (Span × Parts) Refusal × List ℕ} (Ok (s, p), room) (opened_at v kind at b o)
       → (o.0 ≡ 0) × (s ≡ span at (length b)) × (p ≡ parts_of v kind at b) × (o.1 ≡ room)
-  says_body s p room e = by_number (eqb o.0 0) refl (ap (λ (q : Entered × List ℕ). q.0) e)
-    where
-      last : o.1 ≡ room
-      last = sym (ap (λ (q : Entered × List ℕ). q.1) e)
-
-      by_number : (t : Bool) → eqb o.0 0 ≡ t → Entered.Body s p ≡ pick t (Entered.Body (span at (length b)) (parts_of v kind at b)) (Entered.Refused o.0)
-          → (o.0 ≡ 0) × (s ≡ span at (length b)) × (p ≡ parts_of v kind at b) × (o.1 ≡ room)
-      by_number true f h = (eqb-true _ _ f, cc, cc, last)
-      by_number false f h = absurd (let z : ◌≡◌ {A = ℕ} 0 1 = cc in omega arith)
+  says_body e =
+      let q = checked_ok o.0 {x = (span at (length b), parts_of v kind at b)} (sym (ap (λ (q : Result (Span × Parts) Refusal × List ℕ). q.0) e)) in (
+        q.0,
+        sym (ap (λ (x : Span × Parts). x.0) q.1),
+        sym (ap (λ (x : Span × Parts). x.1) q.1),
+        sym (ap (λ (q : Result (Span × Parts) Refusal × List ℕ). q.1) e),
+      )
 
 -- ---- a frame
 
 module _ (o : Out) (r : Record) (next : ℕ) (room : List ℕ) (last : o.1 ≡ room) where
-  as_refused : (k : ℕ) → o.0 ≡ k → (k ≡ 0 → ⊥) → ◌≡◌ {A = Shown × List ℕ} (Shown.Refused k, room) (shown_of o.0 r next, o.1)
-  as_refused k e some = rw (e, ne_eqb k 0 some, last)
+  as_refused : {k : Refusal} → o.0 ≡ k.number → (o.0 ≡ 0 → ⊥) → ◌≡◌ {A = Shown × List ℕ} (Err k, room) (shown_of o.0 r next, o.1)
+  as_refused e some = rw (ne_eqb o.0 0 some, e, last)
 
-  as_frame : (r' : Record) (next' : ℕ) → o.0 ≡ 0 → r' ≡ r → next' ≡ next → ◌≡◌ {A = Shown × List ℕ} (Shown.Frame r' next', room) (shown_of o.0 r next, o.1)
+  as_frame : (r' : Record) (next' : ℕ) → o.0 ≡ 0 → r' ≡ r → next' ≡ next → ◌≡◌ {A = Shown × List ℕ} (Ok (Some (r', next')), room) (shown_of o.0 r next, o.1)
   as_frame r' next' e f g = rw (e, last, f, g)
 
 module _ (v : Version) (inWork : Bool) (begin at : ℕ) (s room : List ℕ) where
-  pub shown_nothing : Head.Nothing ≡ head_of v 1 s → ◌≡◌ {A = Shown × List ℕ} (Shown.Nothing, room) (frame_of v inWork begin at s room)
+  pub shown_nothing : Ok None ≡ head_of v 1 s → ◌≡◌ {A = Shown × List ℕ} (Ok None, room) (frame_of v inWork begin at s room)
   unfolding frame_of on_shown
   shown_nothing e = rw (← e)
 
-  pub shown_refused : (k : ℕ) → Head.Refused k ≡ head_of v 1 s → ◌≡◌ {A = Shown × List ℕ} (Shown.Refused k, room) (frame_of v inWork begin at s room)
+  pub shown_refused : {k : Refusal} → Err k ≡ head_of v 1 s → ◌≡◌ {A = Shown × List ℕ} (Err k, room) (frame_of v inWork begin at s room)
   unfolding frame_of on_shown
-  shown_refused k e = rw (← e)
+  shown_refused e = rw (← e)
 
-  module _ (id : ℕ) (c f sh : Bool) (start len : ℕ) (e : Head.Found id c f sh start len ≡ head_of v 1 s)
+  module _ (id : ℕ) (c f sh : Bool) (start len : ℕ) (e : Ok (Some (head id c f sh start len)) ≡ head_of v 1 s)
       (kind : Kind) (t : Bool) (ek : kind ≡ shown_kind v id c) (et : t ≡ is_resynced c f) (b room' : List ℕ) (eb : take len (drop start s) ≡ b) where
     abbrev place : ℕ
     place = pick t 0 (at + start)
@@ -134,17 +119,17 @@ module _ (v : Version) (inWork : Bool) (begin at : ℕ) (s room : List ℕ) wher
     unfolding frame_of on_shown
     frame_is = rw (← e, eb, ek, et)
 
-    pub body_refused : (k : ℕ) → ◌≡◌ {A = Entered × List ℕ} (Entered.Refused k, room') (opened_of v kind t (at + start) b room)
-        → ◌≡◌ {A = Shown × List ℕ} (Shown.Refused k, room') (frame_of v inWork begin at s room)
-    body_refused k h =
-        let z = says_refused v kind place (shown_body t b) out k room' h in
-        as_refused out shown_record (at + (start + len)) room' z.2 k z.0 z.1 ∙ frame_is
+    pub body_refused : {k : Refusal} → ◌≡◌ {A = Result (Span × Parts) Refusal × List ℕ} (Err k, room') (opened_of v kind t (at + start) b room)
+        → ◌≡◌ {A = Shown × List ℕ} (Err k, room') (frame_of v inWork begin at s room)
+    body_refused h =
+        let z = says_refused v kind place (shown_body t b) out h in
+        as_refused out shown_record (at + (start + len)) room' z.2 z.0 z.1 ∙ frame_is
 
-    pub body_shown : (q : Span) (p : Parts) → ◌≡◌ {A = Entered × List ℕ} (Entered.Body q p, room') (opened_of v kind t (at + start) b room)
-        → (r : Record) (behind : ℕ) (w : Bool) → behind ≡ at - begin → w ≡ (t || inWork) → r ≡ record_of id sh c behind w q.start q.len p
-        → ◌≡◌ {A = Shown × List ℕ} (Shown.Frame r (at + start + len), room') (frame_of v inWork begin at s room)
-    body_shown q p h r behind w ep ew er =
-        let z = says_body v kind place (shown_body t b) out q p room' h in
+    pub body_shown : {q : Span} {p : Parts} → ◌≡◌ {A = Result (Span × Parts) Refusal × List ℕ} (Ok (q, p), room') (opened_of v kind t (at + start) b room)
+        → {r : Record} {behind : ℕ} {w : Bool} → behind ≡ at - begin → w ≡ (t || inWork) → r ≡ record_of id sh c behind w q.start q.len p
+        → ◌≡◌ {A = Shown × List ℕ} (Ok (Some (r, at + start + len)), room') (frame_of v inWork begin at s room)
+    body_shown {q} {p} h {r} {behind} {w} ep ew er =
+        let z = says_body v kind place (shown_body t b) out h in
         let next : at + start + len ≡ at + (start + len) = omega arith in
         let same : r ≡ shown_record = er ∙ rw (ep, ew, z.1, z.2) in
         as_frame out shown_record (at + (start + len)) room' z.3 r (at + start + len) z.0 same next ∙ frame_is

@@ -1,36 +1,26 @@
 -- Bytes that are all zeros, one by one and part by part. Assumes nothing.
-use mathlib.Core.Path.{◌≡◌, refl, sym, ap, ◌∙◌}
-use Prim.Native.Nat.{ℕ, ◌+◌, ◌-◌, ◌≤◌, ◌<◌, min}
-use native.Mathlib.Omega.{arith}
+use mathlib.Core.Path.{◌≡◌, refl, ap, ◌∙◌}
+use Prim.Native.Nat.{ℕ, ◌+◌, ◌≤◌}
 use mathlib.Core.Bool.{Bool, true, false, ◌&&◌}
 use mathlib.Core.List.{List, [], ◌∷◌, ◌++◌}
-use lib.ListN.{length, get_or}
+use Rattle.std.specs.List.{fold}
 use lib.Seq.{slice}
 use lib.Dec.{eqb}
-use Rattle.laws.proofs.Slices.{slice_next}
-use Rattle.laws.proofs.Cuts.{take_drop, cut_in_two, part_cut}
+use Rattle.laws.proofs.Cuts.{cut_in_two}
 use Rattle.format.specs.Bytes.{pick}
 use Rattle.format.specs.Looks.{all_zero}
-
-pub and_all : (a : Bool) → (a && true) ≡ a
-and_all true = refl
-and_all false = refl
 
 and_next : (a b c : Bool) → ((a && b) && c) ≡ (a && pick b c false)
 and_next true true c = refl
 and_next true false c = refl
 and_next false b c = refl
 
--- a byte more
-pub zero_turn : (s : List ℕ) (i k to : ℕ) (all w : Bool) → i + k < to → to ≤ length s → (all && all_zero (slice (i + k) to s)) ≡ w
-    → ((all && eqb (get_or s (i + k) 0) 0) && all_zero (slice (i + (k + 1)) to s)) ≡ w
+-- what looks for a byte that is not zero
+pub all_found : (l : List ℕ) (all : Bool) → fold (λ a x. a && eqb x 0) all l ≡ (all && all_zero l)
 unfolding all_zero
-zero_turn s i k to all w lt le e =
-    let next : i + k + 1 ≡ i + (k + 1) = omega arith in
-    and_next all (eqb (get_or s (i + k) 0) 0) (all_zero (slice (i + (k + 1)) to s))
-    ∙ ap (λ (j : ℕ). all && pick (eqb (get_or s (i + k) 0) 0) (all_zero (slice j to s)) false) (sym next)
-    ∙ sym (ap (λ (l : List ℕ). all && all_zero l) (slice_next (i + k) to s lt le))
-    ∙ e
+all_found [] true = refl
+all_found [] false = refl
+all_found (x ∷ l) all = all_found l (all && eqb x 0) ∙ and_next all (eqb x 0) (all_zero l)
 
 -- in two parts
 zero_append : (l m : List ℕ) → all_zero (l ++ m) ≡ (all_zero l && all_zero m)
@@ -52,10 +42,3 @@ module _ (s : List ℕ) (at end n : ℕ) (h : at + n ≤ end) where
 
   pub zero_on : all_zero (slice at (at + n) s) ≡ true → all_zero (slice at end s) ≡ all_zero (slice (at + n) end s)
   zero_on e = zero_parts ∙ ap (λ (t : Bool). t && all_zero (slice (at + n) end s)) e
-
--- ---- both ends cut where the list ends
-
-pub cut_both : (from to end at : ℕ) (s : List ℕ) → end ≡ min to (length s) → at ≡ min from end → slice at end s ≡ slice from to s
-cut_both from to end at s e f =
-    let m : at + (end - at) ≡ end = omega arith in
-    ap (λ (n : ℕ). slice at n s) (sym m) ∙ sym (take_drop (end - at) at s) ∙ part_cut from to at end s e f

@@ -16,22 +16,22 @@ use Rattle.format.specs.declared.Version.{Version}
 use Rattle.format.specs.declared.Kind.{Kind}
 use Rattle.format.specs.declared.Parts.{Parts}
 use Rattle.format.specs.declared.Span.{Span}
-use Rattle.format.specs.declared.Head.{Head}
 use Rattle.format.specs.declared.Record.{Record}
-use Rattle.format.specs.declared.Shown.{Shown}
-use Rattle.frame.specs.declared.body.Parsed.{Parsed}
+use Rattle.format.specs.Walk.{Shown}
 use Rattle.frame.specs.Bodies.{parsed_of}
-use Rattle.unsynch.specs.declared.Put.{Put}
 use Rattle.unsynch.specs.Puts.{into_of}
-use Rattle.walk.specs.declared.record.Lies.{Lies}
-use Rattle.walk.specs.declared.record.Entered.{Entered}
 use Rattle.walk.specs.Areas.{in_area}
 use Rattle.walk.specs.Insides.{place_of}
 use Rattle.walk.specs.Sources.{source_of, room_of, kept, frame_in}
-use Rattle.walk.specs.Openings.{opened_at, opened_of, front_of, lies_as, ready_of, lent, ran_of, shown_at, entered_of}
+use Rattle.walk.specs.Openings.{opened_at, opened_of, lies_as, ready_of, lent, ran_of, shown_at, entered_of}
 use Rattle.walk.proofs.Onwards.{Here}
-use Rattle.walk.proofs.Areas.{Fitted, put_bytes, put_full, put_refused, put_inside, fitted_front, fitted_room, before_split}
+use Rattle.walk.proofs.Answers.{passed_ok, passed_err}
+use Rattle.walk.proofs.Areas.{Fitted, put_bytes, put_refused, put_inside, fitted_front, fitted_room, before_split}
 use Rattle.walk.proofs.Openings.{parsed_refused, parsed_parts_lem, inside_refused, inside_parts, opened_refused, opened_body, shown_nothing, shown_refused, body_refused, body_shown}
+use Rattle.std.specs.Prelude.{Result, Ok, Err, Some, None}
+use Rattle.format.specs.declared.refusals.Refusal.{Refusal}
+use Rattle.format.specs.Refusals.{passed_with}
+use Rattle.laws.proofs.Results.{ok_same, err_same, ok_not_err, err_not_ok}
 
 -- ---- the room that is lent
 
@@ -61,17 +61,18 @@ module _ (w t : Bool) (v : Version) (run to : ℕ) (tag work : List ℕ) where
       let s = source_of (w || t) work tag in
       sym (lent_still w t to work (walked false v 2 (slice run to s)) 0 (λ (room : List ℕ). ap (λ (x : List ℕ). walked false v 2 x room) (slice_none run to s h) ∙ walk_none v 2 room))
 
-  pub run_in_work : w ≡ true → (r : ℕ) → r ≡ (walked false v 2 (slice run to work) []).0 → ◌≡◌ {A = Out} (r, work) (ran_of w t v run to tag work)
+  pub run_in_work : w ≡ true → {r : Result Unit Refusal} {none : List ℕ} → ◌≡◌ {A = Result Unit Refusal × List ℕ} (r, none) (passed_with (walked false v 2 (slice run to work) []))
+      → ◌≡◌ {A = Result Unit Refusal × List ℕ} (r, work) (passed_with (ran_of w t v run to tag work))
   unfolding lent
-  run_in_work ew r e = rw (ew, e)
+  run_in_work ew e = rw ew (ap {B = Result Unit Refusal × List ℕ} (λ (p : Result Unit Refusal × List ℕ). (p.0, work)) e)
 
-  pub run_behind : w ≡ false → t ≡ true → (o : Out) → o ≡ in_area false v 2 run to to work → o ≡ ran_of w t v run to tag work
+  pub run_behind : w ≡ false → t ≡ true → in_area false v 2 run to to work ≡ ran_of w t v run to tag work
   unfolding lent
-  run_behind ew et o e = rw (ew, et) (e ∙ ap (λ (s : List ℕ). behind (take to work) (walked false v 2 s (drop to work))) (before_split run to to work (le_refl to)))
+  run_behind ew et = rw (ew, et) (ap (λ (s : List ℕ). behind (take to work) (walked false v 2 s (drop to work))) (before_split run to to work (le_refl to)))
 
-  pub run_apart : w ≡ false → t ≡ false → (o : Out) → o ≡ walked false v 2 (slice run to tag) work → o ≡ ran_of w t v run to tag work
+  pub run_apart : w ≡ false → t ≡ false → walked false v 2 (slice run to tag) work ≡ ran_of w t v run to tag work
   unfolding lent
-  run_apart ew et o e = rw (ew, et) e
+  run_apart ew et = rw (ew, et)
 
 -- ---- a body as it is shown
 
@@ -82,61 +83,43 @@ module _ (w t : Bool) (v : Version) (kind : Kind) (from to : ℕ) (tag work s : 
   as_shown : opened_at v kind from (slice from to s) (lent w t to work (inside_of go kind (slice from to s))) ≡ shown_at w t v kind from to tag work
   as_shown = rw es
 
-  pub shows_refused : (k : ℕ) → Parsed.Refused k ≡ parsed_of v kind from (slice from to s)
-      → ◌≡◌ {A = Entered × List ℕ} (Entered.Refused k, work) (shown_at w t v kind from to tag work)
-  shows_refused k e =
+  pub shows_refused : {k : Refusal} → Err k ≡ parsed_of v kind from (slice from to s)
+      → ◌≡◌ {A = Result (Span × Parts) Refusal × List ℕ} (Err k, work) (shown_at w t v kind from to tag work)
+  shows_refused {k} e =
       let b = slice from to s in
-      opened_refused v kind from b (lent w t to work (inside_of go kind b)) k work (lent_still w t to work (inside_of go kind b) k (inside_refused v kind from b k e go)) (parsed_refused v kind from b k e).1
+      let p = parsed_refused v kind from b e in
+      opened_refused v kind from b (lent w t to work (inside_of go kind b)) k.number work
+      (lent_still w t to work (inside_of go kind b) k.number (inside_refused v kind from b e go)) (λ z. p.1 (p.0 ∙ z))
       ∙ as_shown
 
   -- one that was read, and whose run was walked
-  module _ (ends : from + length (slice from to s) ≡ to) (p : Parts) (e : Parsed.Parts p ≡ parsed_of v kind from (slice from to s)) (at : ℕ) (ea : at ≡ place_of kind p to)
-      (r : ℕ) (left : List ℕ) (o : ◌≡◌ {A = Out} (r, left) (ran_of w t v at to tag work)) where
-    shown_out : lent w t to work (inside_of go kind (slice from to s)) ≡ (r, left)
+  module _ (ends : from + length (slice from to s) ≡ to) (p : Parts) (e : Ok p ≡ parsed_of v kind from (slice from to s)) (at : ℕ) (ea : at ≡ place_of kind p to) where
+    shown_out : lent w t to work (inside_of go kind (slice from to s)) ≡ ran_of w t v at to tag work
     shown_out =
         lent_same w t to work (inside_of go kind (slice from to s)) (go (slice at to s)) (inside_parts v kind from to s ends p e at ea go)
         ∙ ap (λ (x : List ℕ). lent w t to work (go (slice at to x))) es
-        ∙ sym o
 
-    pub shows_run : (r ≡ 0 → ⊥) → ◌≡◌ {A = Entered × List ℕ} (Entered.Refused r, left) (shown_at w t v kind from to tag work)
-    shows_run some = opened_refused v kind from (slice from to s) (lent w t to work (inside_of go kind (slice from to s))) r left shown_out some ∙ as_shown
+    pub shows_run : {k : Refusal} {left : List ℕ} → ◌≡◌ {A = Result Unit Refusal × List ℕ} (Err k, left) (passed_with (ran_of w t v at to tag work))
+        → ◌≡◌ {A = Result (Span × Parts) Refusal × List ℕ} (Err k, left) (shown_at w t v kind from to tag work)
+    shows_run e =
+        let q = passed_err (ran_of w t v at to tag work) e in
+        opened_refused v kind from (slice from to s) (lent w t to work (inside_of go kind (slice from to s))) _ _ (shown_out ∙ q.0) q.1 ∙ as_shown
 
-    pub shows_parts : r ≡ 0 → (len : ℕ) → len ≡ length (slice from to s) → ◌≡◌ {A = Entered × List ℕ} (Entered.Body (span from len) p, left) (shown_at w t v kind from to tag work)
-    shows_parts z len l =
-        opened_body v kind from (slice from to s) (lent w t to work (inside_of go kind (slice from to s))) r left len p shown_out z l (parsed_parts_lem v kind from (slice from to s) p e).1
+    pub shows_parts : {left : List ℕ} → ◌≡◌ {A = Result Unit Refusal × List ℕ} (Ok tt, left) (passed_with (ran_of w t v at to tag work))
+        → (len : ℕ) → len ≡ length (slice from to s) → ◌≡◌ {A = Result (Span × Parts) Refusal × List ℕ} (Ok (span from len, p), left) (shown_at w t v kind from to tag work)
+    shows_parts {left} o len l =
+        opened_body v kind from (slice from to s) (lent w t to work (inside_of go kind (slice from to s))) left len p (shown_out ∙ passed_ok (ran_of w t v at to tag work) o) l (parsed_parts_lem v kind from (slice from to s) p e).1
         ∙ as_shown
-
--- ---- what is put
-
-module _ (w : Bool) (from to : ℕ) (tag work : List ℕ) where
-  -- the frames lie in the work buffer, which stays as it is
-  pub front_in_work : w ≡ true → {p : Put} {none : List ℕ} → ◌≡◌ {A = Put × List ℕ} (p, none) (into_of (resynchronised (slice from to work)) [])
-      → ◌≡◌ {A = Put × List ℕ} (p, work) (front_of w from to tag work)
-  front_in_work ew e = rw ew (ap {B = Put × List ℕ} (λ (o : Put × List ℕ). (o.0, work)) e)
-
-  pub front_apart : w ≡ false → {o : Put × List ℕ} → o ≡ into_of (resynchronised (slice from to tag)) work → o ≡ front_of w from to tag work
-  front_apart ew e = rw ew e
-
-module _ (w t : Bool) (from to : ℕ) (tag work : List ℕ) where
-  pub lies_put : t ≡ true → {p q : Put} → p ≡ q → {left : List ℕ} → ◌≡◌ {A = Put × List ℕ} (p, left) (front_of w from to tag work)
-      → ◌≡◌ {A = Lies × List ℕ} (lies_as q, left) (ready_of w t from to tag work)
-  unfolding ready_of
-  lies_put et ep {left} e =
-      rw et (ap {B = Lies × List ℕ} (λ (x : Put). (lies_as x, left)) (sym ep) ∙ ap {B = Lies × List ℕ} (λ (o : Put × List ℕ). (lies_as o.0, o.1)) e)
-
-  pub lies_stored : t ≡ false → ◌≡◌ {A = Lies × List ℕ} (Lies.At from to, work) (ready_of w t from to tag work)
-  unfolding ready_of
-  lies_stored et = rw et
 
 -- ---- where a body lies
 
-lies_refused : (p : Put) (k : ℕ) → Lies.Refused k ≡ lies_as p → p ≡ Put.Refused k
-lies_refused (Put.Refused j) k e = let z : j ≡ k = cc in ap Put.Refused z
-lies_refused (Put.Bytes n) k e = absurd (let z : ◌≡◌ {A = ℕ} 0 1 = cc in omega arith)
+lies_refused : (p : Result ℕ Refusal) {k : Refusal} → Err k ≡ lies_as p → p ≡ Err k
+lies_refused (Err j) e = ap Err (sym (err_same e))
+lies_refused (Ok n) e = err_not_ok e
 
-lies_bytes : (p : Put) (start stop : ℕ) → Lies.At start stop ≡ lies_as p → (start ≡ 0) × (p ≡ Put.Bytes stop)
-lies_bytes (Put.Refused j) start stop e = absurd (let z : ◌≡◌ {A = ℕ} 0 1 = cc in omega arith)
-lies_bytes (Put.Bytes n) start stop e = let z : n ≡ stop = cc in (cc, ap Put.Bytes z)
+lies_bytes : (p : Result ℕ Refusal) {start stop : ℕ} → Ok (start, stop) ≡ lies_as p → (start ≡ 0) × (p ≡ Ok stop)
+lies_bytes (Err j) e = ok_not_err e
+lies_bytes (Ok n) e = (ap (λ (x : ℕ × ℕ). x.0) (ok_same e), ap Ok (sym (ap (λ (x : ℕ × ℕ). x.1) (ok_same e))))
 
 -- what is put into no room is nothing
 none_fits : (u p : List ℕ) (n : ℕ) → Fitted u [] p n → (u ≡ []) × (n ≡ 0)
@@ -144,38 +127,39 @@ none_fits [] p n f = (refl, f.many)
 none_fits (x ∷ u) p n f = absurd (omega (arith, f.fits))
 
 module _ (v : Version) (kind : Kind) (from to : ℕ) (tag work : List ℕ) where
-  pub ready_refused : (w t : Bool) (k : ℕ) (left : List ℕ) → ◌≡◌ {A = Lies × List ℕ} (Lies.Refused k, left) (ready_of w t from to tag work)
-      → ◌≡◌ {A = Entered × List ℕ} (Entered.Refused k, left) (entered_of w t v kind from to tag work)
+  pub ready_refused : (w t : Bool) {k : Refusal} (left : List ℕ) → ◌≡◌ {A = Result (ℕ × ℕ) Refusal × List ℕ} (Err k, left) (ready_of w t from to tag work)
+      → ◌≡◌ {A = Result (Span × Parts) Refusal × List ℕ} (Err k, left) (entered_of w t v kind from to tag work)
   unfolding ready_of
-  ready_refused w false k left e = absurd (let f : Lies.Refused k ≡ Lies.At from to = ap (λ (o : Lies × List ℕ). o.0) e in let z : ◌≡◌ {A = ℕ} 0 1 = cc in omega arith)
-  ready_refused w true k left e =
+  ready_refused w false left e = err_not_ok (ap (λ (o : Result (ℕ × ℕ) Refusal × List ℕ). o.0) e)
+  ready_refused w true {k} left e =
       let u = resynchronised (slice from to (source_of w work tag)) in
       let room = room_of w work in
-      let f : (into_of u room).0 ≡ Put.Refused k = lies_refused (into_of u room).0 k (ap (λ (o : Lies × List ℕ). o.0) e) in
-      let l : left ≡ pick w work (into_of u room).1 = ap (λ (o : Lies × List ℕ). o.1) e in
-      ap {B = Entered × List ℕ} (λ (x : List ℕ). (Entered.Refused k, x)) l
-      ∙ ap (kept w work) (opened_refused v kind 0 u (resynced_of (walked false v 2) kind u room) k (into_of u room).1 (put_refused u room (walked false v 2) kind k f) (λ n. omega (arith, put_full u room k f)))
+      let f : (into_of u room).0 ≡ Err k = lies_refused (into_of u room).0 (ap (λ (o : Result (ℕ × ℕ) Refusal × List ℕ). o.0) e) in
+      let p = passed_err (resynced_of (walked false v 2) kind u room) (put_refused u room (walked false v 2) kind (ap {B = Result ℕ Refusal × List ℕ} (λ (x : Result ℕ Refusal). (x, (into_of u room).1)) (sym f))) in
+      let l : left ≡ pick w work (into_of u room).1 = ap (λ (o : Result (ℕ × ℕ) Refusal × List ℕ). o.1) e in
+      ap {B = Result (Span × Parts) Refusal × List ℕ} (λ (x : List ℕ). (Err k, x)) l
+      ∙ ap (kept w work) (opened_refused v kind 0 u (resynced_of (walked false v 2) kind u room) k.number (into_of u room).1 p.0 p.1)
 
   -- as it is stored
-  stays : (start stop : ℕ) (left : List ℕ) → ◌≡◌ {A = Lies × List ℕ} (Lies.At start stop, left) (Lies.At from to, work)
+  stays : (start stop : ℕ) (left : List ℕ) → ◌≡◌ {A = Result (ℕ × ℕ) Refusal × List ℕ} (Ok (start, stop), left) (Ok (from, to), work)
       → (start ≡ from) × (stop ≡ to) × (left ≡ work)
   stays start stop left e =
-      let f : Lies.At start stop ≡ Lies.At from to = ap (λ (o : Lies × List ℕ). o.0) e in
-      (cc, cc, ap (λ (o : Lies × List ℕ). o.1) e)
+      let f : (start, stop) ≡ (from, to) = ok_same (ap (λ (o : Result (ℕ × ℕ) Refusal × List ℕ). o.0) e) in
+      (ap (λ (x : ℕ × ℕ). x.0) f, ap (λ (x : ℕ × ℕ). x.1) f, ap (λ (o : Result (ℕ × ℕ) Refusal × List ℕ). o.1) e)
 
   -- resynchronised
-  fronts : (w : Bool) (start stop : ℕ) (left : List ℕ) → ◌≡◌ {A = Lies × List ℕ} (Lies.At start stop, left) (ready_of w true from to tag work)
+  fronts : (w : Bool) (start stop : ℕ) (left : List ℕ) → ◌≡◌ {A = Result (ℕ × ℕ) Refusal × List ℕ} (Ok (start, stop), left) (ready_of w true from to tag work)
       → (start ≡ 0)
       × Fitted (resynchronised (slice from to (source_of w work tag))) (room_of w work) (into_of (resynchronised (slice from to (source_of w work tag))) (room_of w work)).1 stop
       × (left ≡ pick w work (into_of (resynchronised (slice from to (source_of w work tag))) (room_of w work)).1)
   unfolding ready_of
   fronts w start stop left e =
       let u = resynchronised (slice from to (source_of w work tag)) in
-      let l = lies_bytes (into_of u (room_of w work)).0 start stop (ap (λ (o : Lies × List ℕ). o.0) e) in
-      (l.0, put_bytes u (room_of w work) stop l.1, ap (λ (o : Lies × List ℕ). o.1) e)
+      let l = lies_bytes (into_of u (room_of w work)).0 (ap (λ (o : Result (ℕ × ℕ) Refusal × List ℕ). o.0) e) in
+      (l.0, put_bytes u (room_of w work) (ap {B = Result ℕ Refusal × List ℕ} (λ (x : Result ℕ Refusal). (x, (into_of u (room_of w work)).1)) (sym l.1)), ap (λ (o : Result (ℕ × ℕ) Refusal × List ℕ). o.1) e)
 
   -- it is shown there
-  pub ready_shown : (w t : Bool) (start stop : ℕ) (left : List ℕ) → ◌≡◌ {A = Lies × List ℕ} (Lies.At start stop, left) (ready_of w t from to tag work)
+  pub ready_shown : (w t : Bool) (start stop : ℕ) (left : List ℕ) → ◌≡◌ {A = Result (ℕ × ℕ) Refusal × List ℕ} (Ok (start, stop), left) (ready_of w t from to tag work)
       → shown_at w t v kind start stop tag left ≡ entered_of w t v kind from to tag work
   unfolding ready_of lent resynced_of
   ready_shown true false start stop left e = let l = stays start stop left e in rw (l.0, l.1, l.2)
@@ -193,7 +177,7 @@ module _ (v : Version) (kind : Kind) (from to : ℕ) (tag work : List ℕ) where
       (ap₂ (λ (x : List ℕ) (o : Out). opened_at v kind 0 x o) (fitted_front l.1) (put_inside u work go kind stop (into_of u work).1 l.1))
 
   -- it lies within its bytes
-  pub ready_within : (w t : Bool) (start stop : ℕ) (left : List ℕ) → ◌≡◌ {A = Lies × List ℕ} (Lies.At start stop, left) (ready_of w t from to tag work)
+  pub ready_within : (w t : Bool) (start stop : ℕ) (left : List ℕ) → ◌≡◌ {A = Result (ℕ × ℕ) Refusal × List ℕ} (Ok (start, stop), left) (ready_of w t from to tag work)
       → from ≤ to → to ≤ length (source_of w work tag) → (start ≤ stop) × (stop ≤ length (source_of (w || t) left tag))
   unfolding ready_of
   ready_within true false start stop left e le fit = let l = stays start stop left e in (omega (arith, l), omega (arith, l, ap length l.2))
@@ -222,12 +206,11 @@ module _ (v : Version) (w : Bool) (begin at end : ℕ) (tag work s : List ℕ) (
       ∙ ap (kept w work) e
       ∙ ap (λ (x : List ℕ). kept w work (frame_of v w begin at (slice at end x) (room_of w work))) es
 
-  pub no_frame : Head.Nothing ≡ head_of v 1 (slice at end s) → ◌≡◌ {A = Shown × List ℕ} (Shown.Nothing, work) (frame_in v w begin at end tag work)
-  no_frame e = frame_in_lem Shown.Nothing (room_of w work) work (kept_room w work) (shown_nothing v w begin at (slice at end s) (room_of w work) e)
+  pub no_frame : Ok None ≡ head_of v 1 (slice at end s) → ◌≡◌ {A = Shown × List ℕ} (Ok None, work) (frame_in v w begin at end tag work)
+  no_frame e = frame_in_lem (Ok None) (room_of w work) work (kept_room w work) (shown_nothing v w begin at (slice at end s) (room_of w work) e)
 
-  pub head_refused : (k : ℕ) → Head.Refused k ≡ head_of v 1 (slice at end s)
-      → ◌≡◌ {A = Shown × List ℕ} (Shown.Refused k, work) (frame_in v w begin at end tag work)
-  head_refused k e = frame_in_lem (Shown.Refused k) (room_of w work) work (kept_room w work) (shown_refused v w begin at (slice at end s) (room_of w work) k e)
+  pub head_refused : {k : Refusal} → Err k ≡ head_of v 1 (slice at end s) → ◌≡◌ {A = Shown × List ℕ} (Err k, work) (frame_in v w begin at end tag work)
+  head_refused {k} e = frame_in_lem (Err k) (room_of w work) work (kept_room w work) (shown_refused v w begin at (slice at end s) (room_of w work) e)
 
   -- one whose body was entered
   module _ {id : ℕ} {c f sh : Bool} {start len : ℕ} (found : Here v at end s id c f sh start len)
@@ -235,23 +218,23 @@ module _ (v : Version) (w : Bool) (begin at end : ℕ) (tag work s : List ℕ) (
     abbrev stored : List ℕ
     stored = slice (at + start) (at + start + len) (source_of w work tag)
 
-    abbrev opened : Entered × List ℕ
+    abbrev opened : Result (Span × Parts) Refusal × List ℕ
     opened = opened_of v kind t (at + start) stored (room_of w work)
 
     lies_in : take len (drop start (slice at end s)) ≡ stored
     lies_in = found.body ∙ ap (slice (at + start) (at + start + len)) es
 
-    pub frame_refused : (k : ℕ) → ◌≡◌ {A = Entered × List ℕ} (Entered.Refused k, left) (entered_of w t v kind (at + start) (at + start + len) tag work)
-        → ◌≡◌ {A = Shown × List ℕ} (Shown.Refused k, left) (frame_in v w begin at end tag work)
-    frame_refused k h =
-        frame_in_lem (Shown.Refused k) opened.1 left (ap (λ (o : Entered × List ℕ). o.1) h)
-        (body_refused v w begin at (slice at end s) (room_of w work) id c f sh start len found.head kind t ek et stored opened.1 lies_in k
-        (ap {B = Entered × List ℕ} (λ (o : Entered × List ℕ). (o.0, opened.1)) h))
+    pub frame_refused : {k : Refusal} → ◌≡◌ {A = Result (Span × Parts) Refusal × List ℕ} (Err k, left) (entered_of w t v kind (at + start) (at + start + len) tag work)
+        → ◌≡◌ {A = Shown × List ℕ} (Err k, left) (frame_in v w begin at end tag work)
+    frame_refused {k} h =
+        frame_in_lem (Err k) opened.1 left (ap (λ (o : Result (Span × Parts) Refusal × List ℕ). o.1) h)
+        (body_refused v w begin at (slice at end s) (room_of w work) id c f sh start len found.head kind t ek et stored opened.1 lies_in
+        (ap {B = Result (Span × Parts) Refusal × List ℕ} (λ (o : Result (Span × Parts) Refusal × List ℕ). (o.0, opened.1)) h))
 
-    pub frame_shown : (q : Span) (p : Parts) → ◌≡◌ {A = Entered × List ℕ} (Entered.Body q p, left) (entered_of w t v kind (at + start) (at + start + len) tag work)
-        → (r : Record) (place : ℕ) (in_room : Bool) → place ≡ at - begin → in_room ≡ (t || w) → r ≡ record_of id sh c place in_room q.start q.len p
-        → ◌≡◌ {A = Shown × List ℕ} (Shown.Frame r (at + start + len), left) (frame_in v w begin at end tag work)
-    frame_shown q p h r place in_room ep ew er =
-        frame_in_lem (Shown.Frame r (at + start + len)) opened.1 left (ap (λ (o : Entered × List ℕ). o.1) h)
-        (body_shown v w begin at (slice at end s) (room_of w work) id c f sh start len found.head kind t ek et stored opened.1 lies_in q p
-        (ap {B = Entered × List ℕ} (λ (o : Entered × List ℕ). (o.0, opened.1)) h) r place in_room ep ew er)
+    pub frame_shown : {q : Span} {p : Parts} → ◌≡◌ {A = Result (Span × Parts) Refusal × List ℕ} (Ok (q, p), left) (entered_of w t v kind (at + start) (at + start + len) tag work)
+        → {r : Record} {place : ℕ} {in_room : Bool} → place ≡ at - begin → in_room ≡ (t || w) → r ≡ record_of id sh c place in_room q.start q.len p
+        → ◌≡◌ {A = Shown × List ℕ} (Ok (Some (r, at + start + len)), left) (frame_in v w begin at end tag work)
+    frame_shown {q} {p} h {r} ep ew er =
+        frame_in_lem (Ok (Some (r, at + start + len))) opened.1 left (ap (λ (o : Result (Span × Parts) Refusal × List ℕ). o.1) h)
+        (body_shown v w begin at (slice at end s) (room_of w work) id c f sh start len found.head kind t ek et stored opened.1 lies_in
+        (ap {B = Result (Span × Parts) Refusal × List ℕ} (λ (o : Result (Span × Parts) Refusal × List ℕ). (o.0, opened.1)) h) ep ew er)

@@ -4,7 +4,7 @@ use Rattle.std.proofs.Math.Seq.{slice}
 use Rattle.format.specs.Bytes.{pick}
 use Rattle.format.specs.Walk.{frame_of}
 use Rattle.format.specs.declared.Version.{Version}
-use Rattle.format.specs.declared.Shown.{Shown}
+use Rattle.format.specs.Walk.{Shown}
 
 -- the bytes that they lie in
 abbrev pub source_of : Bool → List ℕ → List ℕ → List ℕ

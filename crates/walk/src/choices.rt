@@ -1,5 +1,5 @@
 // Small choices on a frame's header.
-ghost use Rattle.std.specs.Prelude.{◌≡◌, ◌||◌};
+ghost use Rattle.std.specs.Prelude.{◌≡◌};
 ghost use Rattle.format.specs.Walk.{shown_kind, is_resynced, unfit};
 
 use format::{Kind, Version};
@@ -20,23 +20,12 @@ pub(crate) fn shown_kind(version: Version, id: u32, compressed: bool) -> Kind
 pub(crate) fn is_resynced(compressed: bool, flagged: bool) -> bool
     ensures { result ≡ is_resynced compressed flagged }
 {
-    if flagged { !compressed } else { false }
+    flagged && !compressed
 }
 
 // Whether a writer refuses a frame of a run: one that is short, or flagged.
 pub(crate) fn is_unfit(strict: bool, short: bool, flagged: bool) -> bool
     ensures { result ≡ unfit strict short flagged }
 {
-    if strict {
-        if short { true } else { flagged }
-    } else {
-        false
-    }
-}
-
-// Whether one of two holds.
-pub(crate) fn either(a: bool, b: bool) -> bool
-    ensures { result ≡ (a || b) }
-{
-    if a { true } else { b }
+    strict && (short || flagged)
 }

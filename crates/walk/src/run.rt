@@ -1,14 +1,15 @@
 // The walk through frames and the subframes of chapters.
 ghost use Rattle.std.specs.Prelude.{◌≡◌, ◌+◌, ◌≤◌, ◌<◌, length};
 ghost use Rattle.std.proofs.Math.Seq.{slice};
+ghost use Rattle.format.specs.Refusals.{passed_with};
 ghost use Rattle.format.specs.Walk.{body_of, walked};
 ghost use Rattle.walk.specs.Areas.{inside_in, body_in, in_area};
 
-use crate::inside::{Inside, look};
-use crate::steps::{Way, step_at};
-use format::small::least;
+use crate::inside::look;
+use crate::steps::{Body, step_at};
+use format::refusals::Refusal;
 use format::{Kind, Version};
-use unsynch::{Put, resync_in, resync_into};
+use unsynch::{resync_in, resync_into};
 
 // A body area[from..to] as it is shown; what lies from split on is the room.
 #[cycle(body_in_shown_in_walk_in)]
@@ -21,17 +22,16 @@ fn shown_in(
     version: Version,
     strict: bool,
     depth: u8,
-) -> u8
+) -> Result<(), Refusal>
     requires { (from ≤ to) × (to ≤ split) × (split ≤ length area.old) × (depth < 9) }
-    ensures { (result, area.new) ≡ inside_in (walked strict version (depth + 1)) kind (slice from to area.old) split area.old }
+    ensures { (result, area.new) ≡ passed_with (inside_in (walked strict version (depth + 1)) kind (slice from to area.old) split area.old) }
 {
-    match look(kind, &area[..], from, to) {
-        Inside::Refused(k) => k,
-        Inside::Run(at) => walk_in(area, at, to, split, version, strict, depth + 1),
-    }
+    let at = look(kind, area, from, to)?;
+    walk_in(area, at, to, split, version, strict, depth + 1)
 }
 
 // A body area[from..to] as it is stored: one that is resynchronised lies at the front of the room then, and the rest of the room is after it.
+// Kept: a twin of body, as walk_in is of walk.
 #[cycle(body_in_shown_in_walk_in)]
 fn body_in(
     area: &mut [u8],
@@ -43,21 +43,20 @@ fn body_in(
     version: Version,
     strict: bool,
     depth: u8,
-) -> u8
+) -> Result<(), Refusal>
     requires { (from ≤ to) × (to ≤ split) × (split ≤ length area.old) × (depth < 9) }
-    ensures { (result, area.new) ≡ body_in resynced (walked strict version (depth + 1)) kind (slice from to area.old) split area.old }
+    ensures { (result, area.new) ≡ passed_with (body_in resynced (walked strict version (depth + 1)) kind (slice from to area.old) split area.old) }
 {
     if resynced {
-        match resync_in(area, from, to, split) {
-            Put::Refused(k) => k,
-            Put::Bytes(n) => shown_in(&mut area[split..], 0, n, n, kind, version, strict, depth),
-        }
+        let n = resync_in(area, from, to, split)?;
+        shown_in(&mut area[split..], 0, n, n, kind, version, strict, depth)
     } else {
         shown_in(area, from, to, split, kind, version, strict, depth)
     }
 }
 
 // Walks the frames of area[from..to], of what lies before split; the room is what lies from split on.
+// Kept: a twin of walk: here frames and room are parts of one area (fixed memory), which can't be lent twice at once.
 #[cycle(body_in_shown_in_walk_in)]
 pub(crate) fn walk_in(
     area: &mut [u8],
@@ -67,31 +66,27 @@ pub(crate) fn walk_in(
     version: Version,
     strict: bool,
     depth: u8,
-) -> u8
-    ensures { (result, area.new) ≡ in_area strict version depth from to split area.old }
+) -> Result<(), Refusal>
+    ensures { (result, area.new) ≡ passed_with (in_area strict version depth from to split area.old) }
 {
-    let mid = least(split, area.len());
-    let end = least(to, mid);
+    let mid = split.min(area.len());
+    let end = to.min(mid);
     let mut at = from;
-    loop {
-        match step_at(&area[..], at, end, version, strict, depth) {
-            Way::Stop(k) => return k,
-            Way::Body {
-                kind,
-                resynced,
-                start,
-                stop,
-            } => {
-                let r = body_in(
-                    area, start, stop, mid, kind, resynced, version, strict, depth,
-                );
-                if r != 0 {
-                    return r;
-                }
-                at = stop;
-            }
-        }
+    while let Some(
+        Body {
+            kind,
+            resynced,
+            start,
+            stop,
+        },
+    ) = step_at(area, at, end, version, strict, depth)?
+    {
+        body_in(
+            area, start, stop, mid, kind, resynced, version, strict, depth,
+        )?;
+        at = stop;
     }
+    Ok(())
 }
 
 // A body s[from..to] as it is stored: one that is resynchronised lies at the front of the room then, and the rest of the room is after it.
@@ -106,19 +101,16 @@ pub(crate) fn body(
     version: Version,
     strict: bool,
     depth: u8,
-) -> u8
+) -> Result<(), Refusal>
     requires { (from ≤ to) × (to ≤ length s.now) × (depth < 9) }
-    ensures { (result, room.new) ≡ body_of resynced (walked strict version (depth + 1)) kind (slice from to s.now) room.old }
+    ensures { (result, room.new) ≡ passed_with (body_of resynced (walked strict version (depth + 1)) kind (slice from to s.now) room.old) }
 {
     if resynced {
-        match resync_into(room, s, from, to) {
-            Put::Refused(k) => return k,
-            Put::Bytes(n) => return shown_in(room, 0, n, n, kind, version, strict, depth),
-        }
-    }
-    match look(kind, s, from, to) {
-        Inside::Refused(k) => k,
-        Inside::Run(at) => walk(room, s, at, to, version, strict, depth + 1),
+        let n = resync_into(room, s, from, to)?;
+        shown_in(room, 0, n, n, kind, version, strict, depth)
+    } else {
+        let at = look(kind, s, from, to)?;
+        walk(room, s, at, to, version, strict, depth + 1)
     }
 }
 
@@ -132,26 +124,22 @@ pub fn walk(
     version: Version,
     strict: bool,
     depth: u8,
-) -> u8
-    ensures { (result, room.new) ≡ walked strict version depth (slice from to s.now) room.old }
+) -> Result<(), Refusal>
+    ensures { (result, room.new) ≡ passed_with (walked strict version depth (slice from to s.now) room.old) }
 {
-    let end = least(to, s.len());
+    let end = to.min(s.len());
     let mut at = from;
-    loop {
-        match step_at(s, at, end, version, strict, depth) {
-            Way::Stop(k) => return k,
-            Way::Body {
-                kind,
-                resynced,
-                start,
-                stop,
-            } => {
-                let r = body(room, s, start, stop, kind, resynced, version, strict, depth);
-                if r != 0 {
-                    return r;
-                }
-                at = stop;
-            }
-        }
+    while let Some(
+        Body {
+            kind,
+            resynced,
+            start,
+            stop,
+        },
+    ) = step_at(s, at, end, version, strict, depth)?
+    {
+        body(room, s, start, stop, kind, resynced, version, strict, depth)?;
+        at = stop;
     }
+    Ok(())
 }

@@ -1,5 +1,5 @@
 -- Adding, in the steps that the code makes: each of its answers. Assumes nothing.
-use mathlib.Core.Path.{◌≡◌, sym, ◌∙◌}
+use mathlib.Core.Path.{◌≡◌, sym, ap, ◌∙◌}
 use Prim.Native.Nat.{ℕ, ◌+◌, ◌≤◌}
 use mathlib.Core.Bool.{Bool, true, false}
 use mathlib.Core.List.{List}
@@ -14,9 +14,13 @@ use Rattle.format.specs.Encode.{record_checks, size_checks, is_lost, refusal_of,
 use Rattle.format.proofs.Encoded.{encode_length}
 use Rattle.writer.specs.Writer.{Adding, append_of, add_of}
 use Rattle.writer.specs.declared.Writer.{Writer}
-use Rattle.writer.specs.declared.Added.{Added}
-use Rattle.checks.proofs.Firsts.{refused, passed, only}
+use Rattle.checks.proofs.Firsts.{only}
+use Rattle.checks.proofs.Firsts.{passed as first_passed}
+use Rattle.checks.proofs.Passed.{Answer, sound, unsound, stop}
 use Rattle.checks.proofs.Order.{with_size}
+use Rattle.std.specs.Prelude.{Ok, Err}
+use Rattle.format.specs.declared.refusals.Refusal.{Refusal}
+use Rattle.format.specs.Refusals.{refusal, passed}
 
 module _ (w : Writer) (r : Rec) (b : List ℕ) where
   abbrev lost : Bool
@@ -25,35 +29,34 @@ module _ (w : Writer) (r : Rec) (b : List ℕ) where
   abbrev sized : ℕ
   sized = first (size_checks w.version w.mode r)
 
-  abbrev refusal : ℕ
-  refusal = refusal_of w.version w.mode w.altered r
+  abbrev number : ℕ
+  number = refusal_of w.version w.mode w.altered r
 
   -- a refusal
-  declined : (k : ℕ) → k ≡ refusal → (k ≡ 0 → ⊥) → ◌≡◌ {A = Adding} (Added.Refused k w, b) (add_of w r b)
+  declined : {e : Refusal} → ◌≡◌ {A = Answer} (Err e) (passed number) → ◌≡◌ {A = Adding} ((Err e, w), b) (add_of w r b)
   unfolding add_of
-  declined k e ne = rw (← e, ne_eqb k 0 ne)
+  declined {e} is = let u = unsound number is in rw (u.1, ne_eqb number 0 u.0)
+
+  -- one down to 34
+  pub refused : {e : Refusal} → ◌≡◌ {A = Answer} (Err e) (passed (first (record_checks w.version r))) → ◌≡◌ {A = Adding} ((Err e, w), b) (add_of w r b)
+  refused is = declined (stop _ _ is ∙ ap passed (sym (with_size w.version w.mode w.altered r)))
 
   -- none down to 34
-  module _ (good : first (record_checks w.version r) ≡ 0) where
-    behind_them : refusal ≡ pick lost 0 sized
-    behind_them = with_size w.version w.mode w.altered r ∙ passed _ _ good ∙ only _
+  module _ (good : ◌≡◌ {A = Answer} (Ok tt) (passed (first (record_checks w.version r)))) where
+    behind_them : number ≡ pick lost 0 sized
+    behind_them = with_size w.version w.mode w.altered r ∙ first_passed _ _ (sound _ good) ∙ only _
 
-    pub skipped : is_lost w.version w.altered r.id ≡ true → ◌≡◌ {A = Adding} (Added.Accepted 0 w, b) (add_of w r b)
+    pub skipped : is_lost w.version w.altered r.id ≡ true → ◌≡◌ {A = Adding} ((Ok 0, w), b) (add_of w r b)
     unfolding add_of
     skipped t = rw (behind_them, t)
 
     module _ (kept : is_lost w.version w.altered r.id ≡ false) where
-      pub too_long_lem : (k : ℕ) → k ≡ first (size_checks w.version w.mode r) → (k ≡ 0 → ⊥) → ◌≡◌ {A = Adding} (Added.Refused k w, b) (add_of w r b)
-      too_long_lem k e ne = declined k (rw (behind_them, kept) e) ne
+      pub too_long : {e : Refusal} → ◌≡◌ {A = Answer} (Err e) (passed (first (size_checks w.version w.mode r))) → ◌≡◌ {A = Adding} ((Err e, w), b) (add_of w r b)
+      too_long is = declined (is ∙ ap passed (sym (rw kept at behind_them)))
 
-      pub appended : first (size_checks w.version w.mode r) ≡ 0 → append_of w (encode w.version w.mode r) b ≡ add_of w r b
+      pub appended : ◌≡◌ {A = Answer} (Ok tt) (passed (first (size_checks w.version w.mode r))) → append_of w (encode w.version w.mode r) b ≡ add_of w r b
       unfolding add_of
-      appended z = rw (behind_them, kept, z)
-
-  -- one down to 34
-  pub unsound : (k : ℕ) → k ≡ first (record_checks w.version r) → (k ≡ 0 → ⊥) → ◌≡◌ {A = Adding} (Added.Refused k w, b) (add_of w r b)
-  unsound k e ne =
-      declined k (sym (with_size w.version w.mode w.altered r ∙ rw (← e) (refused k _ ne))) ne
+      appended is = rw (behind_them, kept, sound _ is)
 
 -- ---- the room
 
@@ -69,13 +72,13 @@ module _ (w : Writer) (r : Rec) (b : List ℕ) {head size : ℕ} {full : Bool} (
   is_full : full ≡ ltb (length b) (w.used + length frame)
   is_full = ef ∙ rw whole
 
-  pub no_room : full ≡ true → ◌≡◌ {A = Adding} (Added.Refused 20 w, b) (append_of w (encode w.version w.mode r) b)
+  pub no_room : full ≡ true → ◌≡◌ {A = Adding} ((Err (refusal 20), w), b) (append_of w (encode w.version w.mode r) b)
   no_room t = rw (← is_full, t)
 
   pub room : full ≡ false → w.used + length (encode w.version w.mode r) ≤ length b
   room t = ltb-false _ _ (sym is_full ∙ t)
 
   pub put_behind : {used : ℕ} {b' : List ℕ} → full ≡ false → used ≡ w.used + length (encode w.version w.mode r) → b' ≡ sets b w.used (encode w.version w.mode r)
-      → ◌≡◌ {A = Adding} (Added.Accepted (head + size) (record { version = w.version; mode = w.mode; altered = w.altered; used = used }), b')
+      → ◌≡◌ {A = Adding} ((Ok (head + size), record { version = w.version; mode = w.mode; altered = w.altered; used = used }), b')
       (append_of w (encode w.version w.mode r) b)
   put_behind t eu eb = rw (← is_full, t, eu, eb, whole)

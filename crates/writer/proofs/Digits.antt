@@ -1,55 +1,42 @@
--- Laws of bytes that the code makes by shifts, of synchsafe words, and of a counter's bytes. Assumes nothing.
+-- Laws of powers, of synchsafe words, and of a counter's bytes. Assumes nothing.
 use mathlib.Core.Path.{◌≡◌, refl, sym, ap, ◌∙◌}
 use Prim.Native.Nat.{ℕ, zero, suc, ◌+◌, ◌-◌, ◌*◌, ◌/◌, ◌%◌, ◌^◌, ◌≤◌, ◌<◌}
 use native.Mathlib.Nat.{pow-zero, pow-suc, pow-succ', mul-zero, mul-suc, mul_assoc, div-eq_of_lt, zero-div, mul-add-div_right, mul-add-mod_self_right, div-div-eq-div-mul, one-le-pow, le-div_iff_mul-le, div-lt_iff_lt-mul}
 use native.Mathlib.Omega.{arith}
 use borrow.Author.Tests.{lt-ltb}
-use mathlib.Core.List.{List, [], ◌∷◌, ◌++◌}
+use mathlib.Core.List.{List, ◌∷◌, ◌++◌}
 use lib.ListN.{length}
 use lib.Pow.{pow-add, pow_mono}
+use Rattle.std.specs.Int.{div_ceil}
 use lib.Count.{count_leading_zeros, leading_le, leading_length}
 use Rattle.format.specs.Numbers.{digits, bytes_of, number, synchsafe}
 use Rattle.format.specs.Popularimeter.{stripped, counter_bytes}
 use Rattle.format.proofs.Numbers.{length_digits, digits_onto, synchsafe_below}
 use Rattle.unsynch.specs.Puts.{encoded_of}
-use Rattle.unsynch.specs.declared.Encoded.{Encoded}
+use Rattle.std.specs.Prelude.{Result, Ok}
+use Rattle.std.specs.Result.{result_unwrap_or}
+use Rattle.format.specs.declared.refusals.Refusal.{Refusal}
 
--- ---- bytes, by shifts
+-- ---- powers of powers of two
 
-pub pow_pow : (b k : ℕ) → (2 ^ b) ^ k ≡ 2 ^ (b * k)
+pow_pow : (b k : ℕ) → (2 ^ b) ^ k ≡ 2 ^ (b * k)
 pow_pow b zero = pow-zero (2 ^ b) ∙ ap (λ (j : ℕ). 2 ^ j) (sym (mul-zero b))
 pow_pow b (suc k) =
     let e : b * k + b ≡ b * suc k = omega (arith, mul-suc b k) in
     pow-suc (2 ^ b) k ∙ ap (λ (x : ℕ). x * 2 ^ b) (pow_pow b k) ∙ sym (pow-add 2 (b * k) b) ∙ ap (λ (j : ℕ). 2 ^ j) e
 
-pub bytes_first : (k n : ℕ) → 0 < k → bytes_of k n ≡ n / 2 ^ (8 * (k - 1)) % 256 ∷ bytes_of (k - 1) n
-unfolding digits
-bytes_first zero n h = absurd (omega arith)
-bytes_first (suc k) n h = let e : suc k - 1 ≡ k = omega arith in rw (e, ← pow_pow 8 k)
-
-pub bytes_none : (k n : ℕ) → k ≡ 0 → bytes_of k n ≡ []
-unfolding digits
-bytes_none zero n h = refl
-bytes_none (suc k) n h = absurd (omega arith)
-
 -- ---- the word of a synchsafe number, as it was encoded
 
-module _ (n : ℕ) (h : n < 2 ^ 28) {r : Encoded} (e : r ≡ encoded_of n) where
-  encoded : r ≡ Encoded.Word (number (synchsafe n))
+module _ (n : ℕ) (h : n < 2 ^ 28) {r : Result ℕ Refusal} (e : r ≡ encoded_of n) where
+  encoded : r ≡ Ok (number (synchsafe n))
   encoded = e ∙ rw (lt-ltb n (2 ^ 28) h)
 
-  pub word_bytes : {w : ℕ} → r ≡ Encoded.Word w → bytes_of 4 w ≡ synchsafe n
+  pub word_bytes : {w : ℕ} → w ≡ result_unwrap_or r 0 → bytes_of 4 w ≡ synchsafe n
   word_bytes {w} is =
-      let g : Encoded.Word w ≡ Encoded.Word (number (synchsafe n)) = sym is ∙ encoded in
-      let f : w ≡ number (synchsafe n) = cc in
+      let f : w ≡ number (synchsafe n) = is ∙ ap (λ (z : Result ℕ Refusal). result_unwrap_or z 0) encoded in
       ap (bytes_of 4) f
       ∙ ap (λ (k : ℕ). bytes_of k (number (synchsafe n))) (sym (length_digits 128 4 n))
       ∙ digits_onto 256 (omega arith) 0 (synchsafe n) (λ i. omega (arith, synchsafe_below n i))
-
-  pub word_given : {k : ℕ} → r ≡ Encoded.Refused k → ⊥
-  word_given {k} is =
-      let g : Encoded.Refused k ≡ Encoded.Word (number (synchsafe n)) = sym is ∙ encoded in
-      (let z : ◌≡◌ {A = ℕ} 0 1 = cc in omega arith)
 
 -- ---- parts of a number's digits
 
@@ -99,8 +86,8 @@ strip_none (suc r) (suc j) n h a t =
     stripped_some (n / 256 ^ r % 256) (bytes_of r n) (omega arith)
 
 -- by the leading zeros
-abbrev pub width_of : ℕ → ℕ
-width_of n = (64 - count_leading_zeros 64 n + 7) / 8
+abbrev width_of : ℕ → ℕ
+width_of n = div_ceil (64 - count_leading_zeros 64 n) 8
 
 module _ (n : ℕ) (h : n < 2 ^ 64) where
   -- a counter's bytes are as many as its highest set bit needs

@@ -8,7 +8,7 @@ use lib.ListN.{length, set, take, drop, length-append, length-take, length-repli
 use lib.Seq.{slice, sets, length-sets, length-take-le, set_comm, take-set-lt, drop-set-lt}
 use lib.Dec.{ltb, leb}
 use borrow.Author.Tests.{le-leb, lt-leb, leb-true, leb-false, lt-ltb, le-ltb, ltb-true, ltb-false}
-use Rattle.laws.proofs.Stores.{Storing, begin, same_list, same_place, put, next_lies, all_done, sets_append}
+use Rattle.laws.proofs.Stores.{sets_append}
 use Rattle.format.specs.Bytes.{pick, zeros, ascii}
 use Rattle.format.specs.Numbers.{digits, bytes_of, synchsafe}
 use Rattle.format.specs.Unsynch.{unsync, unsynchronised}
@@ -20,11 +20,13 @@ use Rattle.format.specs.declared.Mode.{Mode}
 use Rattle.format.specs.declared.Mode.TheVariants.{Off, Crate, Standard}
 use Rattle.format.proofs.Unsynch.{unsync_off, unsync_length}
 use Rattle.unsynch.specs.Puts.{Out, placed_of}
-use Rattle.unsynch.specs.declared.Put.{Put}
 use Rattle.writer.specs.Writer.{Finishing, finish_of}
 use Rattle.writer.specs.Finishes.{whole_mode, header_bytes, frames_put}
 use Rattle.writer.specs.declared.Writer.{Writer}
-use Rattle.writer.specs.declared.Finished.{Finished}
+use Rattle.std.specs.Prelude.{Result, Ok, Err}
+use Rattle.format.specs.declared.refusals.Refusal.{Refusal}
+use Rattle.laws.proofs.Results.{ok_same, ok_not_err, err_not_ok}
+use Rattle.format.specs.Refusals.{refusal}
 
 -- ---- the region
 
@@ -37,7 +39,7 @@ whole_by_lem Id3v24 m frames = unsync_off false frames
 pub whole_is : (v : Version) (m : Mode) {mode : Mode} → mode ≡ whole_mode v m → (frames : List ℕ) → unsynchronised mode frames ≡ whole_of v m frames
 whole_is v m e frames = rw e (whole_by_lem v m frames)
 
-pub region_length : (v : Version) (m : Mode) (padding : ℕ) (frames : List ℕ)
+region_length : (v : Version) (m : Mode) (padding : ℕ) (frames : List ℕ)
     → length (region_bytes v m padding frames) ≡ length (whole_of v m frames) + padding
 region_length v m padding frames =
     length-append (whole_of v m frames) (zeros padding) ∙ ap (λ (k : ℕ). length (whole_of v m frames) + k) (length-replicate padding 0)
@@ -47,16 +49,13 @@ unfolding unsync
 twice m [] = omega arith
 twice m (x ∷ s) = omega (arith, unsync_length m (x ∷ s) (omega arith))
 
--- whether it is too long: by the padding alone, by the padding and twice the frames, by a count
+-- whether it is too long: by the padding and twice the frames, or by a count
 module _ (v : Version) (m : Mode) (padding used : ℕ) (buffer : List ℕ) where
   abbrev frames : List ℕ
   frames = take used buffer
 
   abbrev size : ℕ
   size = length (region_bytes v m padding frames)
-
-  pub long_padding : 2 ^ 28 ≤ padding → true ≡ leb (2 ^ 28) size
-  long_padding h = sym (le-leb (2 ^ 28) size (omega (arith, region_length v m padding frames)))
 
   pub short_frames : padding < 2 ^ 28 → used ≤ (2 ^ 28 - padding) / 2 → false ≡ leb (2 ^ 28) size
   short_frames h g =
@@ -88,10 +87,7 @@ sets_front r o p (x ∷ l) h =
     ∙ sets_front r (set o p x) (suc p) l (omega arith)
 
 module _ (u o : List ℕ) (padding : ℕ) where
-  pub no_padding : length o < padding → (Put.Refused 20, o) ≡ frames_put u padding o
-  no_padding h = rw (lt-ltb (length o) (10 + (length u + padding)) (omega arith))
-
-  pub in_front : {room : ℕ} → padding ≤ length o → room ≡ length o - padding → {r : Put} {p : List ℕ} → ◌≡◌ {A = Out} (r, p) (placed_of u 10 (take room o))
+  pub in_front : {room : ℕ} → padding ≤ length o → room ≡ length o - padding → {r : Result ℕ Refusal} {p : List ℕ} → ◌≡◌ {A = Out} (r, p) (placed_of u 10 (take room o))
       → ◌≡◌ {A = Out} (r, p ++ drop room o) (frames_put u padding o)
   in_front {room} le is {r} {p} e =
       ap {B = Out} (λ (z : Out). (z.0, z.1 ++ drop room o)) e ∙ on_room (ltb (length o) (10 + (length u + padding))) refl
@@ -101,33 +97,11 @@ module _ (u o : List ℕ) (padding : ℕ) where
 
       on_room : (t : Bool) → ltb (length o) (10 + (length u + padding)) ≡ t
           → ◌≡◌ {A = Out} ((placed_of u 10 (take room o)).0, (placed_of u 10 (take room o)).1 ++ drop room o)
-          (pick t (Put.Refused 20, o) (Put.Bytes (length u), sets o 10 u))
+          (pick t (Err (refusal 20), o) (Ok (length u), sets o 10 u))
       on_room true f = rw (lt-ltb (length (take room o)) (10 + length u) (omega (arith, long, ltb-true (length o) (10 + (length u + padding)) f)), take-append-drop)
       on_room false f =
           let g : 10 + length u ≤ room = omega (arith, ltb-false (length o) (10 + (length u + padding)) f) in
           rw (le-ltb (length (take room o)) (10 + length u) (omega (arith, long)), sets_front room o 10 u g)
-
--- ---- the padding, in a loop
-
-zeros_next : (n i : ℕ) → i < n → zeros (n - i) ≡ 0 ∷ zeros (n - (i + 1))
-zeros_next n i h = let e : n - i ≡ suc (n - (i + 1)) = omega arith in ap zeros e
-
-module _ {o₀ o : List ℕ} (p n : ℕ) {l₀ : List ℕ} where
-  pub zero_turn : (i : ℕ) → i < n → Storing o₀ p l₀ o (p + i) (zeros (n - i))
-      → (p + i < length o) × Storing o₀ p l₀ (set o (p + i) 0) (p + (i + 1)) (zeros (n - (i + 1)))
-  zero_turn i h s =
-      let t = same_list (zeros_next n i h) s in
-      let e : p + i + 1 ≡ p + (i + 1) = omega arith in
-      (next_lies t, same_place e (put t))
-
-  pub zeros_done : (i : ℕ) → n ≤ i → Storing o₀ p l₀ o (p + i) (zeros (n - i)) → o ≡ sets o₀ p l₀
-  zeros_done i h s = let e : n - i ≡ 0 = omega arith in (all_done (same_list (ap zeros e) s)).1
-
-pub zeros_begin : (o : List ℕ) (p n : ℕ) → p + n ≤ length o → Storing o p (zeros n) o (p + 0) (zeros (n - 0))
-zeros_begin o p n h =
-    let e : p ≡ p + 0 = omega arith in
-    let f : n ≡ n - 0 = omega arith in
-    same_place e (same_list (ap zeros f) (begin o p (zeros n) (omega (arith, length-replicate {A = ℕ} n 0))))
 
 -- ---- the header
 
@@ -184,7 +158,7 @@ tag_length v m padding frames =
     ∙ omega (arith, header_length v m (length u + padding), region_length v m padding frames)
 
 -- the frames are put, or refused for want of room
-module _ (v : Version) (m : Mode) (padding : ℕ) (frames o : List ℕ) {r : Put} {o₁ : List ℕ} (e : ◌≡◌ {A = Out} (r, o₁) (frames_put (whole_of v m frames) padding o)) where
+module _ (v : Version) (m : Mode) (padding : ℕ) (frames o : List ℕ) {r : Result ℕ Refusal} {o₁ : List ℕ} (e : ◌≡◌ {A = Out} (r, o₁) (frames_put (whole_of v m frames) padding o)) where
   abbrev u : List ℕ
   u = whole_of v m frames
 
@@ -192,20 +166,18 @@ module _ (v : Version) (m : Mode) (padding : ℕ) (frames o : List ℕ) {r : Put
   tag = tag_of v m padding frames
 
   -- the same test decides
-  placed : placed_of tag 0 o ≡ pick (ltb (length o) (10 + (length u + padding))) (Put.Refused 20, o) (Put.Bytes (10 + (length u + padding)), sets o 0 tag)
+  placed : placed_of tag 0 o ≡ pick (ltb (length o) (10 + (length u + padding))) (Err (refusal 20), o) (Ok (10 + (length u + padding)), sets o 0 tag)
   placed =
       let n : 0 + length tag ≡ 10 + (length u + padding) = omega (arith, tag_length v m padding frames) in
       rw (n, tag_length v m padding frames)
 
-  pub tag_refused : {k : ℕ} → r ≡ Put.Refused k → ◌≡◌ {A = Out} (Put.Refused k, o₁) (placed_of tag 0 o)
+  pub tag_refused : {k : Refusal} → r ≡ Err k → ◌≡◌ {A = Out} (Err k, o₁) (placed_of tag 0 o)
   tag_refused {k} er = on_room (ltb (length o) (10 + (length u + padding))) e ∙ sym placed
     where
-      on_room : (t : Bool) → ◌≡◌ {A = Out} (r, o₁) (pick t (Put.Refused 20, o) (Put.Bytes (length u), sets o 10 u))
-          → ◌≡◌ {A = Out} (Put.Refused k, o₁) (pick t (Put.Refused 20, o) (Put.Bytes (10 + (length u + padding)), sets o 0 tag))
-      on_room true f = ap {B = Out} (λ (q : Put). (q, o₁)) (sym er) ∙ f
-      on_room false f =
-          let g : Put.Refused k ≡ Put.Bytes (length u) = sym er ∙ ap (λ (z : Out). z.0) f in
-          absurd (let z : ◌≡◌ {A = ℕ} 0 1 = cc in omega arith)
+      on_room : (t : Bool) → ◌≡◌ {A = Out} (r, o₁) (pick t (Err (refusal 20), o) (Ok (length u), sets o 10 u))
+          → ◌≡◌ {A = Out} (Err k, o₁) (pick t (Err (refusal 20), o) (Ok (10 + (length u + padding)), sets o 0 tag))
+      on_room true f = ap {B = Out} (λ (q : Result ℕ Refusal). (q, o₁)) (sym er) ∙ f
+      on_room false f = err_not_ok (sym er ∙ ap (λ (z : Out). z.0) f)
 
   -- they are put: how many bytes they are, what the output holds, and that there is room for all
   pub record Frames (n : ℕ) : Type 0 where
@@ -214,20 +186,17 @@ module _ (v : Version) (m : Mode) (padding : ℕ) (frames o : List ℕ) {r : Put
     pub long : length o₁ ≡ length o
     pub room : 10 + (length u + padding) ≤ length o
 
-  pub tag_frames : {n : ℕ} → r ≡ Put.Bytes n → Frames n
+  pub tag_frames : {n : ℕ} → r ≡ Ok n → Frames n
   tag_frames {n} er = on_room (ltb (length o) (10 + (length u + padding))) refl e
     where
-      on_room : (t : Bool) → ltb (length o) (10 + (length u + padding)) ≡ t → ◌≡◌ {A = Out} (r, o₁) (pick t (Put.Refused 20, o) (Put.Bytes (length u), sets o 10 u)) → Frames n
-      on_room true et f =
-          let g : Put.Bytes n ≡ Put.Refused 20 = sym er ∙ ap (λ (z : Out). z.0) f in
-          absurd (let z : ◌≡◌ {A = ℕ} 0 1 = cc in omega arith)
+      on_room : (t : Bool) → ltb (length o) (10 + (length u + padding)) ≡ t → ◌≡◌ {A = Out} (r, o₁) (pick t (Err (refusal 20), o) (Ok (length u), sets o 10 u)) → Frames n
+      on_room true et f = ok_not_err (sym er ∙ ap (λ (z : Out). z.0) f)
       on_room false et f =
-          let g : Put.Bytes n ≡ Put.Bytes (length u) = sym er ∙ ap (λ (z : Out). z.0) f in
           let h : o₁ ≡ sets o 10 u = ap (λ (z : Out). z.1) f in
-          record { many = cc; holds = h; long = ap length h ∙ length-sets o 10 u; room = ltb-false (length o) (10 + (length u + padding)) et }
+          record { many = ok_same (sym er ∙ ap (λ (z : Out). z.0) f); holds = h; long = ap length h ∙ length-sets o 10 u; room = ltb-false (length o) (10 + (length u + padding)) et }
 
   pub tag_put : {n : ℕ} → Frames n → {o₂ o₃ : List ℕ} → o₂ ≡ sets o₁ (10 + n) (zeros padding) → o₃ ≡ sets o₂ 0 (header_bytes v m (n + padding))
-      → ◌≡◌ {A = Out} (Put.Bytes (10 + (n + padding)), o₃) (placed_of tag 0 o)
+      → ◌≡◌ {A = Out} (Ok (10 + (n + padding)), o₃) (placed_of tag 0 o)
   tag_put {n} f {o₂} {o₃} e₂ e₃ =
       let h = header_bytes v m (length u + padding) in
       let j : 10 ≡ 0 + length h = omega (arith, header_length v m (length u + padding)) in
@@ -238,11 +207,6 @@ module _ (v : Version) (m : Mode) (padding : ℕ) (frames o : List ℕ) {r : Put
 
 -- ---- finishing
 
--- what was put, as an answer
-as_finished : Writer → Put → Finished
-as_finished w (Put.Bytes n) = Finished.Done n w
-as_finished w (Put.Refused k) = Finished.Refused k w
-
 module _ (w : Writer) (padding : ℕ) (buffer output : List ℕ) where
   abbrev there : List ℕ
   there = take w.used buffer
@@ -251,35 +215,18 @@ module _ (w : Writer) (padding : ℕ) (buffer output : List ℕ) where
   whole_tag = tag_of w.version w.mode padding there
 
   pub finish_long : leb (2 ^ 28) (length (region_bytes w.version w.mode padding there)) ≡ true
-      → ◌≡◌ {A = Finishing} (Finished.Refused 24 w, output) (finish_of w padding buffer output)
+      → ◌≡◌ {A = Finishing} (Err (refusal 24), output) (finish_of w padding buffer output)
   unfolding finish_of
   finish_long e = rw e
 
   module _ (short : leb (2 ^ 28) (length (region_bytes w.version w.mode padding there)) ≡ false) where
-    pub finish_missing : length buffer < w.used → ◌≡◌ {A = Finishing} (Finished.Refused 20 w, output) (finish_of w padding buffer output)
+    pub finish_missing : length buffer < w.used → ◌≡◌ {A = Finishing} (Err (refusal 20), output) (finish_of w padding buffer output)
     unfolding finish_of
     finish_missing h = rw (short, lt-ltb (length buffer) w.used h)
 
     -- the tag is put, or refused for want of room
-    module _ (all : w.used ≤ length buffer) {r : Put} {left : List ℕ} (e : ◌≡◌ {A = Out} (r, left) (placed_of whole_tag 0 output)) where
-      finished : ◌≡◌ {A = Finishing} (as_finished w r, left) (finish_of w padding buffer output)
-      unfolding finish_of as_finished
-      finished =
-          let n : 0 + length whole_tag ≡ length whole_tag = omega arith in
-          ap {B = Finishing} (λ (o : Out). (as_finished w o.0, o.1)) e
-          ∙ rw (short, le-ltb (length buffer) w.used all, n) (on_room (ltb (length output) (length whole_tag)))
-        where
-          on_room : (t : Bool)
-              → ◌≡◌ {A = Finishing}
-              (let o : Out = pick t (Put.Refused 20, output) (Put.Bytes (length whole_tag), sets output 0 whole_tag) in (as_finished w o.0, o.1))
-              (pick t (Finished.Refused 20 w, output) (Finished.Done (length whole_tag) w, sets output 0 whole_tag))
-          on_room true = refl
-          on_room false = refl
-
-      pub finish_done : {n : ℕ} → r ≡ Put.Bytes n → ◌≡◌ {A = Finishing} (Finished.Done n w, left) (finish_of w padding buffer output)
-      unfolding as_finished
-      finish_done is = rw is at finished
-
-      pub finish_full : {k : ℕ} → r ≡ Put.Refused k → ◌≡◌ {A = Finishing} (Finished.Refused k w, left) (finish_of w padding buffer output)
-      unfolding as_finished
-      finish_full is = rw is at finished
+    pub finish_put : w.used ≤ length buffer → placed_of whole_tag 0 output ≡ finish_of w padding buffer output
+    unfolding finish_of
+    finish_put all =
+        let n : 0 + length whole_tag ≡ length whole_tag = omega arith in
+        rw (short, le-ltb (length buffer) w.used all, n)

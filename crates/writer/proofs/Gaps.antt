@@ -2,7 +2,7 @@
 use mathlib.Core.Path.{◌≡◌, sym, ap, ◌∙◌}
 use Prim.Native.Nat.{ℕ, ◌+◌, ◌-◌, ◌≤◌, ◌<◌}
 use native.Mathlib.Omega.{arith}
-use mathlib.Core.Bool.{Bool, true, false}
+use mathlib.Core.Bool.{true, false}
 use mathlib.Core.List.{List, ◌++◌}
 use lib.ListN.{length}
 use lib.Seq.{slice, sets, length-sets}
@@ -18,48 +18,52 @@ use Rattle.format.specs.declared.Version.{Version}
 use Rattle.format.specs.declared.Mode.{Mode}
 use Rattle.format.proofs.Encoded.{encode_length}
 use Rattle.moves.specs.Moves.{shifted}
-use Rattle.writer.specs.declared.Edited.{Edited}
 use Rattle.writer.specs.declared.between.Gap.{Gap}
 use Rattle.writer.specs.Between.{is_ordered, has_room, refitted, refit_of, placed_of}
-use Rattle.checks.proofs.Firsts.{refused, passed, only}
+use Rattle.checks.proofs.Firsts.{only}
+use Rattle.checks.proofs.Firsts.{passed as first_passed}
+use Rattle.checks.proofs.Passed.{Answer, sound, unsound, stop}
 use Rattle.checks.proofs.Order.{with_size}
+use Rattle.std.specs.Prelude.{Result, Ok, Err}
+use Rattle.format.specs.declared.refusals.Refusal.{Refusal}
+use Rattle.format.specs.Refusals.{refusal, passed}
 
 abbrev Edit : Type 0
-Edit = Edited × List ℕ
+Edit = Result Unit Refusal × List ℕ
 
 -- ---- the checks of adding
 
 module _ (v : Version) (g : Gap) (r : Rec) (s : List ℕ) where
-  declined : (k : ℕ) → k ≡ refusal_of v Mode.Off false r → (k ≡ 0 → ⊥) → ◌≡◌ {A = Edit} (Edited.Refused k, s) (placed_of v g r s)
+  declined : {e : Refusal} → ◌≡◌ {A = Answer} (Err e) (passed (refusal_of v Mode.Off false r)) → ◌≡◌ {A = Edit} (Err e, s) (placed_of v g r s)
   unfolding placed_of
-  declined k e ne = rw (← e, ne_eqb k 0 ne)
+  declined is = let u = unsound _ is in rw (u.1, ne_eqb _ 0 u.0)
 
   -- one down to 34
-  pub gap_unsound : (k : ℕ) → k ≡ first (record_checks v r) → (k ≡ 0 → ⊥) → ◌≡◌ {A = Edit} (Edited.Refused k, s) (placed_of v g r s)
-  gap_unsound k e ne = declined k (sym (with_size v Mode.Off false r ∙ rw (← e) (refused k _ ne))) ne
+  pub gap_refused : {e : Refusal} → ◌≡◌ {A = Answer} (Err e) (passed (first (record_checks v r))) → ◌≡◌ {A = Edit} (Err e, s) (placed_of v g r s)
+  gap_refused is = declined (stop _ _ is ∙ ap passed (sym (with_size v Mode.Off false r)))
 
   -- none down to 34
-  module _ (good : first (record_checks v r) ≡ 0) where
+  module _ (good : ◌≡◌ {A = Answer} (Ok tt) (passed (first (record_checks v r)))) where
     behind_them : refusal_of v Mode.Off false r ≡ first (size_checks v Mode.Off r)
-    behind_them = with_size v Mode.Off false r ∙ passed _ _ good ∙ only _
+    behind_them = with_size v Mode.Off false r ∙ first_passed _ _ (sound _ good) ∙ only _
 
-    pub gap_too_long : (k : ℕ) → k ≡ first (size_checks v Mode.Off r) → (k ≡ 0 → ⊥) → ◌≡◌ {A = Edit} (Edited.Refused k, s) (placed_of v g r s)
-    gap_too_long k e ne = declined k (e ∙ sym behind_them) ne
+    pub gap_too_long : {e : Refusal} → ◌≡◌ {A = Answer} (Err e) (passed (first (size_checks v Mode.Off r))) → ◌≡◌ {A = Edit} (Err e, s) (placed_of v g r s)
+    gap_too_long is = declined (is ∙ ap passed (sym behind_them))
 
-    pub gap_refit : first (size_checks v Mode.Off r) ≡ 0 → refit_of g (encode v Mode.Off r) s ≡ placed_of v g r s
+    pub gap_refit : ◌≡◌ {A = Answer} (Ok tt) (passed (first (size_checks v Mode.Off r))) → refit_of g (encode v Mode.Off r) s ≡ placed_of v g r s
     unfolding placed_of
-    gap_refit z = rw (behind_them, z)
+    gap_refit is = rw (behind_them, sound _ is)
 
 -- ---- the places
 
 -- what is known of places in order
-pub record Ordered (g : Gap) (n : ℕ) : Type 0 where
+record Ordered (g : Gap) (n : ℕ) : Type 0 where
   pub low : g.from ≤ g.to
   pub middle : g.to ≤ g.last
   pub high : g.last ≤ g.end
   pub inside : g.end ≤ n
 
-pub ordered : (g : Gap) (n : ℕ) → is_ordered g n ≡ true → Ordered g n
+ordered : (g : Gap) (n : ℕ) → is_ordered g n ≡ true → Ordered g n
 ordered g n e =
     let p = and_true (leb g.from g.to) _ e in
     let q = and_true (leb g.to g.last) _ p.1 in
@@ -71,23 +75,9 @@ ordered g n e =
       inside = leb-true g.end n r.1;
     }
 
-pub low_lost : (g : Gap) (n : ℕ) → g.to < g.from → false ≡ is_ordered g n
-low_lost g n lt = rw (lt-leb g.from g.to lt)
-
-module _ (g : Gap) (n : ℕ) (low : g.from ≤ g.to) where
-  pub middle_lost : g.last < g.to → false ≡ is_ordered g n
-  middle_lost lt = rw (le-leb g.from g.to low, lt-leb g.to g.last lt)
-
-  module _ (middle : g.to ≤ g.last) where
-    pub high_lost : g.end < g.last → false ≡ is_ordered g n
-    high_lost lt = rw (le-leb g.from g.to low, le-leb g.to g.last middle, lt-leb g.last g.end lt)
-
-    pub in_order : {t : Bool} → g.last ≤ g.end → t ≡ leb g.end n → t ≡ is_ordered g n
-    in_order high e = e ∙ rw (le-leb g.from g.to low, le-leb g.to g.last middle, le-leb g.last g.end high)
-
 -- ---- the room
 
-pub disordered : (g : Gap) (frame s : List ℕ) → is_ordered g (length s) ≡ false → ◌≡◌ {A = Edit} (Edited.Refused 20, s) (refit_of g frame s)
+pub disordered : (g : Gap) (frame s : List ℕ) → is_ordered g (length s) ≡ false → ◌≡◌ {A = Edit} (Err (refusal 20), s) (refit_of g frame s)
 unfolding refit_of
 disordered g frame s e = rw e
 
@@ -97,10 +87,10 @@ module _ (v : Version) (g : Gap) (r : Rec) (s : List ℕ) {head size : ℕ} (eh 
   abbrev frame : List ℕ
   frame = encode v Mode.Off r
 
-  pub frame_long : head + size ≡ length (encode v Mode.Off r)
+  frame_long : head + size ≡ length (encode v Mode.Off r)
   frame_long = rw (eh, es) (sym (encode_length v Mode.Off r))
 
-  pub gap_full : (g.end - g.last) + (g.to - g.from) < head + size → ◌≡◌ {A = Edit} (Edited.Refused 20, s) (refit_of g (encode v Mode.Off r) s)
+  pub gap_full : (g.end - g.last) + (g.to - g.from) < head + size → ◌≡◌ {A = Edit} (Err (refusal 20), s) (refit_of g (encode v Mode.Off r) s)
   unfolding refit_of
   gap_full lt =
       let o = ordered g (length s) e in
@@ -127,7 +117,7 @@ module _ (v : Version) (g : Gap) (r : Rec) (s : List ℕ) {head size : ℕ} (eh 
         omega (arith, frame_long, o.low, o.middle, o.high, o.inside, room, ap length (is ∙ movable), length-sets s (g.from + (head + size)) behind)
 
     pub gap_done : {moved left : List ℕ} → moved ≡ shifted g.to g.last (g.from + (head + size)) s → left ≡ sets moved g.from (encode v Mode.Off r)
-        → ◌≡◌ {A = Edit} (Edited.Done, left) (refit_of g (encode v Mode.Off r) s)
+        → ◌≡◌ {A = Edit} (Ok tt, left) (refit_of g (encode v Mode.Off r) s)
     unfolding refit_of refitted
     gap_done {moved} {left} is put =
         let o = ordered g (length s) e in

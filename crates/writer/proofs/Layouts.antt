@@ -3,13 +3,11 @@ use mathlib.Core.Path.{◌≡◌, refl, sym}
 use Prim.Native.Nat.{ℕ, ◌%◌, ◌^◌, ◌≤◌}
 use native.Mathlib.Omega.{arith}
 use mathlib.Core.Bool.{◌&&◌}
-use mathlib.Core.List.{List, [], ◌∷◌, ◌++◌, append-nil, append_assoc}
+use mathlib.Core.List.{List, [], ◌++◌, append-nil, append_assoc}
 use lib.ListN.{length, take}
 use lib.Seq.{take-length}
 use lib.Dec.{eqb, leb, ltb}
 use borrow.Author.Tests.{eqb-true, leb-true}
-use denote.Enum.Declared.{tag_of}
-use types.Run.{OneOf, miss}
 use Rattle.laws.proofs.Bools.{and_true}
 use Rattle.format.specs.Bytes.{first, zeros_in}
 use Rattle.format.specs.Popularimeter.{counter_bytes}
@@ -18,8 +16,10 @@ use Rattle.format.specs.Record.{Content, text, popularimeter, table, chapter, co
 use Rattle.format.specs.Encode.{last_or, children_check, table_checks, deviation_checks, record_checks, body_bytes}
 use Rattle.format.specs.declared.Version.{Version}
 use Rattle.format.specs.declared.Fields.{Fields}
-use Rattle.format.specs.contracts.Fields.{the_type}
 use Rattle.format.proofs.Checks.{none_of, none_else, first_none, first_append}
+use Rattle.std.specs.Prelude.{Ok}
+use Rattle.format.specs.Refusals.{passed}
+use Rattle.checks.proofs.Passed.{Answer, sound}
 use Rattle.writer.specs.Layouts.{layout_of, Puttable, used_of, packed_of}
 use Rattle.writer.specs.declared.bodies.Used.{Used}
 
@@ -53,8 +53,9 @@ checked (contents element t o children run) h z = leb-true _ _ (and_true (leb (z
 checked (raw body) h t = tt
 
 -- A record that passed its checks down to 34 can be put.
-pub puttable : (v : Version) (r : Rec) → first (record_checks v r) ≡ 0 → Puttable r.content
-puttable v r h =
+pub puttable : (v : Version) (r : Rec) → ◌≡◌ {A = Answer} (Ok tt) (passed (first (record_checks v r))) → Puttable r.content
+puttable v r good =
+    let h = sound _ good in
     let h28 = none_of (record_checks v r) h 5 in
     let h21 = first_none _ _ h in
     let h25 = first_none _ _ h21.1 in
@@ -126,10 +127,10 @@ module _ (name names rest ds : List ℕ) where
   references_puttable Fields.Raw p = tt
 
 -- no other kind than a table has references
-pub no_references : (fields : Fields) (ds : List ℕ) → OneOf (0 ∷ 1 ∷ 3 ∷ 4 ∷ 5 ∷ []) (tag_of the_type fields) → packed_of fields ds ≡ []
-no_references (Fields.Text e) ds k = refl
-no_references (Fields.Popularimeter r c) ds k = refl
-no_references (Fields.Table f b m v w) ds k = absurd (miss (0 ∷ 1 ∷ 3 ∷ 4 ∷ 5 ∷ []) 2 tt k)
-no_references (Fields.Chapter a b c d) ds k = refl
-no_references (Fields.Contents t o) ds k = refl
-no_references Fields.Raw ds k = refl
+pub no_references : (fields : Fields) (ds : List ℕ) → ((f b m v w : ℕ) → fields ≡ Fields.Table f b m v w → ⊥) → packed_of fields ds ≡ []
+no_references (Fields.Text e) ds other = refl
+no_references (Fields.Popularimeter r c) ds other = refl
+no_references (Fields.Table f b m v w) ds other = absurd (other f b m v w refl)
+no_references (Fields.Chapter a b c d) ds other = refl
+no_references (Fields.Contents t o) ds other = refl
+no_references Fields.Raw ds other = refl

@@ -12,6 +12,9 @@ use Rattle.format.specs.declared.Version.{Version}
 use Rattle.format.specs.declared.Version.TheVariants.{Id3v22, Id3v23, Id3v24}
 use Rattle.format.specs.declared.Mode.{Mode}
 use Rattle.format.proofs.Checks.{none_refused, first_none}
+use Rattle.std.specs.Prelude.{Ok}
+use Rattle.format.specs.Refusals.{passed}
+use Rattle.checks.proofs.Passed.{Answer, sound}
 use Rattle.checks.specs.Sizes.{size_refusal}
 use Rattle.writer.specs.Pens.{Sized}
 
@@ -41,6 +44,6 @@ small_size Id3v22 n e = omega (arith, leb-false (2 ^ 24) n (none_refused _ 22 (f
 small_size Id3v23 n e = omega (arith, leb-false (2 ^ 28) n (none_refused _ 23 (first_none _ _ e).0))
 small_size Id3v24 n e = omega (arith, leb-false (2 ^ 28) n (none_refused _ 23 (first_none _ _ e).0))
 
-pub exact_size : (v : Version) (n exact : ℕ) → Sized exact n → size_refusal v n ≡ 0 → (n ≡ exact) × (n < 2 ^ 28)
-exact_size v n exact (inl e) z = (e, small_size v n z)
-exact_size v n exact (inr h) z = absurd (omega (arith, small_size v n z))
+pub exact_size : (v : Version) (n exact : ℕ) → Sized exact n → ◌≡◌ {A = Answer} (Ok tt) (passed (size_refusal v n)) → (n ≡ exact) × (n < 2 ^ 28)
+exact_size v n exact (inl e) good = (e, small_size v n (sound _ good))
+exact_size v n exact (inr h) good = absurd (omega (arith, small_size v n (sound _ good)))

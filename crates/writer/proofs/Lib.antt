@@ -8,6 +8,7 @@ pub mod Digits
 pub mod Layouts
 pub mod Smalls
 pub mod Packs
+pub mod Parts
 pub mod Heads
 pub mod Finishes
 pub mod Gaps

@@ -1,7 +1,7 @@
 -- Laws of packing a table's references a byte at a time. Assumes nothing.
 use mathlib.Core.Path.{◌≡◌, refl, sym, ap, ◌∙◌}
 use Prim.Native.Nat.{ℕ, zero, suc, ◌+◌, ◌-◌, ◌*◌, ◌/◌, ◌%◌, ◌^◌, ◌≤◌, ◌<◌}
-use native.Mathlib.Nat.{zero-div, mul_assoc, mul_right_comm, mul-le-mul_left, div-add-mod', add-mul, mul-mod_left}
+use native.Mathlib.Nat.{zero-div, mul_assoc, mul_right_comm, div-add-mod', add-mul, mul-mod_left}
 use native.Mathlib.Omega.{arith}
 use mathlib.Core.Bool.{true}
 use mathlib.Core.List.{List, [], ◌∷◌, ◌++◌, append-nil, append_assoc}
@@ -190,6 +190,3 @@ split_length k s =
     let e : k * s ≡ k / 8 * 8 * s + k % 8 * s = ap (λ (n : ℕ). n * s) (sym (div-add-mod' k 8)) ∙ add-mul (k / 8 * 8) (k % 8) s in
     let f : k / 8 * 8 * s ≡ k / 8 * s * 8 = mul_right_comm (k / 8) 8 s in
     omega arith
-
-pub part_small : (k s : ℕ) → s ≤ 64 → k * s ≤ k * 64
-part_small k s h = mul-le-mul_left k h

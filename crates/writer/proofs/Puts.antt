@@ -8,15 +8,12 @@ use mathlib.Core.List.{List, [], ◌∷◌, ◌++◌}
 use lib.ListN.{length, get_or, length-append}
 use lib.Seq.{slice, sets, length-sets, take-length}
 use lib.Dec.{eqb}
-use borrow.Author.Tests.{le-ltb}
 use Rattle.laws.proofs.Stores.{sets_append}
 use Rattle.format.specs.Bytes.{pick, only_if}
 use Rattle.format.specs.Unsynch.{guards, unsync, ends_ff}
 use Rattle.format.specs.declared.Mode.{Mode}
 use Rattle.format.specs.declared.Mode.TheVariants.{Off}
 use Rattle.format.proofs.Unsynch.{unsync_append, unsync_off, doubled}
-use Rattle.unsynch.specs.Puts.{Out, placed_of}
-use Rattle.unsynch.specs.declared.Put.{Put}
 use Rattle.writer.specs.Pens.{pen_after, Putting, put_of, Near, Sized, Paced}
 use Rattle.writer.specs.declared.pens.Pen.{Pen}
 
@@ -27,7 +24,7 @@ unfolding ends_ff
 ends_append prev [] b = refl
 ends_append prev (x ∷ a) b = ends_append (eqb x 255) a b
 
-pub pen_is : {n n' : ℕ} {p p' : Bool} → n ≡ n' → p ≡ p' → ◌≡◌ {A = Pen} (record { at = n; prev = p }) (record { at = n'; prev = p' })
+pen_is : {n n' : ℕ} {p p' : Bool} → n ≡ n' → p ≡ p' → ◌≡◌ {A = Pen} (record { at = n; prev = p }) (record { at = n'; prev = p' })
 pen_is e f = λ i. record { at = e i; prev = f i }
 
 module _ (m : Mode) (pen : Pen) (a b : List ℕ) where
@@ -98,30 +95,7 @@ module _ (m : Mode) (pen : Pen) (x : ℕ) (f : Bool) (is : f ≡ (pen.prev && gu
       cases true = refl
       cases false = refl
 
--- many bytes, put by the crate `unsynch`: there is room, so it does not refuse
-module _ (m : Mode) (pen : Pen) (s o : List ℕ) (room : (pen_after m pen s).at ≤ length o) {r : Put} {o' : List ℕ}
-    (e : ◌≡◌ {A = Out} (r, o') (placed_of (unsync (guards m) pen.prev (slice 0 (length s) s)) pen.at o)) where
-  abbrev u : List ℕ
-  u = unsync (guards m) pen.prev s
-
-  all_put : ◌≡◌ {A = Out} (r, o') (Put.Bytes (length u), sets o pen.at u)
-  all_put = e ∙ rw (take-length s, le-ltb (length o) (pen.at + length u) room)
-
-  pub count_put : {n : ℕ} → r ≡ Put.Bytes n → n ≡ length (unsync (guards m) pen.prev s)
-  count_put {n} is = let g : Put.Bytes n ≡ Put.Bytes (length u) = sym is ∙ ap (λ (z : Out). z.0) all_put in cc
-
-  pub bytes_put : {n : ℕ} {p : Bool} → r ≡ Put.Bytes n → p ≡ ends_ff pen.prev s → ◌≡◌ {A = Putting} (record { at = pen.at + n; prev = p }, o') (put_of m pen s o)
-  bytes_put {n} is f =
-      let k : pen.at + n ≡ pen.at + length u = ap (λ (j : ℕ). pen.at + j) (count_put is) in
-      let l : o' ≡ sets o pen.at u = ap (λ (z : Out). z.1) all_put in
-      pen_put m pen s o (λ i. (k i, l i)) f
-
-  pub not_refused : {k : ℕ} → r ≡ Put.Refused k → ⊥
-  not_refused {k} is =
-      let g : Put.Refused k ≡ Put.Bytes (length u) = sym is ∙ ap (λ (z : Out). z.0) all_put in
-      (let z : ◌≡◌ {A = ℕ} 0 1 = cc in omega arith)
-
--- and measured by it
+-- many bytes, measured by the crate `unsynch`
 pub count_all : (m : Mode) (prev : Bool) (s : List ℕ) {n : ℕ} → n ≡ length (unsync (guards m) prev (slice 0 (length s) s))
     → (n ≡ length (unsync (guards m) prev s)) × (n ≤ 2 * length s)
 count_all m prev s {n} e =
@@ -207,8 +181,3 @@ ends_last prev (x ∷ []) h = refl
 ends_last prev (x ∷ y ∷ s) h =
     let e : suc (suc (length s)) - 1 ≡ suc (suc (length s) - 1) = omega arith in
     rw e (ends_last (eqb x 255) (y ∷ s) (λ z. absurd (omega arith)))
-
--- ---- what a size that was measured says
-
-pub paced_sized : {exact r : Pen} → Paced exact r → Sized exact.at r.at
-paced_sized p = ⊎_elim (λ e. inl (ap (λ (z : Pen). z.at) e)) (λ l. inr l) p

@@ -17,9 +17,8 @@ use Rattle.format.specs.declared.Mode.{Mode}
 use Rattle.format.specs.declared.Mode.TheVariants.{Off, Crate, Standard}
 use Rattle.writer.specs.Writer.{begin_of, begin_plain_of, add_of, Adding, finish_of, Finishing}
 use Rattle.writer.specs.declared.Writer.{Writer}
-use Rattle.writer.specs.declared.Begun.{Begun}
-use Rattle.writer.specs.declared.Added.{Added}
-use Rattle.writer.specs.declared.Finished.{Finished}
+use Rattle.std.specs.Prelude.{Ok, Err}
+use Rattle.format.specs.Refusals.{refusal}
 
 adding : Writer → Rec → List ℕ → Adding
 unfolding first among digits unsync all_id_bytes kind_of body_bytes encode refusal_of add_of
@@ -37,23 +36,23 @@ rawly id body = record { id = id; short = false; compressed = false; content = r
 
 -- ---- beginning
 
-begun : begin_of 3 2 true ≡ Begun.Ready (writer Id3v23 Standard true 0)
+begun : begin_of 3 2 true ≡ Ok (writer Id3v23 Standard true 0)
 unfolding begin_of writer
 begun = refl
 
-begun_plain : begin_plain_of 4 ≡ Begun.Ready (writer Id3v24 Off false 0)
+begun_plain : begin_plain_of 4 ≡ Ok (writer Id3v24 Off false 0)
 unfolding begin_of writer
 begun_plain = refl
 
-version_5 : begin_of 5 0 false ≡ Begun.Refused 2
+version_5 : begin_of 5 0 false ≡ Err (refusal 2)
 unfolding begin_of
 version_5 = refl
 
-version_1 : begin_of 1 0 false ≡ Begun.Refused 2
+version_1 : begin_of 1 0 false ≡ Err (refusal 2)
 unfolding begin_of
 version_1 = refl
 
-mode_3 : begin_of 4 3 false ≡ Begun.Refused 2
+mode_3 : begin_of 4 3 false ≡ Err (refusal 2)
 unfolding begin_of
 mode_3 = refl
 
@@ -61,49 +60,49 @@ mode_3 = refl
 
 -- after the frames there, and no other byte
 added : adding (writer Id3v22 Standard false 2) (rawly (named "XAB") (0xFF ∷ 0xE0 ∷ [])) (replicate 11 7)
-    ≡ (Added.Accepted 8 (writer Id3v22 Standard false 10), 7 ∷ 7 ∷ ascii "XAB" ++ (0 ∷ 0 ∷ 2 ∷ 0xFF ∷ 0xE0 ∷ 7 ∷ []))
+    ≡ ((Ok 8, writer Id3v22 Standard false 10), 7 ∷ 7 ∷ ascii "XAB" ++ (0 ∷ 0 ∷ 2 ∷ 0xFF ∷ 0xE0 ∷ 7 ∷ []))
 unfolding adding writer rawly
 added = refl
 
 full : adding (writer Id3v22 Off false 2) (rawly (named "XAB") (9 ∷ [])) (replicate 8 7)
-    ≡ (Added.Refused 20 (writer Id3v22 Off false 2), replicate 8 7)
+    ≡ ((Err (refusal 20), writer Id3v22 Off false 2), replicate 8 7)
 unfolding adding writer rawly
 full = refl
 
 -- a collecting buffer shorter than its frames
 shorter : adding (writer Id3v22 Off false 9) (rawly (named "XAB") (9 ∷ [])) (replicate 8 7)
-    ≡ (Added.Refused 20 (writer Id3v22 Off false 9), replicate 8 7)
+    ≡ ((Err (refusal 20), writer Id3v22 Off false 9), replicate 8 7)
 unfolding adding writer rawly
 shorter = refl
 
 wrong_id : adding (writer Id3v24 Off false 0) (rawly (named "XAB") []) (replicate 12 7)
-    ≡ (Added.Refused 21 (writer Id3v24 Off false 0), replicate 12 7)
+    ≡ ((Err (refusal 21), writer Id3v24 Off false 0), replicate 12 7)
 unfolding adding writer rawly
 wrong_id = refl
 
 -- skipped as accepted, without room
-skipped : adding (writer Id3v24 Off true 5) (rawly (named "ETCO") (9 ∷ [])) [] ≡ (Added.Accepted 0 (writer Id3v24 Off true 5), [])
+skipped : adding (writer Id3v24 Off true 5) (rawly (named "ETCO") (9 ∷ [])) [] ≡ ((Ok 0, writer Id3v24 Off true 5), [])
 unfolding adding writer rawly
 skipped = refl
 
 -- ---- finishing
 
 finished : finishing (writer Id3v24 Crate false 2) 1 (1 ∷ 2 ∷ 3 ∷ []) (replicate 14 7)
-    ≡ (Finished.Done 13 (writer Id3v24 Crate false 2), ascii "ID3" ++ (4 ∷ 0 ∷ 0x80 ∷ 0 ∷ 0 ∷ 0 ∷ 3 ∷ 1 ∷ 2 ∷ 0 ∷ 7 ∷ []))
+    ≡ (Ok 13, ascii "ID3" ++ (4 ∷ 0 ∷ 0x80 ∷ 0 ∷ 0 ∷ 0 ∷ 3 ∷ 1 ∷ 2 ∷ 0 ∷ 7 ∷ []))
 unfolding finishing writer
 finished = refl
 
 small_output : finishing (writer Id3v24 Crate false 2) 1 (1 ∷ 2 ∷ 3 ∷ []) (replicate 12 7)
-    ≡ (Finished.Refused 20 (writer Id3v24 Crate false 2), replicate 12 7)
+    ≡ (Err (refusal 20), replicate 12 7)
 unfolding finishing writer
 small_output = refl
 
 short_buffer : finishing (writer Id3v24 Crate false 4) 1 (1 ∷ 2 ∷ 3 ∷ []) (replicate 20 7)
-    ≡ (Finished.Refused 20 (writer Id3v24 Crate false 4), replicate 20 7)
+    ≡ (Err (refusal 20), replicate 20 7)
 unfolding finishing writer
 short_buffer = refl
 
 -- padding of 2^28 bytes or more, whatever the frames
-too_long_lem : (n : ℕ) → 2 ^ 28 ≤ n → finish_of (writer Id3v24 Off false 0) n [] [] ≡ (Finished.Refused 24 (writer Id3v24 Off false 0), [])
+too_long_lem : (n : ℕ) → 2 ^ 28 ≤ n → finish_of (writer Id3v24 Off false 0) n [] [] ≡ (Err (refusal 24), [])
 unfolding finish_of writer
 too_long_lem n h = simp (length-replicate, le-leb (2 ^ 28) n h)

@@ -1,5 +1,5 @@
 -- What the functions after finishing a tag answer (document 01, "Writing"). Assumes nothing.
-use Rattle.std.specs.Prelude.{ℕ, ◌+◌, List, ◌∷◌, ◌++◌, length, ltb}
+use Rattle.std.specs.Prelude.{ℕ, ◌+◌, List, ◌∷◌, ◌++◌, length, ltb, Ok, Err}
 use Rattle.std.proofs.lemmas.List.Edits.{sets}
 use Rattle.format.specs.Bytes.{pick, ascii}
 use Rattle.format.specs.Numbers.{synchsafe}
@@ -9,7 +9,7 @@ use Rattle.format.specs.declared.Version.TheVariants.{Id3v22, Id3v23, Id3v24}
 use Rattle.format.specs.declared.Mode.{Mode}
 use Rattle.format.specs.declared.Mode.TheVariants.{Off}
 use Rattle.unsynch.specs.Puts.{Out}
-use Rattle.unsynch.specs.declared.Put.{Put}
+use Rattle.format.specs.Refusals.{refusal}
 
 -- the mode by which frames are unsynchronised as a whole: those of 2.4 are not
 abbrev pub whole_mode : Version → Mode → Mode
@@ -24,4 +24,4 @@ header_bytes v m size = ascii "ID3" ++ (edition_byte v ∷ 0 ∷ flags_byte m �
 -- frames after the place of the header, or 20 and the output as it was, where that leaves no room for the padding
 abbrev pub frames_put : List ℕ → ℕ → List ℕ → Out
 frames_put u padding output =
-    pick (ltb (length output) (10 + (length u + padding))) (Put.Refused 20, output) (Put.Bytes (length u), sets output 10 u)
+    pick (ltb (length output) (10 + (length u + padding))) (Err (refusal 20), output) (Ok (length u), sets output 10 u)

@@ -1,7 +1,7 @@
 // A record's body put at a pen piece by piece, and measured: name, numbers, names, bytes, references.
 ghost use Rattle.std.specs.Prelude.{◌≡◌, ℕ, ◌≤◌, List, [], ◌++◌, length};
 ghost use Rattle.format.specs.Bytes.{zeros_in};
-ghost use Rattle.format.specs.Record.{content_of};
+ghost use Rattle.format.specs.Record.{content_of, given_content};
 ghost use Rattle.format.specs.Encode.{body_bytes};
 ghost use Rattle.writer.specs.Pens.{pen_after, put_of, Paced, Sized};
 ghost use Rattle.writer.specs.Layouts.{layout_of, Puttable, used_of, packed_of};
@@ -11,7 +11,7 @@ use crate::pack::{measure_packed, put_packed};
 use crate::pens::{Pen, measure_bytes, put_bytes};
 use crate::small::small_of;
 use format::small::zeros_in;
-use format::{Fields, Mode};
+use format::{Fields, Given, Mode};
 
 // How many bytes of each given slice a kind has.
 #[derive(Drop)]
@@ -26,53 +26,27 @@ fn used_of(fields: Fields, name: usize, names: usize, rest: usize) -> Used
     ensures { result ≡ used_of fields name names rest }
 {
     match fields {
-        Fields::Text { encoding: _ } => Used {
+        Fields::Text { .. } | Fields::Raw => Used {
             name: 0,
             names: 0,
-            rest: rest,
+            rest,
         },
-        Fields::Popularimeter {
-            rating: _,
-            counter: _,
-        } => Used {
-            name: name,
+        Fields::Popularimeter { .. } => Used {
+            name,
             names: 0,
             rest: 0,
         },
-        Fields::Table {
-            frames: _,
-            bytes: _,
-            millis: _,
-            bits_for_bytes: _,
-            bits_for_millis: _,
-        } => Used {
+        Fields::Table { .. } => Used {
             name: 0,
             names: 0,
             rest: 0,
         },
-        Fields::Chapter {
-            start_time: _,
-            end_time: _,
-            start_offset: _,
-            end_offset: _,
-        } => Used {
-            name: name,
+        Fields::Chapter { .. } => Used {
+            name,
             names: 0,
-            rest: rest,
+            rest,
         },
-        Fields::Contents {
-            top_level: _,
-            ordered: _,
-        } => Used {
-            name: name,
-            names: names,
-            rest: rest,
-        },
-        Fields::Raw => Used {
-            name: 0,
-            names: 0,
-            rest: rest,
-        },
+        Fields::Contents { .. } => Used { name, names, rest },
     }
 }
 
@@ -89,11 +63,9 @@ fn put_references(
     ensures { (result, buffer.new) ≡ put_of mode pen (packed_of fields deviations.now) buffer.old }
 {
     if let Fields::Table {
-        frames: _,
-        bytes: _,
-        millis: _,
         bits_for_bytes,
         bits_for_millis,
+        ..
     } = fields
     {
         put_packed(
@@ -110,16 +82,16 @@ fn put_references(
 }
 
 // The place after them, which are not put.
+// Kept: a twin of put_references: putting asks for room and says each byte, measuring asks for nothing and stops counting at LIMIT.
+#[tactic(auto, using(crate::proofs::Layouts::no_references, crate::proofs::Puts::pen_nil))]
 fn measure_references(pen: Pen, mode: Mode, fields: Fields, deviations: &[u32]) -> usize
     requires { Puttable (content_of fields [] [] [] deviations.now) }
     ensures { Sized (pen_after mode pen (packed_of fields deviations.now)).at result }
 {
     if let Fields::Table {
-        frames: _,
-        bytes: _,
-        millis: _,
         bits_for_bytes,
         bits_for_millis,
+        ..
     } = fields
     {
         measure_packed(pen, mode, deviations, bits_for_bytes, bits_for_millis)
@@ -139,19 +111,23 @@ struct Plan {
 }
 
 // The pieces of a body.
-fn plan_of(fields: Fields, name: &[u8], names: &[u8], rest: &[u8]) -> Plan
-    requires { (ds : List ℕ) → zeros_in (layout_of (content_of fields name.now names.now rest.now ds)).names ≤ 255 }
-    ensures { Planned fields name.now names.now rest.now result }
+fn plan_of(fields: Fields, given: &Given<'_>) -> Plan
+    requires { (ds : List ℕ) → zeros_in (layout_of (content_of fields given.now.name.now given.now.names.now given.now.rest.now ds)).names ≤ 255 }
+    ensures { Planned fields given.now.name.now given.now.names.now given.now.rest.now result }
 {
-    let used = used_of(fields, name.len(), names.len(), rest.len());
-    let k = used.names;
-    let small = small_of(fields, zeros_in(&names[..k]));
+    let used = used_of(
+        fields,
+        given.name.len(),
+        given.names.len(),
+        given.rest.len(),
+    );
+    let small = small_of(fields, zeros_in(&given.names[..used.names]));
     let bytes = small.bytes;
     Plan {
         name: used.name,
-        names: k,
+        names: used.names,
         rest: used.rest,
-        bytes: bytes,
+        bytes,
         len: small.len,
     }
 }
@@ -176,6 +152,7 @@ fn put_pieces(
 }
 
 // The pen after four pieces, which are not put.
+// Kept: a twin of put_pieces: putting asks for room and says each byte, measuring asks for nothing and stops counting at LIMIT.
 fn measure_pieces(pen: Pen, mode: Mode, a: &[u8], b: &[u8], c: &[u8], d: &[u8]) -> Pen
     ensures { Paced (pen_after mode pen (a.now ++ (b.now ++ (c.now ++ d.now)))) result }
 {
@@ -186,66 +163,48 @@ fn measure_pieces(pen: Pen, mode: Mode, a: &[u8], b: &[u8], c: &[u8], d: &[u8]) 
 }
 
 // Puts the body at the pen. A slice that the kind does not have is not looked at.
+#[tactic(auto, using(crate::proofs::Layouts::few_names, crate::proofs::Layouts::references_puttable))]
 pub(crate) fn put_body(
     buffer: &mut [u8],
     pen: Pen,
     mode: Mode,
     fields: Fields,
-    name: &[u8],
-    names: &[u8],
-    rest: &[u8],
-    deviations: &[u32],
+    given: &Given<'_>,
 ) -> Pen
-    requires { let content = content_of fields name.now names.now rest.now deviations.now in
+    requires { let content = given_content fields given.now in
         Puttable content × ((pen_after mode pen (body_bytes content)).at ≤ length buffer.old) }
-    ensures { let content = content_of fields name.now names.now rest.now deviations.now in
+    ensures { let content = given_content fields given.now in
         (result, buffer.new) ≡ put_of mode pen (body_bytes content) buffer.old }
 {
-    let plan = plan_of(fields, name, names, rest);
-    let n = plan.name;
-    let k = plan.names;
-    let m = plan.rest;
-    let bytes = plan.bytes;
-    let len = plan.len;
+    let plan = plan_of(fields, given);
     let next = put_pieces(
         buffer,
         pen,
         mode,
-        &name[..n],
-        &bytes[..len],
-        &names[..k],
-        &rest[..m],
+        &given.name[..plan.name],
+        &plan.bytes[..plan.len],
+        &given.names[..plan.names],
+        &given.rest[..plan.rest],
     );
-    put_references(buffer, next, mode, fields, deviations)
+    put_references(buffer, next, mode, fields, given.deviations)
 }
 
 // The place after the body, which is not put.
-pub(crate) fn measure_body(
-    pen: Pen,
-    mode: Mode,
-    fields: Fields,
-    name: &[u8],
-    names: &[u8],
-    rest: &[u8],
-    deviations: &[u32],
-) -> usize
-    requires { Puttable (content_of fields name.now names.now rest.now deviations.now) }
-    ensures { let content = content_of fields name.now names.now rest.now deviations.now in
+// Kept: a twin of put_body: putting asks for room and says each byte, measuring asks for nothing and stops counting at LIMIT.
+#[tactic(auto, using(crate::proofs::Layouts::few_names, crate::proofs::Layouts::references_puttable))]
+pub(crate) fn measure_body(pen: Pen, mode: Mode, fields: Fields, given: &Given<'_>) -> usize
+    requires { Puttable (given_content fields given.now) }
+    ensures { let content = given_content fields given.now in
         Sized (pen_after mode pen (body_bytes content)).at result }
 {
-    let plan = plan_of(fields, name, names, rest);
-    let n = plan.name;
-    let k = plan.names;
-    let m = plan.rest;
-    let bytes = plan.bytes;
-    let len = plan.len;
+    let plan = plan_of(fields, given);
     let next = measure_pieces(
         pen,
         mode,
-        &name[..n],
-        &bytes[..len],
-        &names[..k],
-        &rest[..m],
+        &given.name[..plan.name],
+        &plan.bytes[..plan.len],
+        &given.names[..plan.names],
+        &given.rest[..plan.rest],
     );
-    measure_references(next, mode, fields, deviations)
+    measure_references(next, mode, fields, given.deviations)
 }

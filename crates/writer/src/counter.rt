@@ -6,18 +6,20 @@ ghost use Rattle.format.specs.Popularimeter.{counter_bytes};
 use crate::numbers::put_digits;
 
 // How many bytes the highest set bit needs: none for 0.
-pub(crate) fn width(counter: u64) -> u64
+#[tactic(auto, using(crate::proofs::Digits::counter_width))]
+pub(crate) fn width(counter: u64) -> usize
     ensures { result ≡ length (counter_bytes counter) }
 {
-    ((64 - u64::leading_zeros(counter) + 7) / 8) as u64
+    (64 - counter.leading_zeros()).div_ceil(8) as usize
 }
 
 // Puts the counter from `at` on, and answers how many bytes it took.
+#[tactic(auto, using(crate::proofs::Digits::counter_bytes_lem, crate::proofs::Digits::counter_small))]
 pub(crate) fn put_counter(buffer: &mut [u8], at: usize, counter: u64) -> usize
     requires { at + 8 ≤ length buffer.old }
     ensures { (result ≡ length (counter_bytes counter)) × (buffer.new ≡ sets buffer.old at (counter_bytes counter)) }
 {
     let count = width(counter);
     put_digits(buffer, at, count, counter);
-    count as usize
+    count
 }

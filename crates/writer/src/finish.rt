@@ -7,13 +7,12 @@ ghost use Rattle.unsynch.specs.Puts.{placed_of};
 ghost use Rattle.writer.specs.Writer.{finish_of};
 ghost use Rattle.writer.specs.Finishes.{whole_mode, header_bytes, frames_put};
 
+use crate::Writer;
 use crate::numbers::{put_digits, synchsafe_word};
 use crate::pens::LIMIT;
-use crate::{Finished, Writer};
-use format::numbered::version_number;
-use format::refusals::{NO_ROOM, TOO_LONG};
+use format::refusals::{NO_ROOM, Refusal, TOO_LONG};
 use format::{Mode, Version};
-use unsynch::{Put, unsync_into, unsync_len};
+use unsynch::{unsync_into, unsync_len};
 
 // The letters ID3.
 const ID3: u64 = 0x494433;
@@ -23,8 +22,7 @@ fn whole_mode(version: Version, mode: Mode) -> Mode
     ensures { result ≡ whole_mode version mode }
 {
     match version {
-        Version::Id3v22 => mode,
-        Version::Id3v23 => mode,
+        Version::Id3v22 | Version::Id3v23 => mode,
         Version::Id3v24 => Mode::Off,
     }
 }
@@ -35,12 +33,12 @@ fn flags_byte(mode: Mode) -> u64
 {
     match mode {
         Mode::Off => 0,
-        Mode::Crate => 0x80,
-        Mode::Standard => 0x80,
+        Mode::Crate | Mode::Standard => 0x80,
     }
 }
 
 // Whether the frames that are there and the padding are too long for a tag. They are counted only where it depends on them.
+#[tactic(auto, using(crate::proofs::Finishes::short_frames, crate::proofs::Finishes::by_count))]
 fn is_too_long(buffer: &[u8], used: usize, version: Version, mode: Mode, padding: usize) -> bool
     ensures { result ≡ leb (2 ^ 28) (length (region_bytes version mode padding (take used buffer.now))) }
 {
@@ -48,10 +46,7 @@ fn is_too_long(buffer: &[u8], used: usize, version: Version, mode: Mode, padding
         return true;
     }
     let left = LIMIT - padding;
-    if used <= left / 2 {
-        return false;
-    }
-    unsync_len(buffer, 0, used, false, whole_mode(version, mode)) >= left
+    used > left / 2 && unsync_len(buffer, 0, used, false, whole_mode(version, mode)) >= left
 }
 
 // Puts the frames after the place of the header, where that leaves room for the padding.
@@ -62,15 +57,19 @@ fn put_frames(
     version: Version,
     mode: Mode,
     padding: usize,
-) -> Put
+) -> Result<usize, Refusal>
     ensures { (result, output.new) ≡ frames_put (whole_of version mode (take used buffer.now)) padding output.old }
 {
-    if output.len() < padding {
-        return Put::Refused(NO_ROOM);
-    }
-    let room = output.len() - padding;
-    let by = whole_mode(version, mode);
-    unsync_into(&mut output[..room], 10, buffer, 0, used, false, by)
+    let room = output.len().checked_sub(padding).ok_or(NO_ROOM)?;
+    unsync_into(
+        &mut output[..room],
+        10,
+        buffer,
+        0,
+        used,
+        false,
+        whole_mode(version, mode),
+    )
 }
 
 // Puts n zeros from `at` on.
@@ -78,11 +77,7 @@ fn put_zeros(output: &mut [u8], at: usize, n: usize)
     requires { at + n ≤ length output.old }
     ensures { output.new ≡ sets output.old at (zeros n) }
 {
-    let mut i: usize = 0;
-    while i < n {
-        output[at + i] = 0;
-        i += 1;
-    }
+    output[at..at + n].fill(0);
 }
 
 // Puts the ten bytes of a header before a region of `size` bytes.
@@ -91,7 +86,7 @@ fn put_header(output: &mut [u8], version: Version, mode: Mode, size: usize)
     ensures { output.new ≡ sets output.old 0 (header_bytes version mode size) }
 {
     put_digits(output, 0, 3, ID3);
-    put_digits(output, 3, 1, version_number(version) as u64);
+    put_digits(output, 3, 1, u64::from(u8::from(version)));
     put_digits(output, 4, 2, flags_byte(mode));
     put_digits(output, 6, 4, synchsafe_word(size));
 }
@@ -104,39 +99,28 @@ fn put_tag(
     version: Version,
     mode: Mode,
     padding: usize,
-) -> Put
+) -> Result<usize, Refusal>
     requires { length (region_bytes version mode padding (take used buffer.now)) < 2 ^ 28 }
     ensures { (result, output.new) ≡ placed_of (tag_of version mode padding (take used buffer.now)) 0 output.old }
 {
-    let put = put_frames(output, buffer, used, version, mode, padding);
-    match put {
-        Put::Bytes(n) => {
-            put_zeros(output, 10 + n, padding);
-            put_header(output, version, mode, n + padding);
-            Put::Bytes(10 + (n + padding))
-        }
-        Put::Refused(k) => Put::Refused(k),
-    }
+    let n = put_frames(output, buffer, used, version, mode, padding)?;
+    put_zeros(output, 10 + n, padding);
+    put_header(output, version, mode, n + padding);
+    Ok(10 + (n + padding))
 }
 
 impl Writer {
-    // Finishes a tag at the front of the output. A refused call leaves the output as it was.
-    pub fn finish(self, output: &mut [u8], buffer: &[u8], padding: usize) -> Finished
-        ensures { (result, output.new) ≡ finish_of self padding buffer.now output.old }
+    // Finishes a tag at the front of the output, and answers its length. A refused call leaves the output as it was.
+    #[tactic(auto, using(crate::proofs::Finishes::finish_long, crate::proofs::Finishes::finish_missing, crate::proofs::Finishes::finish_put))]
+    pub fn finish(&self, output: &mut [u8], buffer: &[u8], padding: usize) -> Result<usize, Refusal>
+        ensures { (result, output.new) ≡ finish_of self.now padding buffer.now output.old }
     {
-        let version = self.version;
-        let mode = self.mode;
-        let used = self.used;
-        if is_too_long(buffer, used, version, mode, padding) {
-            return Finished::Refused(TOO_LONG, self);
+        if is_too_long(buffer, self.used, self.version, self.mode, padding) {
+            return Err(TOO_LONG);
         }
-        if buffer.len() < used {
-            return Finished::Refused(NO_ROOM, self);
+        if buffer.len() < self.used {
+            return Err(NO_ROOM);
         }
-        let put = put_tag(output, buffer, used, version, mode, padding);
-        match put {
-            Put::Bytes(n) => Finished::Done(n, self),
-            Put::Refused(k) => Finished::Refused(k, self),
-        }
+        put_tag(output, buffer, self.used, self.version, self.mode, padding)
     }
 }

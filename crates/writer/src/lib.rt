@@ -16,37 +16,10 @@ mod small;
 use format::{Mode, Version};
 
 // A writer, with the bytes of its collecting buffer that its frames use.
-#[derive(Drop)]
+#[derive(Clone, Copy)]
 pub struct Writer {
     pub version: Version,
     pub mode: Mode,
     pub altered: bool,
     pub used: usize,
-}
-
-#[derive(Drop)]
-pub enum Begun {
-    Ready(Writer),
-    Refused(u8),
-}
-
-// How many bytes a frame took, with the next writer.
-#[derive(Drop)]
-pub enum Added {
-    Accepted(usize, Writer),
-    Refused(u8, Writer),
-}
-
-// How long the tag is, with the writer, which finishing does not change.
-#[derive(Drop)]
-pub enum Finished {
-    Done(usize, Writer),
-    Refused(u8, Writer),
-}
-
-// Whether a buffer was edited in place; refused, nothing of it has changed.
-#[derive(Drop)]
-pub enum Edited {
-    Done,
-    Refused(u8),
 }

@@ -6,7 +6,6 @@ ghost use Rattle.writer.specs.Packs.{left, Ready, Packable};
 
 use crate::pens::{LIMIT, Pen, measure_byte, put_byte};
 use format::Mode;
-use format::small::half;
 
 // Bits that wait: the lowest `have` of acc, and after them the deviations from `i` on, of a and b bits by turns.
 #[derive(Drop)]
@@ -35,30 +34,23 @@ fn fetched(ds: &[u32], bits: Bits) -> Bits
     let mut i = bits.i;
     let mut a = bits.a;
     let mut b = bits.b;
+    // Kept: the place i is part of the bits, which go on from call to call, so that a `for` over ds is no plainer.
     while have < 8 {
-        if ds.len() <= i {
+        let Some(d) = ds.get(i) else {
             return Bits {
                 acc: acc << (8 - have),
                 have: 8,
-                i: i,
-                a: a,
-                b: b,
+                i,
+                a,
+                b,
             };
-        }
-        acc = (acc << a) | half(ds[i]);
+        };
+        acc = (acc << a) | u64::from(*d);
         have += a;
-        let t = a;
-        a = b;
-        b = t;
+        (a, b) = (b, a);
         i += 1;
     }
-    Bits {
-        acc: acc,
-        have: have,
-        i: i,
-        a: a,
-        b: b,
-    }
+    Bits { acc, have, i, a, b }
 }
 
 // The first byte of the bits that wait.
@@ -72,7 +64,7 @@ fn next_byte(ds: &[u32], bits: Bits) -> Next
         byte: ((full.acc >> have) % 256) as u8,
         bits: Bits {
             acc: full.acc,
-            have: have,
+            have,
             i: full.i,
             a: full.a,
             b: full.b,
@@ -86,8 +78,8 @@ fn packed_len(ds: &[u32], v: u8, w: u8) -> usize
     ensures { result ≡ length (pack v w ds.now) }
 {
     let references = ds.len() / 2;
-    let sum = (v + w) as usize;
-    references / 8 * sum + (references % 8 * sum + 7) / 8
+    let sum = usize::from(v + w);
+    references / 8 * sum + (references % 8 * sum).div_ceil(8)
 }
 
 // Puts the references at the pen.
@@ -101,21 +93,20 @@ pub(crate) fn put_packed(buffer: &mut [u8], pen: Pen, mode: Mode, ds: &[u32], v:
         acc: 0,
         have: 0,
         i: 0,
-        a: v as u64,
-        b: w as u64,
+        a: u64::from(v),
+        b: u64::from(w),
     };
     let mut next = pen;
-    let mut k: usize = 0;
-    while k < n {
+    for _ in 0..n {
         let step = next_byte(ds, bits);
         next = put_byte(buffer, next, mode, step.byte);
         bits = step.bits;
-        k += 1;
     }
     next
 }
 
 // The pen after the n bytes of the references, which are not put.
+// Kept: a twin of put_packed: putting asks for room and says each byte, measuring asks for nothing and stops counting at LIMIT.
 fn pace_packed(pen: Pen, mode: Mode, ds: &[u32], v: u8, w: u8, n: usize) -> Pen
     requires { Packable v w ds.now × (n ≡ length (pack v w ds.now)) }
     ensures { Paced (pen_after mode pen (pack v w ds.now)) result }
@@ -124,16 +115,14 @@ fn pace_packed(pen: Pen, mode: Mode, ds: &[u32], v: u8, w: u8, n: usize) -> Pen
         acc: 0,
         have: 0,
         i: 0,
-        a: v as u64,
-        b: w as u64,
+        a: u64::from(v),
+        b: u64::from(w),
     };
     let mut next = pen;
-    let mut k: usize = 0;
-    while k < n {
+    for _ in 0..n {
         let step = next_byte(ds, bits);
         next = measure_byte(next, mode, step.byte);
         bits = step.bits;
-        k += 1;
     }
     next
 }
@@ -145,15 +134,11 @@ pub(crate) fn measure_packed(pen: Pen, mode: Mode, ds: &[u32], v: u8, w: u8) -> 
 {
     let n = packed_len(ds, v, w);
     let at = pen.at;
-    if n >= LIMIT {
-        return LIMIT;
-    }
-    if at >= LIMIT {
+    if n >= LIMIT || at >= LIMIT {
         return LIMIT;
     }
     match mode {
         Mode::Off => at + n,
-        Mode::Crate => pace_packed(pen, mode, ds, v, w, n).at,
-        Mode::Standard => pace_packed(pen, mode, ds, v, w, n).at,
+        Mode::Crate | Mode::Standard => pace_packed(pen, mode, ds, v, w, n).at,
     }
 }

@@ -4,7 +4,7 @@ ghost use Rattle.format.specs.Unsynch.{ends_ff};
 ghost use Rattle.writer.specs.Pens.{pen_after, put_of, Paced};
 
 use format::Mode;
-use unsynch::{Put, is_guarded, unsync_into, unsync_len};
+use unsynch::{is_guarded, unsync_into, unsync_len};
 
 // The place of the next byte, and whether the byte before it was FF.
 #[derive(Drop)]
@@ -14,11 +14,14 @@ pub(crate) struct Pen {
 }
 
 // Whether the last byte of s is FF; of no bytes, what was before.
+#[tactic(auto, using(crate::proofs::Puts::ends_none, crate::proofs::Puts::ends_last))]
 fn ends_ff(s: &[u8], prev: bool) -> bool
     ensures { result ≡ ends_ff prev s.now }
 {
-    let n = s.len();
-    if n == 0 { prev } else { s[n - 1] == 0xFF }
+    match s.last() {
+        Some(b) => *b == 0xFF,
+        None => prev,
+    }
 }
 
 // Puts b at the pen.
@@ -26,15 +29,10 @@ pub(crate) fn put_byte(buffer: &mut [u8], pen: Pen, mode: Mode, b: u8) -> Pen
     requires { (pen_after mode pen (b ∷ [])).at ≤ length buffer.old }
     ensures { (result, buffer.new) ≡ put_of mode pen (b ∷ []) buffer.old }
 {
-    let at = pen.at;
+    let mut at = pen.at;
     if is_guarded(mode, pen.prev, b) {
         buffer[at] = 0;
-        let next = at + 1;
-        buffer[next] = b;
-        return Pen {
-            at: next + 1,
-            prev: b == 0xFF,
-        };
+        at += 1;
     }
     buffer[at] = b;
     Pen {
@@ -48,15 +46,12 @@ pub(crate) fn put_bytes(buffer: &mut [u8], pen: Pen, mode: Mode, s: &[u8]) -> Pe
     requires { (pen_after mode pen s.now).at ≤ length buffer.old }
     ensures { (result, buffer.new) ≡ put_of mode pen s.now buffer.old }
 {
-    let at = pen.at;
-    let prev = pen.prev;
-    let put = unsync_into(buffer, at, s, 0, s.len(), prev, mode);
-    match put {
-        Put::Bytes(n) => Pen {
-            at: at + n,
-            prev: ends_ff(s, prev),
+    match unsync_into(buffer, pen.at, s, 0, s.len(), pen.prev, mode) {
+        Ok(n) => Pen {
+            at: pen.at + n,
+            prev: ends_ff(s, pen.prev),
         },
-        Put::Refused(_) => pen,
+        Err(_) => pen,
     }
 }
 
@@ -64,50 +59,37 @@ pub(crate) fn put_bytes(buffer: &mut [u8], pen: Pen, mode: Mode, s: &[u8]) -> Pe
 pub(crate) const LIMIT: usize = 0x1000_0000;
 
 // The pen after s, which is not put.
+// Kept: a twin of put_bytes: putting asks for room and says each byte, measuring asks for nothing and stops counting at LIMIT.
 pub(crate) fn measure_bytes(pen: Pen, mode: Mode, s: &[u8]) -> Pen
     ensures { Paced (pen_after mode pen s.now) result }
 {
-    let at = pen.at;
-    let n = s.len();
-    if at >= LIMIT {
+    if pen.at >= LIMIT || s.len() >= LIMIT {
         return Pen {
             at: LIMIT,
             prev: false,
         };
     }
-    if n >= LIMIT {
-        return Pen {
-            at: LIMIT,
-            prev: false,
-        };
-    }
-    let prev = pen.prev;
     Pen {
-        at: at + unsync_len(s, 0, n, prev, mode),
-        prev: ends_ff(s, prev),
+        at: pen.at + unsync_len(s, 0, s.len(), pen.prev, mode),
+        prev: ends_ff(s, pen.prev),
     }
 }
 
 // The pen after b, which is not put.
+// Kept: a twin of put_byte: putting asks for room and says each byte, measuring asks for nothing and stops counting at LIMIT.
+#[tactic(auto, using(crate::proofs::Puts::byte_pen))]
 pub(crate) fn measure_byte(pen: Pen, mode: Mode, b: u8) -> Pen
     ensures { Paced (pen_after mode pen (b ∷ [])) result }
 {
-    let at = pen.at;
-    if at >= LIMIT {
+    if pen.at >= LIMIT {
         return Pen {
             at: LIMIT,
             prev: false,
         };
     }
-    if is_guarded(mode, pen.prev, b) {
-        Pen {
-            at: at + 2,
-            prev: b == 0xFF,
-        }
-    } else {
-        Pen {
-            at: at + 1,
-            prev: b == 0xFF,
-        }
+    let width = if is_guarded(mode, pen.prev, b) { 2 } else { 1 };
+    Pen {
+        at: pen.at + width,
+        prev: b == 0xFF,
     }
 }

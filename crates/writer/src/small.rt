@@ -25,13 +25,11 @@ fn text(encoding: u8) -> Small
 {
     let mut bytes = [0u8; 17];
     bytes[0] = encoding;
-    Small {
-        bytes: bytes,
-        len: 1,
-    }
+    Small { bytes, len: 1 }
 }
 
 // The zero after the user, rating and counter.
+#[tactic(auto, using(crate::proofs::Digits::counter_small))]
 fn popularimeter(rating: u8, counter: u64) -> Small
     ensures { Holds result (0 ∷ rating ∷ counter_bytes counter) }
 {
@@ -39,51 +37,43 @@ fn popularimeter(rating: u8, counter: u64) -> Small
     bytes[1] = rating;
     let count = put_counter(&mut bytes, 2, counter);
     Small {
-        bytes: bytes,
+        bytes,
         len: 2 + count,
     }
 }
 
 // The ten bytes before a table's references.
+#[tactic(auto, unfolding(format::specs::Numbers::digits))]
 fn table(frames: u16, step: u32, millis: u32, v: u8, w: u8) -> Small
     ensures { Holds result (bytes_of 2 frames ++ (bytes_of 3 step ++ (bytes_of 3 millis ++ (v ∷ w ∷ [])))) }
 {
     let mut bytes = [0u8; 17];
-    put_digits(&mut bytes, 0, 2, frames as u64);
-    put_digits(&mut bytes, 2, 3, step as u64);
-    put_digits(&mut bytes, 5, 3, millis as u64);
+    put_digits(&mut bytes, 0, 2, u64::from(frames));
+    put_digits(&mut bytes, 2, 3, u64::from(step));
+    put_digits(&mut bytes, 5, 3, u64::from(millis));
     bytes[8] = v;
     bytes[9] = w;
-    Small {
-        bytes: bytes,
-        len: 10,
-    }
+    Small { bytes, len: 10 }
 }
 
 // The zero after the element id and the four numbers.
+#[tactic(auto, unfolding(format::specs::Numbers::digits))]
 fn chapter(start_time: u32, end_time: u32, start_offset: u32, end_offset: u32) -> Small
     ensures { Holds result (0 ∷ bytes_of 4 start_time ++ (bytes_of 4 end_time ++ (bytes_of 4 start_offset ++ bytes_of 4 end_offset))) }
 {
     let mut bytes = [0u8; 17];
-    put_digits(&mut bytes, 1, 4, start_time as u64);
-    put_digits(&mut bytes, 5, 4, end_time as u64);
-    put_digits(&mut bytes, 9, 4, start_offset as u64);
-    put_digits(&mut bytes, 13, 4, end_offset as u64);
-    Small {
-        bytes: bytes,
-        len: 17,
-    }
+    put_digits(&mut bytes, 1, 4, u64::from(start_time));
+    put_digits(&mut bytes, 5, 4, u64::from(end_time));
+    put_digits(&mut bytes, 9, 4, u64::from(start_offset));
+    put_digits(&mut bytes, 13, 4, u64::from(end_offset));
+    Small { bytes, len: 17 }
 }
 
 // A table of contents' flags: 2 top level, 1 ordered.
 fn flags(top_level: bool, ordered: bool) -> u8
     ensures { result ≡ flag_byte top_level ordered }
 {
-    if top_level {
-        if ordered { 3 } else { 2 }
-    } else {
-        if ordered { 1 } else { 0 }
-    }
+    2 * u8::from(top_level) + u8::from(ordered)
 }
 
 // The zero after the element id, flags and child count.
@@ -94,10 +84,7 @@ fn contents(top_level: bool, ordered: bool, children: usize) -> Small
     let mut bytes = [0u8; 17];
     bytes[1] = flags(top_level, ordered);
     bytes[2] = children as u8;
-    Small {
-        bytes: bytes,
-        len: 3,
-    }
+    Small { bytes, len: 3 }
 }
 
 // Nothing.

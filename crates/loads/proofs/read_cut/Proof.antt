@@ -14,21 +14,21 @@ returns_2 : tie.Need-returns-then-s-at-eq1
 returns_2 c =
     let at_first = c.before in
     let start = at_first.before.before.before.before in
-    rw at_first.wide-one.ensures.0 (number_one start.args.at start.args.s.now (omega arith))
+    rw at_first.from-one.ensures (number_one start.args.at start.args.s.now (omega arith))
 
 returns_3 : tie.Need-returns-then-s-at-eq2
 returns_3 c =
     let at_second = c.before in
     let at_first = at_second.before.before.before in
     let start = at_first.before.before.before.before in
-    rw (at_first.wide-one.ensures.0, at_second.wide.ensures.0) (number_two start.args.at start.args.s.now (omega arith))
+    rw (at_first.from-one.ensures, at_second.from.ensures) (number_two start.args.at start.args.s.now (omega arith))
 
 returns_4 : tie.Need-returns
 returns_4 c =
     let at_second = c.before.before.before in
     let at_first = at_second.before.before.before in
     let start = at_first.before.before.before.before in
-    rw (at_first.wide-one.ensures.0, at_second.wide.ensures.0, c.wide-2.ensures.0) (number_left start.args.at start.args.s.now (omega arith))
+    rw (at_first.from-one.ensures, at_second.from.ensures, c.from-2.ensures) (number_left start.args.at start.args.s.now (omega arith))
 
 pub read_cut_spec : {M : Type 1} → statement M
 read_cut_spec =

@@ -12,8 +12,8 @@ returns c =
     let at_high = c.before.before in
     let start = at_high.before.before.before in
     ap₂ (λ (x y : ℕ). x * 0x100000000 + y)
-    (at_high.half.ensures.0 ∙ at_high.before.read_whole.ensures)
-    (c.half-2.ensures.0 ∙ c.before.read_whole-2.ensures)
+    (at_high.from.ensures ∙ at_high.before.read_whole.ensures)
+    (c.from-2.ensures ∙ c.before.read_whole-2.ensures)
     ∙ number_in_two start.args.at 4 4 start.args.s.now (omega arith)
 
 pub read_eight_spec : {M : Type 1} → statement M

@@ -4,9 +4,9 @@ use Rattle.printout.proofs.Texts.{lines_within}
 use Rattle.show.proofs.show.Goals as goal
 
 pub slice_bounds-write_all-end : goal.slice_bounds-write_all-end
-slice_bounds-write_all-end g c = lines_within _ _ _ c.list.ensures c.in-Upto.is
+slice_bounds-write_all-end g c = lines_within _ _ _ c.list.ensures c.in-Some.is
 
-pub slice_bounds-write_all-end-in-Upto : goal.slice_bounds-write_all-end-in-Upto
-slice_bounds-write_all-end-in-Upto g c =
-    let within : c.in-Upto.n ≤ length c.list.new.out = lines_within _ _ _ c.list.ensures c.in-Upto.is in
-    omega (arith, length-take c.in-Upto.n c.list.new.out)
+pub slice_bounds-write_all-end-in-Some : goal.slice_bounds-write_all-end-in-Some
+slice_bounds-write_all-end-in-Some g c =
+    let within : c.in-Some.n ≤ length c.list.new.out = lines_within _ _ _ c.list.ensures c.in-Some.is in
+    omega (arith, length-take c.in-Some.n c.list.new.out)

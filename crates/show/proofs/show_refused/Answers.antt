@@ -5,9 +5,9 @@ use Rattle.printout.proofs.Texts.{line_within}
 use Rattle.show.proofs.show_refused.Goals as goal
 
 pub slice_bounds-line-end : goal.slice_bounds-line-end
-slice_bounds-line-end g c = line_within (refused_line c.args.number) 0 _ c.refused_line.ensures c.in-Upto.is (omega arith)
+slice_bounds-line-end g c = line_within (refused_line c.args.refusal.number) 0 _ c.refused_line.ensures c.in-Some.is (omega arith)
 
 pub slice_bounds-write_all-end : goal.slice_bounds-write_all-end
 slice_bounds-write_all-end g c =
-    let within : c.in-Upto.n ≤ length c.refused_line.new.out = line_within (refused_line c.args.number) 0 _ c.refused_line.ensures c.in-Upto.is (omega arith) in
-    omega (arith, length-take c.in-Upto.n c.refused_line.new.out)
+    let within : c.in-Some.n ≤ length c.refused_line.new.out = line_within (refused_line c.args.refusal.number) 0 _ c.refused_line.ensures c.in-Some.is (omega arith) in
+    omega (arith, length-take c.in-Some.n c.refused_line.new.out)

@@ -47,7 +47,7 @@ edit_by_byte_requires c κs =
     let at_start = at_loop_i.before.before.before in
     let a = at_start.args in
     let L = at_loop_i.loop-i in
-    let last = L.i + c.before.least.result in
+    let last = L.i + c.before.min.result in
     (omega arith, ((piece a.how a.s.now L.i last a.to (omega arith) (omega arith) (omega arith) L.invariant.4).0, at_start.requires.1.1))
 
 loop_again_2 : tie.Need-loop-i-preserved invariant_loop decreases_loop
@@ -58,7 +58,7 @@ loop_again_2 c =
     let at_start = at_loop_i.before.before.before in
     let a = at_start.args in
     let L = at_loop_i.loop-i in
-    let last = L.i + at_least.least.result in
+    let last = L.i + at_least.min.result in
     let stores = at_edit_by_byte_o.edit_by_byte-o in
     let t = (piece a.how a.s.now L.i last a.to (omega arith) (omega arith) (omega arith) L.invariant.4).1 stores.result stores.new.buf stores.ensures in
     (omega arith, omega arith, omega arith, omega arith, t.1)

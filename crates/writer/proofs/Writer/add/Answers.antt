@@ -1,38 +1,39 @@
--- `writer::Writer::add`: the checks down to 34, the frames that an altered file loses, the size, then the room. Assumes nothing.
-use mathlib.Core.Path.{sym, ◌∙◌}
-use Rattle.format.specs.Record.{rec_of}
+-- The checks down to 34, the frames that an altered file loses, the size, then the room. Assumes nothing.
+use mathlib.Core.Path.{sym, ap, ◌∙◌}
+use Rattle.std.proofs.lemmas.Result.{err_from_is_err_and}
+use Rattle.format.specs.Record.{given_rec}
+use Rattle.format.specs.Refusals.{passed}
 use Rattle.writer.proofs.Layouts.{puttable}
 use Rattle.writer.proofs.Lengths.{size_refusal_lem, exact_size}
-use Rattle.writer.proofs.Adds.{unsound, too_long_lem, appended}
+use Rattle.writer.proofs.Adds.{refused, too_long}
 use Rattle.writer.proofs.Writer.add.Goals as goal
 
-pub returns-then-k-ne0-clause-added : goal.returns-then-k-ne0-clause-added
-returns-then-k-ne0-clause-added c =
+pub returns-in_err-record_check-clause-added : goal.returns-in_err-record_check-clause-added
+returns-in_err-record_check-clause-added c =
     let a = c.args in
-    unsound a.self (rec_of a.heading a.name.now a.names.now a.rest.now a.deviations.now) a.buffer.now _ c.record_check-k.ensures c.if-k-ne0.true
+    let r = given_rec a.heading a.given.now in
+    let p = err_from_is_err_and c.from_residual.result c.from_residual.ensures.1 in
+    rw (p.1, p.2) (refused a.self.now r a.buffer.now c.in_err-record_check.ensures)
 
 pub measure_frame-size-requires : goal.measure_frame-size-requires
 measure_frame-size-requires c =
     let a = c.args in
-    puttable a.self.version (rec_of a.heading a.name.now a.names.now a.rest.now a.deviations.now) (sym c.record_check-k.ensures ∙ c.if-k-ne0.false)
+    let r = given_rec a.heading a.given.now in
+    puttable a.self.now.version r c.in_ok-record_check.ensures
 
-pub returns-then-j-ne0-clause-added : goal.returns-then-j-ne0-clause-added
-returns-then-j-ne0-clause-added c =
+pub returns-in_err-size_check-clause-added : goal.returns-in_err-size_check-clause-added
+returns-in_err-size_check-clause-added c =
     let a = c.args in
-    let r = rec_of a.heading a.name.now a.names.now a.rest.now a.deviations.now in
-    let size = c.size_check-j.ensures ∙ size_refusal_lem a.self.version a.self.mode r _ c.measure_frame-size.ensures in
-    too_long_lem a.self r a.buffer.now (sym c.record_check-k.ensures ∙ c.if-k-ne0.false) (sym c.is_lost-lost.ensures ∙ c.if-lost.false) _ size c.if-j-ne0.true
+    let w = a.self.now in
+    let r = given_rec a.heading a.given.now in
+    let p = err_from_is_err_and c.from_residual-in_err-size_check.result c.from_residual-in_err-size_check.ensures.1 in
+    let size = c.in_err-size_check.ensures ∙ ap passed (size_refusal_lem w.version w.mode r _ c.measure_frame-size.ensures) in
+    rw (p.1, p.2) (too_long w r a.buffer.now c.in_ok-record_check.ensures (sym c.is_lost.ensures ∙ c.if-is_lost.false) size)
 
 pub append-requires : goal.append-requires
 append-requires c =
     let a = c.args in
-    let r = rec_of a.heading a.name.now a.names.now a.rest.now a.deviations.now in
-    let exact = exact_size a.self.version _ _ c.measure_frame-size.ensures (sym c.size_check-j.ensures ∙ c.if-j-ne0.false) in
-    (puttable a.self.version r (sym c.record_check-k.ensures ∙ c.if-k-ne0.false), exact.0, exact.1)
-
-pub returns-clause-added : goal.returns-clause-added
-returns-clause-added c =
-    let a = c.args in
-    let r = rec_of a.heading a.name.now a.names.now a.rest.now a.deviations.now in
-    let size = sym (size_refusal_lem a.self.version a.self.mode r _ c.measure_frame-size.ensures) ∙ (sym c.size_check-j.ensures ∙ c.if-j-ne0.false) in
-    c.append.ensures ∙ appended a.self r a.buffer.now (sym c.record_check-k.ensures ∙ c.if-k-ne0.false) (sym c.is_lost-lost.ensures ∙ c.if-lost.false) size
+    let w = a.self.now in
+    let r = given_rec a.heading a.given.now in
+    let exact = exact_size w.version _ _ c.measure_frame-size.ensures c.in_ok-size_check.ensures in
+    (puttable w.version r c.in_ok-record_check.ensures, exact.0, exact.1)

@@ -1,6 +1,0 @@
--- The measure is how many numbers of cases are left.
-use Rattle.std.proofs.Common.{◌-◌, ◌^◌}
-use Rattle.test_edits.proofs.main.Given as goal
-
-abbrev pub decreases-loop-number : goal.decreases-loop-number
-decreases-loop-number l = 2 ^ 64 - l.number

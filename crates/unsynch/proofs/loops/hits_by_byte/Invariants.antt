@@ -1,0 +1,9 @@
+use Rattle.std.proofs.Common.{◌≡◌, ◌+◌, ◌≤◌}
+use Rattle.unsynch.specs.Edits.{hits_after}
+use Rattle.unsynch.proofs.loops.hits_by_byte.Given as goal
+
+abbrev pub invariant-loop-k : goal.invariant-loop-k
+invariant-loop-k l = record {
+  few : l.n + l.from ≤ l.k;
+  same : l.n + hits_after l.how l.s l.k l.to ≡ hits_after l.how l.s l.from l.to;
+}
