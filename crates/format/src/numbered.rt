@@ -8,6 +8,7 @@ use crate::refusals::{Refusal, UNKNOWN_VERSION};
 use crate::{Mode, Version};
 
 // The edition that a number says; a number that says none is taken for 4.
+// Kept: is_version and this beside TryFrom, for the header's checks answer no value.
 pub fn version_of(n: u64) -> Version
     ensures { result ≡ version_of n }
 {

@@ -1,6 +1,6 @@
 // The refusals: numbers, each with the case in which it is given.
 
-// Why a call was refused, by its number in document 01. Every number of a byte is one: a caller's words may say any from 1 to 255.
+// Why a call was refused, by its number in document 01. No function answers 0; a caller's words may say any other number of a byte.
 #[derive(Clone, Copy, Debug, PartialEq, Eq)]
 pub struct Refusal {
     pub number: u8,

@@ -29,7 +29,7 @@ struct Case {
 // A case whose edition was read.
 fn next_case<R: Read>(from: &mut R, edition: &[u8; 1]) -> io::Result<Case> {
     Ok(Case {
-        version: version_of(edition[0] as u64),
+        version: version_of(u64::from(edition[0])),
         in_work: next_u8(from)? != 0,
         room: next_u32(from)?,
         begin: next_u32(from)?,
@@ -45,7 +45,7 @@ fn answer<W: Write>(to: &mut W, shown: Result<Option<(Record, usize)>, Refusal>)
         Ok(None) => say(to, b" nothing"),
         Err(k) => {
             say(to, b" refused")?;
-            decimal(to, k.number as u64)
+            decimal(to, u64::from(k.number))
         }
         Ok(Some((found, next))) => print::frame(to, found, next),
     }

@@ -6,8 +6,8 @@ use test_prints::{decimal, either, say};
 
 // Two numbers.
 fn two<W: Write>(to: &mut W, a: u32, b: u32) -> io::Result<()> {
-    decimal(to, a as u64)?;
-    decimal(to, b as u64)
+    decimal(to, u64::from(a))?;
+    decimal(to, u64::from(b))
 }
 
 // A kind and its numbers.
@@ -15,11 +15,11 @@ fn fields<W: Write>(to: &mut W, f: Fields) -> io::Result<()> {
     match f {
         Fields::Text { encoding } => {
             say(to, b" text")?;
-            decimal(to, encoding as u64)
+            decimal(to, u64::from(encoding))
         }
         Fields::Popularimeter { rating, counter } => {
             say(to, b" popularimeter")?;
-            decimal(to, rating as u64)?;
+            decimal(to, u64::from(rating))?;
             decimal(to, counter)
         }
         Fields::Table {
@@ -30,9 +30,9 @@ fn fields<W: Write>(to: &mut W, f: Fields) -> io::Result<()> {
             bits_for_millis,
         } => {
             say(to, b" table")?;
-            decimal(to, frames as u64)?;
+            decimal(to, u64::from(frames))?;
             two(to, bytes, millis)?;
-            two(to, bits_for_bytes as u32, bits_for_millis as u32)
+            two(to, u32::from(bits_for_bytes), u32::from(bits_for_millis))
         }
         Fields::Chapter {
             start_time,

@@ -22,8 +22,8 @@ pub fn next_u32<R: Read>(from: &mut R) -> io::Result<u32> {
 
 // The number in the next eight bytes.
 pub fn next_u64<R: Read>(from: &mut R) -> io::Result<u64> {
-    let high = next_u32(from)? as u64;
-    let low = next_u32(from)? as u64;
+    let high = u64::from(next_u32(from)?);
+    let low = u64::from(next_u32(from)?);
     Ok((high << 32) + low)
 }
 

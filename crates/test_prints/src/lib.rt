@@ -43,7 +43,7 @@ pub fn sums<W: Write>(to: &mut W, s: &[u8]) -> io::Result<()> {
     let mut a = 0u64;
     let mut b = 0u64;
     for x in s {
-        a = a.wrapping_add(*x as u64);
+        a = a.wrapping_add(u64::from(*x));
         b = b.wrapping_add(a);
     }
     decimal(to, a)?;

@@ -18,7 +18,7 @@ fn replay<W: Write>(to: &mut W, tag: &mut [u8], user: &[u8], amount: u64) -> io:
         }
         Err(k) => {
             say(to, b" refused")?;
-            decimal(to, k.number as u64)?;
+            decimal(to, u64::from(k.number))?;
         }
     }
     hex(to, tag)?;

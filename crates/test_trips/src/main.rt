@@ -17,7 +17,7 @@ use test_prints::{decimal, either, say};
 // The number of a refusal.
 fn refused<W: Write>(to: &mut W, k: Refusal) -> io::Result<()> {
     say(to, b" refused")?;
-    decimal(to, k.number as u64)?;
+    decimal(to, u64::from(k.number))?;
     say(to, b"\n")
 }
 

@@ -125,7 +125,7 @@ fn replay<R: Read, W: Write>(from: &mut R, to: &mut W, case: Case) -> io::Result
         Ok(writer) => write(from, to, case, writer),
         Err(k) => {
             say(to, b"begin refused")?;
-            decimal(to, k.number as u64)?;
+            decimal(to, u64::from(k.number))?;
             say(to, b"\n")
         }
     }

@@ -51,7 +51,7 @@ pub fn reported<W: Write>(
 
 // A refused call, which reports no bytes.
 pub fn refused<W: Write>(to: &mut W, k: Refusal, used: usize, kept: bool) -> io::Result<()> {
-    decimal(to, k.number as u64)?;
+    decimal(to, u64::from(k.number))?;
     left(to, used, kept)?;
     say(to, b"\n")
 }
