@@ -49,6 +49,9 @@ version_try_from_one κs a x y v w p q = alike p q λ o. (o, v)
 pub version_u8_from_one : OneAnswer format.specs.contracts.numbered.U8FromVersion.from.ended format.proofs.numbered.U8FromVersion.from.Reads.Learnt
 version_u8_from_one κs a x y v w p q = alike p q λ o. (o, v)
 
+pub mode_of_one : OneAnswer format.specs.contracts.numbered.mode_of.ended format.proofs.numbered.mode_of.Reads.Learnt
+mode_of_one κs a x y v w p q = alike p q λ o. (o, v)
+
 pub mode_try_from_one : OneAnswer format.specs.contracts.numbered.ModeTryFromU64.try_from.ended format.proofs.numbered.ModeTryFromU64.try_from.Reads.Learnt
 mode_try_from_one κs a x y v w p q = alike p q λ o. (o, v)
 
@@ -175,7 +178,7 @@ pub open_one : OneAnswer reader.specs.contracts.opening.open.ended reader.proofs
 open_one κs a x y v w p q = alike p q λ o. (o.0, (o.1, v.1))
 
 pub step_one : OneAnswer reader.specs.contracts.Reader.step.ended reader.proofs.Reader.step.Reads.Learnt
-step_one κs a x y v w p q = alike p q λ o. (o.0.0, (o.0.1, (o.1, v.1.1)))
+step_one κs a x y v w p q = alike p q λ o. (o.0, (v.0, (o.1, v.1.1)))
 
 -- ---- meter
 
@@ -183,7 +186,7 @@ pub meter_open_one : OneAnswer meter.specs.contracts.opening.open.ended meter.pr
 meter_open_one κs a x y v w p q = alike p q λ o. (o.0, (o.1, v.1))
 
 pub next_one : OneAnswer meter.specs.contracts.Meter.next.ended meter.proofs.Meter.next.Reads.Learnt
-next_one κs a x y v w p q = alike p q λ o. (o.0.0, (o.0.1, (o.1, v.1.1)))
+next_one κs a x y v w p q = alike p q λ o. (o.0, (v.0, (o.1, v.1.1)))
 
 -- ---- checks
 
@@ -205,7 +208,7 @@ pub begin_plain_one : OneAnswer writer.specs.contracts.begin.begin_plain.ended w
 begin_plain_one κs a x y v w p q = alike p q λ o. (o, v)
 
 pub add_one : OneAnswer writer.specs.contracts.Writer.add.ended writer.proofs.Writer.add.Reads.Learnt
-add_one κs a x y v w p q = alike p.0 q.0 λ o. (o.0.0, (o.0.1, (o.1, v.1.1)))
+add_one κs a x y v w p q = alike p.0 q.0 λ o. (o.0, (v.0, (o.1, v.1.1)))
 
 pub finish_one : OneAnswer writer.specs.contracts.Writer.finish.ended writer.proofs.Writer.finish.Reads.Learnt
 finish_one κs a x y v w p q = alike p q λ o. (o.0, (v.0, (o.1, v.1.1)))

@@ -45,7 +45,7 @@ resync_into_same c d p q e = p ∙ ap (λ (i : Given). into_of (resynchronised (
 
 -- ---- Reader::step: the reader, work and tag; document 01's number and values, and the work buffer
 abbrev pub step_given : Call reader.specs.contracts.Reader.step.ended → Reader × List ℕ × List ℕ
-step_given c = (c.args.0.now, c.args.1.0.now, c.args.1.1.0.now)
+step_given c = (c.args.0, c.args.1.0.now, c.args.1.1.0.now)
 
 abbrev pub Told : Type 0
 Told = ℕ × List Record × Reader × List ℕ
@@ -54,7 +54,7 @@ abbrev pub answered : Step × List ℕ → Told
 answered o = (step_number o.0, step_record o.0, step_reader o.0, o.1)
 
 abbrev pub step_told : Call reader.specs.contracts.Reader.step.ended → Told
-step_told c = answered ((c.answer, c.left.0), c.left.1.0)
+step_told c = answered (c.answer, c.left.1.0)
 
 pub step_same : SameAnswer reader.specs.contracts.Reader.step.ended reader.proofs.Reader.step.Reads.Learnt step_given step_told
 step_same c d p q e = ap answered (p ∙ ap (λ (i : Reader × List ℕ × List ℕ). step_of i.0 i.2 i.1) e ∙ sym q)
@@ -71,13 +71,13 @@ head_same c d p q e = ap (λ (o : Result (Option Head) Refusal). (head_number o,
 
 -- ---- Writer::add: the writer, the buffer and the record; document 01's number, count and writer, and the buffer
 abbrev pub add_given : Call writer.specs.contracts.Writer.add.ended → Writer × List ℕ × Rec
-add_given c = (c.args.0.now, c.args.1.0.now, given_rec c.args.1.1.0 c.args.1.1.1.0.now)
+add_given c = (c.args.0, c.args.1.0.now, given_rec c.args.1.1.0 c.args.1.1.1.0.now)
 
 abbrev pub added : Added × List ℕ → ℕ × ℕ × Writer × List ℕ
 added o = (added_number o.0, added_count o.0, added_writer o.0, o.1)
 
 abbrev pub add_told : Call writer.specs.contracts.Writer.add.ended → ℕ × ℕ × Writer × List ℕ
-add_told c = added ((c.answer, c.left.0), c.left.1.0)
+add_told c = added (c.answer, c.left.1.0)
 
 pub add_same : SameAnswer writer.specs.contracts.Writer.add.ended writer.proofs.Writer.add.Reads.Learnt add_given add_told
 add_same c d p q e = ap added (p.0 ∙ ap (λ (i : Writer × List ℕ × Rec). add_of i.0 i.2 i.1) e ∙ sym q.0)

@@ -81,10 +81,17 @@ module _ (version mode padding : ℕ) (r : Rec) (buffer output : List ℕ) where
         → on_added padding output (x, w₁) b ≡ write_of version mode padding r buffer output
     added adds = ap {B = Writing} (λ (o : Adding). on_added padding output o.0 o.1) adds ∙ begun begins
 
-    pub finished : {n : ℕ} {w₁ : Writer} {b : List ℕ} → ◌≡◌ {A = Adding} ((Ok n, w₁), b) (add_of w r buffer)
-        → {f : Result ℕ Refusal} {o : List ℕ} → ◌≡◌ {A = Finishing} (f, o) (finish_of w₁ padding b output)
-        → ◌≡◌ {A = Writing} (f, (b, o)) (write_of version mode padding r buffer output)
-    finished {b = b} adds finishes = ap {B = Writing} (λ (z : Finishing). (z.0, (b, z.1))) finishes ∙ added adds
+    module _ {x : Result ℕ Refusal} {w₁ : Writer} {b : List ℕ} (adds : ◌≡◌ {A = Adding} ((x, w₁), b) (add_of w r buffer)) where
+      -- by the answer that adding told
+      told : {x' : Result ℕ Refusal} → x ≡ x' → on_added padding output (x', w₁) b ≡ write_of version mode padding r buffer output
+      told known = ap (λ (z : Result ℕ Refusal). on_added padding output (z, w₁) b) (sym known) ∙ added adds
+
+      pub declined : {k : Refusal} → x ≡ Err k → ◌≡◌ {A = Writing} (Err k, (b, output)) (write_of version mode padding r buffer output)
+      declined known = told known
+
+      pub finished : {n : ℕ} → x ≡ Ok n → {f : Result ℕ Refusal} {w₂ : Writer} {o : List ℕ} → ◌≡◌ {A = Finishing} ((f, w₂), o) (finish_of w₁ padding b output)
+          → ◌≡◌ {A = Writing} (f, (b, o)) (write_of version mode padding r buffer output)
+      finished known finishes = ap {B = Writing} (λ (z : Finishing). (z.0.0, (b, z.1))) finishes ∙ told known
 
 -- ---- the tag lies in the output
 

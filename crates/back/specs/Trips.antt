@@ -19,7 +19,7 @@ abbrev pub Writing : Type 0
 Writing = Result ℕ Refusal × (List ℕ × List ℕ)
 
 abbrev pub on_added : ℕ → List ℕ → Added → List ℕ → Writing
-on_added padding output (Ok n, w) buffer = ((finish_of w padding buffer output).0, (buffer, (finish_of w padding buffer output).1))
+on_added padding output (Ok n, w) buffer = ((finish_of w padding buffer output).0.0, (buffer, (finish_of w padding buffer output).1))
 on_added padding output (Err k, w) buffer = (Err k, (buffer, output))
 
 abbrev pub on_begun : ℕ → Rec → List ℕ → List ℕ → Result Writer Refusal → Writing

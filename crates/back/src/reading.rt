@@ -9,9 +9,11 @@ use reader::opening::open;
 pub(crate) fn read_one(work: &mut [u8], tag: &[u8]) -> Option<Record>
     ensures { (result, work.new) ≡ read_of tag.now work.old }
 {
-    let mut reader = open(work, tag).ok()?;
-    let record = reader.step(work, tag).ok()??;
-    match reader.step(work, tag).ok()? {
+    let reader = open(work, tag).ok()?;
+    let (first, moved) = reader.step(work, tag);
+    let record = first.ok()??;
+    let (second, _) = moved.step(work, tag);
+    match second.ok()? {
         None => Some(record),
         Some(_) => None,
     }

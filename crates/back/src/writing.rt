@@ -21,7 +21,9 @@ pub(crate) fn write_one(
         (result, (buffer.new, output.new)) ≡ write_of version mode padding r buffer.old output.old }
     ensures fits_in { FitsIn result (given_rec heading given.now) }
 {
-    let mut writer = begin(version, mode, false)?;
-    writer.add(buffer, heading, given)?;
-    writer.finish(output, &buffer[..], padding)
+    let writer = begin(version, mode, false)?;
+    let (added, next) = writer.add(buffer, heading, given);
+    added?;
+    let (finished, _) = next.finish(output, &buffer[..], padding);
+    finished
 }

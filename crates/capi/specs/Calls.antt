@@ -7,7 +7,7 @@ use Rattle.format.specs.declared.Fields.{Fields}
 use Rattle.format.specs.declared.Heading.{Heading}
 use Rattle.frame.specs.References.{unpack_of}
 use Rattle.reader.specs.Reader.{header_of, open_of, step_of, Step}
-use Rattle.writer.specs.Writer.{begin_of, add_of, finish_of, Added}
+use Rattle.writer.specs.Writer.{begin_of, add_of, finish_of, Added, Finished}
 use Rattle.writer.specs.declared.Writer.{Writer}
 use Rattle.capi.specs.Words.{header_words, reader_words, reader_of, record_words, heading_of, writer_words, writer_of}
 use Rattle.format.specs.declared.refusals.Refusal.{Refusal}
@@ -98,9 +98,9 @@ sv_add words name names rest deviations buffer writer count =
 
 -- ---- sv_finish: output, count
 
-abbrev pub after_finish : Result ℕ Refusal × List ℕ → List ℕ → Left2
-after_finish (Ok n, output) count = (0, output, counted n count)
-after_finish (Err k, output) count = (k.number, output, counted 0 count)
+abbrev pub after_finish : Finished × List ℕ → List ℕ → Left2
+after_finish ((Ok n, w), output) count = (0, output, counted n count)
+after_finish ((Err k, w), output) count = (k.number, output, counted 0 count)
 
 abbrev pub finish_with : Option Writer → ℕ → List ℕ → List ℕ → List ℕ → Left2
 finish_with None padding buffer output count = (2, output, counted 0 count)

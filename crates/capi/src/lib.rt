@@ -85,11 +85,11 @@ pub fn sv_step(tag: &[u8], work: &mut [u8], reader: &mut [u64], record: &mut [u6
     if (reader.len() < places::READER_WORDS) | (record.len() < places::RECORD_WORDS) {
         return SHORT;
     }
-    let Some(mut r) = load_reader(reader) else {
+    let Some(r) = load_reader(reader) else {
         return NO_STATE;
     };
-    let step = r.step(work, tag);
-    store_reader(reader, r);
+    let (step, moved) = r.step(work, tag);
+    store_reader(reader, moved);
     match step {
         Ok(Some(found)) => {
             store_record(record, found);
@@ -132,8 +132,7 @@ pub fn sv_meter_next(tag: &[u8], work: &mut [u8], meter: &mut [u64], metered: &m
     let Ok(version) = Version::try_from(meter[places::METER_VERSION]) else {
         return NO_STATE;
     };
-    let mut moved = running(meter, version);
-    let next = moved.next(work, tag);
+    let (next, moved) = running(meter, version).next(work, tag);
     answered(meter, metered, next, moved)
 }
 
@@ -306,7 +305,7 @@ pub fn sv_add(
         return SHORT;
     }
     count[0] = NONE;
-    let Some(mut w) = load_writer(writer) else {
+    let Some(w) = load_writer(writer) else {
         return NO_STATE;
     };
     let Some(h) = load_heading(record) else {
@@ -318,9 +317,10 @@ pub fn sv_add(
         rest,
         deviations,
     };
-    match w.add(buffer, h, &given) {
+    let (added, next) = w.add(buffer, h, &given);
+    match added {
         Ok(n) => {
-            store_writer(writer, w);
+            store_writer(writer, next);
             count[0] = n as u64;
             0
         }
@@ -346,7 +346,8 @@ pub fn sv_finish(
     let Some(w) = load_writer(writer) else {
         return NO_STATE;
     };
-    match w.finish(output, buffer, padding as usize) {
+    let (finished, _) = w.finish(output, buffer, padding as usize);
+    match finished {
         Ok(n) => {
             count[0] = n as u64;
             0

@@ -74,8 +74,8 @@ module _ (padding : ℕ) (buffer output count : List ℕ) (k : ℕ) where
   Same o = finished_number o.0 ≡ suc k → o.1 ≡ output
 
   finished : (o : Finishing) → Same o → Left (after_finish o count)
-  finished (Ok n, left) h e = absurd (omega arith)
-  finished (Err j, left) h e = (h e, λ one. get_or-set_same count 0 0 0 one)
+  finished ((Ok n, w), left) h e = absurd (omega arith)
+  finished ((Err j, w), left) h e = (h e, λ one. get_or-set_same count 0 0 0 one)
 
   finish_words : (w : Option Writer) → Left (finish_with w padding buffer output count)
   finish_words None e = (refl, λ one. get_or-set_same count 0 0 0 one)

@@ -19,7 +19,7 @@ use Rattle.promises.specs.Samples.{plain, sample_of}
 use Rattle.promises.proofs.Samples.{off_22, off_23, off_24}
 use Rattle.format.specs.Looks.{look_for, look_at}
 use Rattle.format.specs.declared.Mode.{Mode}
-use Rattle.writer.specs.Writer.{begin_of, add_of, finish_of}
+use Rattle.writer.specs.Writer.{begin_of, add_of, Finishing, finish_of}
 use Rattle.writer.specs.Answers.{begun_writer, added_number, added_writer, finished_number, finished_count}
 use Rattle.writer.specs.declared.Writer.{Writer}
 use Rattle.raise.specs.Promises.{PlainRuns}
@@ -101,7 +101,7 @@ module _ (version : ℕ) (r : Rec) where
   abbrev last : Writer
   last = added_writer (add_of begun r sevens).0
 
-  abbrev finished : Result ℕ Refusal × List ℕ
+  abbrev finished : Finishing
   finished = finish_of last 24 (add_of begun r sevens).1 sevens
 
   abbrev padded : List ℕ

@@ -8,7 +8,8 @@ use mathlib.Core.List.{List, [], ◌∷◌, ◌++◌}
 use lib.ListN.{length, take, drop, get_or, length-append}
 use lib.Seq.{take-append_seam, drop-append-add, get_or-append-add}
 use lib.Dec.{eqb, eqb-suc-zero}
-use Rattle.std.specs.List.{filter}
+use borrow.Author.Tests.{ne_eqb}
+use Rattle.laws.proofs.Cuts.{drop_next}
 use Rattle.format.specs.Bytes.{pick, zero_at, zeros_in}
 use Rattle.format.specs.Chapter.{names_len}
 use Rattle.format.specs.Encode.{last_or}
@@ -69,10 +70,13 @@ names_back d (zero ∷ names) z h = ap suc (names_back 0 names z h)
 names_back d (suc x ∷ names) z h =
     rw (eqb-suc-zero, name_goes_on (zeros_in names) x (names ++ z) (last_zero x names h), names_back (suc x) names z h)
 
--- ---- zeros, kept by a test
+-- ---- how many zeros there are from a place on
 
-pub zeros_kept : (s : List ℕ) → length (filter (λ x. eqb x 0) s) ≡ zeros_in s
-unfolding zeros_in
-zeros_kept [] = refl
-zeros_kept (zero ∷ s) = ap suc (zeros_kept s)
-zeros_kept (suc x ∷ s) = rw eqb-suc-zero (zeros_kept s)
+module _ (s : List ℕ) (i : ℕ) (there : i < length s) where
+  pub zero_counts : get_or s i 0 ≡ 0 → zeros_in (drop i s) ≡ suc (zeros_in (drop (i + 1) s))
+  unfolding zeros_in
+  zero_counts e = rw (drop_next s i there, e)
+
+  pub other_counts_not : (get_or s i 0 ≡ 0 → ⊥) → zeros_in (drop i s) ≡ zeros_in (drop (i + 1) s)
+  unfolding zeros_in
+  other_counts_not e = rw (drop_next s i there, ne_eqb _ _ e)

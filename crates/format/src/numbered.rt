@@ -2,7 +2,7 @@
 ghost use Rattle.std.specs.Prelude.{◌≡◌, ◌≤◌};
 ghost use Rattle.format.specs.Header.{version_of};
 ghost use Rattle.format.specs.Frame.{head_len};
-ghost use Rattle.format.specs.Numbered.{version_number, is_version, version_said, mode_number, mode_said};
+ghost use Rattle.format.specs.Numbered.{version_number, is_version, version_said, mode_of, mode_number, mode_said};
 
 use crate::refusals::{Refusal, UNKNOWN_VERSION};
 use crate::{Mode, Version};
@@ -34,6 +34,18 @@ pub fn head_len(version: Version) -> usize
         Version::Id3v22 => 6,
         Version::Id3v23 => 10,
         Version::Id3v24 => 10,
+    }
+}
+
+// The mode that a number says; a number that says none is taken for 2.
+// Kept beside TryFrom: it cannot fail.
+pub fn mode_of(n: u64) -> Mode
+    ensures { result ≡ mode_of n }
+{
+    match n {
+        0 => Mode::Off,
+        1 => Mode::Crate,
+        _ => Mode::Standard,
     }
 }
 
@@ -73,12 +85,10 @@ impl TryFrom<u64> for Mode {
     ghost try_from_gives = { λ n r. r ≡ mode_said n };
 
     fn try_from(n: u64) -> Result<Mode, Refusal> {
-        match n {
-            0 => Ok(Mode::Off),
-            1 => Ok(Mode::Crate),
-            2 => Ok(Mode::Standard),
-            _ => Err(UNKNOWN_VERSION),
+        if n > 2 {
+            return Err(UNKNOWN_VERSION);
         }
+        Ok(mode_of(n))
     }
 }
 

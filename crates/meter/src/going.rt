@@ -123,16 +123,20 @@ impl Meter {
         }
     }
 
-    // Goes on to the next whole popularimeter of the top level, or to the end, or a refusal. What stops a reader stops the
-    // meter, and it stays stopped.
+    // Goes on to the next whole popularimeter of the top level: it, or nothing at the end, or a refusal, with the moved meter.
+    // What stops a reader stops the meter, and it stays stopped.
     #[tactic(auto, using(crate::proofs::Meets::next_ended, crate::proofs::Meets::next_failed))]
-    pub fn next(&mut self, work: &mut [u8], tag: &[u8]) -> Result<Option<Metered>, Refusal>
-        ensures { ((result, self.new), work.new) ≡ next_of self.old tag.now work.old }
+    pub fn next(self, work: &mut [u8], tag: &[u8]) -> (Result<Option<Metered>, Refusal>, Meter)
+        ensures { (result, work.new) ≡ next_of self tag.now work.old }
     {
         match self.reader.stop {
-            Stop::Running => self.run(work, tag),
-            Stop::Ended => Ok(None),
-            Stop::Failed(k) => Err(k),
+            Stop::Running => {
+                let mut moved = self;
+                let met = moved.run(work, tag);
+                (met, moved)
+            }
+            Stop::Ended => (Ok(None), self),
+            Stop::Failed(k) => (Err(k), self),
         }
     }
 }

@@ -63,16 +63,19 @@ fn put_frames(
     out: &mut [u8],
     tag: &[u8],
     at: usize,
-    mut reader: Reader,
+    reader: Reader,
 ) -> Option<usize>
     ensures { let lines = frame_lines (length tag.now) tag.now reader 0 work.old in
         (result, (work.new, out.new)) ≡ put_lines lines at work.old out.old }
 {
     let mut behind = at;
+    let mut moved = reader;
     for number in 0..tag.len() {
-        match reader.step(work, tag) {
+        let (found, next) = moved.step(work, tag);
+        moved = next;
+        match found {
             Ok(Some(record)) => {
-                behind = put_record(out, work, tag, behind, number, reader.version, record)?;
+                behind = put_record(out, work, tag, behind, number, moved.version, record)?;
             }
             Ok(None) => return end_line(out, behind, number),
             Err(refusal) => return refused_line(out, behind, refusal.number),

@@ -19,7 +19,7 @@ use Rattle.format.specs.declared.Mode.{Mode}
 use Rattle.format.proofs.Checks.{of_picked}
 use Rattle.format.proofs.Accepted.{accepted as sound}
 use Rattle.writer.specs.Writer.{is_known, begin_of, grown, Adding, add_of, Finishing, finish_of}
-use Rattle.writer.specs.Answers.{begun_writer, added_number, added_writer, finished_number, finished_count}
+use Rattle.writer.specs.Answers.{begun_writer, added_number, added_writer, finished_number, finished_count, finished_writer}
 use Rattle.writer.specs.declared.Writer.{Writer}
 use Rattle.promises.specs.Written.{Adds, none, accepted, declined, finished, WrittenAs, Written, kept_of}
 use Rattle.promises.specs.Promises.{frames_of}
@@ -125,8 +125,16 @@ next w r rs b w'' b'' f (put l passed room) c =
       sounds = rw l (also (sound v m r passed f) c.sounds);
     }
 
+abbrev WriterOf : Writer → Finishing → Type 0
+WriterOf w o = finished_writer o.0 ≡ w
+
 pub finish_keeps : FinishKeeps
-finish_keeps w padding b output = refl
+unfolding finish_of
+finish_keeps w padding b output =
+    let frames = take w.used b in
+    let tag = tag_of w.version w.mode padding frames in
+    of_picked (WriterOf w) (leb (2 ^ 28) (length (region_bytes w.version w.mode padding frames))) (λ t. refl)
+    (λ t. of_picked (WriterOf w) (ltb (length b) w.used || ltb (length output) (length tag)) (λ s. refl) (λ s. refl))
 
 collected : {w w' : Writer} {b b' : List ℕ} {rs : List Rec} → w.used ≤ length b → Adds w b rs w' b' → Collected w b rs w' b'
 collected h none = record { version = refl; mode = refl; altered = refl; within = h; bytes = sym (append-nil _); sounds = nothing }
@@ -149,8 +157,8 @@ pub record Finishes (w : Writer) (padding : ℕ) (b : List ℕ) (n : ℕ) (left 
 
 -- a refused call has a number
 abbrev pub Numbered : Finishing → Type 0
-Numbered (Ok n, left) = Unit {0}
-Numbered (Err k, left) = 0 < k.number
+Numbered ((Ok n, w), left) = Unit {0}
+Numbered ((Err k, w), left) = 0 < k.number
 
 pub numbered : (w : Writer) (padding : ℕ) (b output : List ℕ) → Numbered (finish_of w padding b output)
 unfolding finish_of

@@ -20,4 +20,4 @@ any_calls [] w b f = none
 any_calls (add r ∷ cs) w b f =
     let o = add_of w r b in
     taken w b r (ran cs (added_writer o.0) o.1) (added_number o.0) f.0 refl (any_calls cs (added_writer o.0) o.1 f.1)
-any_calls (finish padding output ∷ cs) w b f = finished padding output (any_calls cs (finished_writer w (finish_of w padding b output).0) b f)
+any_calls (finish padding output ∷ cs) w b f = finished padding output (any_calls cs (finished_writer (finish_of w padding b output).0) b f)

@@ -42,7 +42,7 @@ refused_add w r b k n =
     (none_counted k (add_of w r b).0 n, s.0, s.1)
 
 abbrev FinishBy : Writer → List ℕ → ℕ → Finishing → Type 0
-FinishBy w output k o = finished_number o.0 ≡ suc k → (finished_count o.0 ≡ 0) × (finished_writer w o.0 ≡ w) × (o.1 ≡ output)
+FinishBy w output k o = finished_number o.0 ≡ suc k → (finished_count o.0 ≡ 0) × (finished_writer o.0 ≡ w) × (o.1 ≡ output)
 
 pub refused_finish : RefusedFinish
 unfolding finish_of

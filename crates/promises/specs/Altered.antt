@@ -52,7 +52,7 @@ abbrev pub AddKeeps : Type 0
 AddKeeps = (w : Writer) (r : Rec) (buffer : List ℕ) → SameBegun w (added_writer (add_of w r buffer).0)
 
 abbrev pub FinishKeeps : Type 0
-FinishKeeps = (w : Writer) (padding : ℕ) (buffer output : List ℕ) → finished_writer w (finish_of w padding buffer output).0 ≡ w
+FinishKeeps = (w : Writer) (padding : ℕ) (buffer output : List ℕ) → finished_writer (finish_of w padding buffer output).0 ≡ w
 
 -- So the writer that is finished has them as they were given to begin.
 abbrev pub AsBegun : Type 0

@@ -27,7 +27,7 @@ if_taken (suc k) r o = o
 unfoldable pub ran : List Call → Writer → List ℕ → Ran
 ran [] w b = ([], w, b)
 ran (add r ∷ cs) w b = let o = add_of w r b in if_taken (added_number o.0) r (ran cs (added_writer o.0) o.1)
-ran (finish padding output ∷ cs) w b = ran cs (finished_writer w (finish_of w padding b output).0) b
+ran (finish padding output ∷ cs) w b = ran cs (finished_writer (finish_of w padding b output).0) b
 
 -- Every run of calls is one that a written tag may come of.
 abbrev pub AnyCalls : Type 0

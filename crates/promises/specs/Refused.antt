@@ -26,7 +26,7 @@ RefusedAdd = (w : Writer) (r : Rec) (buffer : List ℕ) (k : ℕ) →
 abbrev pub RefusedFinish : Type 0
 RefusedFinish = (w : Writer) (padding : ℕ) (buffer output : List ℕ) (k : ℕ) →
     let o = finish_of w padding buffer output in
-    finished_number o.0 ≡ suc k → (finished_count o.0 ≡ 0) × (finished_writer w o.0 ≡ w) × (o.1 ≡ output)
+    finished_number o.0 ≡ suc k → (finished_count o.0 ≡ 0) × (finished_writer o.0 ≡ w) × (o.1 ≡ output)
 
 -- The count that adding reports is what the writer has more in its buffer, refused or not.
 abbrev pub AddCounts : Type 0

@@ -18,7 +18,7 @@ pub data Adds : Writer → List ℕ → List Rec → Writer → List ℕ → Typ
   declined : {w w' : Writer} {b b' : List ℕ} {rs : List Rec} {k : ℕ} (r : Rec) → added_number (add_of w r b).0 ≡ suc k
       → Adds (added_writer (add_of w r b).0) (add_of w r b).1 rs w' b' → Adds w b rs w' b'
   finished : {w w' : Writer} {b b' : List ℕ} {rs : List Rec} (padding : ℕ) (output : List ℕ)
-      → Adds (finished_writer w (finish_of w padding b output).0) b rs w' b' → Adds w b rs w' b'
+      → Adds (finished_writer (finish_of w padding b output).0) b rs w' b' → Adds w b rs w' b'
 
 -- A writer is begun, takes the records into a buffer that held anything, and is finished into an output that held anything:
 -- the part that the count reports is the tag.

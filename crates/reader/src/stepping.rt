@@ -8,33 +8,34 @@ use format::refusals::Refusal;
 use walk::record::frame_at;
 
 impl Reader {
-    // What a running reader answers where this is at its place.
+    // What a running reader answers where this is at its place, with the moved reader.
     fn answer(
-        &mut self,
+        self,
         shown: Result<Option<(Record, usize)>, Refusal>,
-    ) -> Result<Option<Record>, Refusal>
-        ensures { (result, self.new) ≡ answer_of shown self.old }
+    ) -> (Result<Option<Record>, Refusal>, Reader)
+        ensures { result ≡ answer_of shown self }
     {
+        let mut moved = self;
         match shown {
             Ok(Some((record, next))) => {
-                self.at = next;
-                self.stop = Stop::Running;
-                Ok(Some(record))
+                moved.at = next;
+                moved.stop = Stop::Running;
+                (Ok(Some(record)), moved)
             }
             Ok(None) => {
-                self.stop = Stop::Ended;
-                Ok(None)
+                moved.stop = Stop::Ended;
+                (Ok(None), moved)
             }
             Err(k) => {
-                self.stop = Stop::Failed(k);
-                Err(k)
+                moved.stop = Stop::Failed(k);
+                (Err(k), moved)
             }
         }
     }
 
     // A step of a running reader.
-    fn go(&mut self, work: &mut [u8], tag: &[u8]) -> Result<Option<Record>, Refusal>
-        ensures { ((result, self.new), work.new) ≡ run_step self.old.in_work self.old tag.now work.old }
+    fn go(self, work: &mut [u8], tag: &[u8]) -> (Result<Option<Record>, Refusal>, Reader)
+        ensures { (result, work.new) ≡ run_step self.in_work self tag.now work.old }
     {
         let shown = frame_at(
             work,
@@ -48,16 +49,16 @@ impl Reader {
         self.answer(shown)
     }
 
-    // Takes the next frame: its record, or nothing at the end, or a refusal. An ended reader stays ended, a refused one
-    // refused with its number.
+    // Takes the next frame: its record, or nothing at the end, or a refusal, with the moved reader. An ended reader stays
+    // ended, a refused one refused with its number.
     #[tactic(auto, using(crate::proofs::Steps::running, crate::proofs::Steps::ended, crate::proofs::Steps::failed))]
-    pub fn step(&mut self, work: &mut [u8], tag: &[u8]) -> Result<Option<Record>, Refusal>
-        ensures { ((result, self.new), work.new) ≡ step_of self.old tag.now work.old }
+    pub fn step(self, work: &mut [u8], tag: &[u8]) -> (Result<Option<Record>, Refusal>, Reader)
+        ensures { (result, work.new) ≡ step_of self tag.now work.old }
     {
         match self.stop {
             Stop::Running => self.go(work, tag),
-            Stop::Ended => Ok(None),
-            Stop::Failed(k) => Err(k),
+            Stop::Ended => (Ok(None), self),
+            Stop::Failed(k) => (Err(k), self),
         }
     }
 }

@@ -1,6 +1,7 @@
 // Reading the cases of writing: what a case says, and its records. Their layout stands in tests/records.py.
 #![tactic(auto)]
 
+ghost use Rattle.std.specs.Prelude.{◌≡◌, min, take};
 ghost use Rattle.std.specs.Io.{ReadsAtMost};
 
 use format::{Fields, Given, Heading};
@@ -125,8 +126,10 @@ struct Part<T> {
 
 impl<T> Part<T> {
     // Those that are there.
-    fn lent(&self) -> &[T] {
-        &self.space[..self.space.len().min(self.len)]
+    fn lent(&self) -> &[T]
+        ensures { result.now ≡ take (min self.now.len 4096) self.now.space }
+    {
+        &self.space[..self.len.min(self.space.len())]
     }
 }
 
@@ -140,8 +143,37 @@ pub struct Parts {
 }
 
 impl Parts {
+    // Nothing yet.
+    pub fn new() -> Parts
+        ensures { (result.name.len ≡ 0) × ((result.names.len ≡ 0) × ((result.rest.len ≡ 0) × (result.deviations.len ≡ 0))) }
+    {
+        Parts {
+            name: Part {
+                space: [0u8; 4096],
+                len: 0,
+            },
+            names: Part {
+                space: [0u8; 4096],
+                len: 0,
+            },
+            rest: Part {
+                space: [0u8; 4096],
+                len: 0,
+            },
+            deviations: Part {
+                space: [0u32; 4096],
+                len: 0,
+            },
+        }
+    }
+
     // It, as it is given to a call.
-    pub fn given(&self) -> Given<'_> {
+    pub fn given(&self) -> Given<'_>
+        ensures name { result.name.now ≡ take (min self.now.name.len 4096) self.now.name.space }
+        ensures names { result.names.now ≡ take (min self.now.names.len 4096) self.now.names.space }
+        ensures rest { result.rest.now ≡ take (min self.now.rest.len 4096) self.now.rest.space }
+        ensures deviations { result.deviations.now ≡ take (min self.now.deviations.len 4096) self.now.deviations.space }
+    {
         Given {
             name: self.name.lent(),
             names: self.names.lent(),
@@ -152,27 +184,23 @@ impl Parts {
 }
 
 // The next number and as many bytes.
-fn next_part<R: Read>(from: &mut R) -> io::Result<Part<u8>> {
-    let mut space = [0u8; 4096];
+fn next_part<R: Read>(from: &mut R, part: &mut Part<u8>) -> io::Result<()> {
     let n = next_u32(from)?;
-    let len = next_bytes(from, &mut space, n)?;
-    Ok(Part { space, len })
+    part.len = next_bytes(from, &mut part.space, n)?;
+    Ok(())
 }
 
 // The next number and as many numbers.
-fn next_deviations<R: Read>(from: &mut R) -> io::Result<Part<u32>> {
-    let mut space = [0u32; 4096];
+fn next_deviations<R: Read>(from: &mut R, part: &mut Part<u32>) -> io::Result<()> {
     let n = next_u32(from)?;
-    let len = next_numbers(from, &mut space, n)?;
-    Ok(Part { space, len })
+    part.len = next_numbers(from, &mut part.space, n)?;
+    Ok(())
 }
 
-// What comes with the heading that was read.
-pub fn next_parts<R: Read>(from: &mut R) -> io::Result<Parts> {
-    Ok(Parts {
-        name: next_part(from)?,
-        names: next_part(from)?,
-        rest: next_part(from)?,
-        deviations: next_deviations(from)?,
-    })
+// Puts what comes with the heading that was read where it is to stay, since it is too large to be moved about.
+pub fn next_parts<R: Read>(from: &mut R, parts: &mut Parts) -> io::Result<()> {
+    next_part(from, &mut parts.name)?;
+    next_part(from, &mut parts.names)?;
+    next_part(from, &mut parts.rest)?;
+    next_deviations(from, &mut parts.deviations)
 }

@@ -9,6 +9,7 @@ use loads::read32;
 use std::io;
 use std::io::{Read, Write};
 use streams::read_full;
+use test_cases::{Parts, next_parts};
 use test_prints::input::{next_bytes, next_u8, next_u32, next_u64};
 use test_prints::{decimal, hex, say, sums};
 
@@ -61,7 +62,8 @@ fn put_next<R: Read, W: Write>(
     number: usize,
 ) -> io::Result<()> {
     let heading = test_cases::next_heading(from)?;
-    let parts = test_cases::next_parts(from)?;
+    let mut parts = Parts::new();
+    next_parts(from, &mut parts)?;
     let answer = put(tag, last, number, heading, &parts.given());
     edited(to, answer)
 }

@@ -11,7 +11,7 @@ use same::is_same;
 use std::io;
 use std::io::{Read, Write};
 use streams::read_full;
-use test_cases::Case;
+use test_cases::{Case, Parts, next_parts};
 use test_prints::{decimal, either, say};
 
 // The number of a refusal.
@@ -68,7 +68,8 @@ fn trip_next<R: Read, W: Write>(
     case: Case,
 ) -> io::Result<()> {
     let heading = test_cases::next_heading(from)?;
-    let parts = test_cases::next_parts(from)?;
+    let mut parts = Parts::new();
+    next_parts(from, &mut parts)?;
     trip(to, buffer, output, work, case, heading, &parts.given())
 }
 

@@ -10,7 +10,7 @@ use print::is_kept;
 use std::io;
 use std::io::{Read, Write};
 use streams::read_full;
-use test_cases::Case;
+use test_cases::{Case, Parts, next_parts};
 use test_prints::{decimal, say};
 use writer::Writer;
 
@@ -24,7 +24,9 @@ fn add<W: Write>(
     given: &Given<'_>,
 ) -> io::Result<()> {
     let at = writer.used;
-    match writer.add(buffer, heading, given) {
+    let (added, next) = writer.add(buffer, heading, given);
+    *writer = next;
+    match added {
         Ok(n) => {
             let kept = is_kept(buffer, before, at, n);
             say(to, b"add accepted")?;
@@ -47,7 +49,8 @@ fn add_next<R: Read, W: Write>(
     writer: &mut Writer,
 ) -> io::Result<()> {
     let heading = test_cases::next_heading(from)?;
-    let parts = test_cases::next_parts(from)?;
+    let mut parts = Parts::new();
+    next_parts(from, &mut parts)?;
     add(to, buffer, before, writer, heading, &parts.given())
 }
 
@@ -63,7 +66,7 @@ fn finish<W: Write>(
     before: &[u8],
 ) -> io::Result<()> {
     let lent = buffer.len().min(case.lent as usize);
-    let finished = writer.finish(output, &buffer[..lent], case.padding as usize);
+    let (finished, writer) = writer.finish(output, &buffer[..lent], case.padding as usize);
     let same = is_kept(buffer, before, 0, 0);
     match finished {
         Ok(n) => {

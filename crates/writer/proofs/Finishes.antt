@@ -215,18 +215,27 @@ module _ (w : Writer) (padding : ℕ) (buffer output : List ℕ) where
   whole_tag = tag_of w.version w.mode padding there
 
   pub finish_long : leb (2 ^ 28) (length (region_bytes w.version w.mode padding there)) ≡ true
-      → ◌≡◌ {A = Finishing} (Err (refusal 24), output) (finish_of w padding buffer output)
+      → ◌≡◌ {A = Finishing} ((Err (refusal 24), w), output) (finish_of w padding buffer output)
   unfolding finish_of
   finish_long e = rw e
 
   module _ (short : leb (2 ^ 28) (length (region_bytes w.version w.mode padding there)) ≡ false) where
-    pub finish_missing : length buffer < w.used → ◌≡◌ {A = Finishing} (Err (refusal 20), output) (finish_of w padding buffer output)
+    pub finish_missing : length buffer < w.used → ◌≡◌ {A = Finishing} ((Err (refusal 20), w), output) (finish_of w padding buffer output)
     unfolding finish_of
     finish_missing h = rw (short, lt-ltb (length buffer) w.used h)
 
     -- the tag is put, or refused for want of room
-    pub finish_put : w.used ≤ length buffer → placed_of whole_tag 0 output ≡ finish_of w padding buffer output
+    pub finish_put : w.used ≤ length buffer → {r : Result ℕ Refusal} {left : List ℕ} → ◌≡◌ {A = Out} (r, left) (placed_of whole_tag 0 output)
+        → ◌≡◌ {A = Finishing} ((r, w), left) (finish_of w padding buffer output)
     unfolding finish_of
-    finish_put all =
+    finish_put all e =
         let n : 0 + length whole_tag ≡ length whole_tag = omega arith in
-        rw (short, le-ltb (length buffer) w.used all, n)
+        ap {B = Finishing} (λ (o : Out). ((o.0, w), o.1)) e
+        ∙ rw (short, le-ltb (length buffer) w.used all, n) (on_room (ltb (length output) (length whole_tag)))
+      where
+        on_room : (t : Bool)
+            → ◌≡◌ {A = Finishing}
+            (let o : Out = pick t (Err (refusal 20), output) (Ok (length whole_tag), sets output 0 whole_tag) in ((o.0, w), o.1))
+            (pick t ((Err (refusal 20), w), output) ((Ok (length whole_tag), w), sets output 0 whole_tag))
+        on_room true = refl
+        on_room false = refl

@@ -88,21 +88,21 @@ skipped = refl
 -- ---- finishing
 
 finished : finishing (writer Id3v24 Crate false 2) 1 (1 ∷ 2 ∷ 3 ∷ []) (replicate 14 7)
-    ≡ (Ok 13, ascii "ID3" ++ (4 ∷ 0 ∷ 0x80 ∷ 0 ∷ 0 ∷ 0 ∷ 3 ∷ 1 ∷ 2 ∷ 0 ∷ 7 ∷ []))
+    ≡ ((Ok 13, writer Id3v24 Crate false 2), ascii "ID3" ++ (4 ∷ 0 ∷ 0x80 ∷ 0 ∷ 0 ∷ 0 ∷ 3 ∷ 1 ∷ 2 ∷ 0 ∷ 7 ∷ []))
 unfolding finishing writer
 finished = refl
 
 small_output : finishing (writer Id3v24 Crate false 2) 1 (1 ∷ 2 ∷ 3 ∷ []) (replicate 12 7)
-    ≡ (Err (refusal 20), replicate 12 7)
+    ≡ ((Err (refusal 20), writer Id3v24 Crate false 2), replicate 12 7)
 unfolding finishing writer
 small_output = refl
 
 short_buffer : finishing (writer Id3v24 Crate false 4) 1 (1 ∷ 2 ∷ 3 ∷ []) (replicate 20 7)
-    ≡ (Err (refusal 20), replicate 20 7)
+    ≡ ((Err (refusal 20), writer Id3v24 Crate false 4), replicate 20 7)
 unfolding finishing writer
 short_buffer = refl
 
 -- padding of 2^28 bytes or more, whatever the frames
-too_long_lem : (n : ℕ) → 2 ^ 28 ≤ n → finish_of (writer Id3v24 Off false 0) n [] [] ≡ (Err (refusal 24), [])
+too_long_lem : (n : ℕ) → 2 ^ 28 ≤ n → finish_of (writer Id3v24 Off false 0) n [] [] ≡ ((Err (refusal 24), writer Id3v24 Off false 0), [])
 unfolding finish_of writer
 too_long_lem n h = simp (length-replicate, le-leb (2 ^ 28) n h)

@@ -1,7 +1,7 @@
 -- Document 01's number and values for every case of each answer: number 0 is no refusal, and a refused call has count 0 (document 01, "Refusal numbers"). Assumes nothing.
 use Rattle.std.specs.Prelude.{ℕ, List, [], ◌∷◌, Result, Ok, Err}
 use Rattle.writer.specs.declared.Writer.{Writer}
-use Rattle.writer.specs.Writer.{Added}
+use Rattle.writer.specs.Writer.{Added, Finished}
 use Rattle.format.specs.declared.refusals.Refusal.{Refusal}
 
 -- ---- beginning: the number, and none or one writer
@@ -28,15 +28,16 @@ abbrev pub added_writer : Added → Writer
 added_writer (Ok n, w) = w
 added_writer (Err k, w) = w
 
--- ---- finishing: the number, the count and the writer, which it only looks at
+-- ---- finishing: the number, the count and the writer
 
-abbrev pub finished_number : Result ℕ Refusal → ℕ
-finished_number (Ok n) = 0
-finished_number (Err k) = k.number
+abbrev pub finished_number : Finished → ℕ
+finished_number (Ok n, w) = 0
+finished_number (Err k, w) = k.number
 
-abbrev pub finished_count : Result ℕ Refusal → ℕ
-finished_count (Ok n) = n
-finished_count (Err k) = 0
+abbrev pub finished_count : Finished → ℕ
+finished_count (Ok n, w) = n
+finished_count (Err k, w) = 0
 
-abbrev pub finished_writer : Writer → Result ℕ Refusal → Writer
-finished_writer w x = w
+abbrev pub finished_writer : Finished → Writer
+finished_writer (Ok n, w) = w
+finished_writer (Err k, w) = w

@@ -50,13 +50,17 @@ add_of w r buffer =
 
 -- ---- finishing: 24 on the frames that are there, then 20
 
+-- how long the tag is, or a refusal, with the writer, which finishing does not change
+abbrev pub Finished : Type 0
+Finished = Result ℕ Refusal × Writer
+
 abbrev pub Finishing : Type 0
-Finishing = Result ℕ Refusal × List ℕ
+Finishing = Finished × List ℕ
 
 unfoldable pub finish_of : Writer → ℕ → List ℕ → List ℕ → Finishing
 finish_of w padding buffer output =
     let frames = take w.used buffer in
     let tag = tag_of w.version w.mode padding frames in
-    pick (leb (2 ^ 28) (length (region_bytes w.version w.mode padding frames))) (Err (refusal 24), output)
-    (pick (ltb (length buffer) w.used || ltb (length output) (length tag)) (Err (refusal 20), output)
-    (Ok (length tag), sets output 0 tag))
+    pick (leb (2 ^ 28) (length (region_bytes w.version w.mode padding frames))) ((Err (refusal 24), w), output)
+    (pick (ltb (length buffer) w.used || ltb (length output) (length tag)) ((Err (refusal 20), w), output)
+    ((Ok (length tag), w), sets output 0 tag))

@@ -52,17 +52,16 @@ impl Writer {
         Ok(n)
     }
 
-    // Adds a record as a frame: refused with nothing changed, skipped where an altered file loses it, or put after the frames
-    // there. The answer is how many bytes it took. It also tells that the heading's numbers are of their types, which a caller
-    // cannot see inside an enum.
+    // Takes a record as a frame: refused with nothing changed, skipped where an altered file loses it, or put after the frames
+    // there.
     #[tactic(auto, using(crate::proofs::Adds::skipped, crate::proofs::Adds::appended, crate::proofs::Lengths::size_refusal_lem))]
-    pub fn add(
+    fn take(
         &mut self,
         buffer: &mut [u8],
         heading: Heading,
         given: &Given<'_>,
     ) -> Result<usize, Refusal>
-        ensures added { ((result, self.new), buffer.new) ≡ add_of self.old (given_rec heading given.now) buffer.old }
+        ensures taken { ((result, self.new), buffer.new) ≡ add_of self.old (given_rec heading given.now) buffer.old }
         ensures fits { Fits (given_content heading.fields given.now) }
     {
         record_check(self.version, heading, given)?;
@@ -72,5 +71,21 @@ impl Writer {
         let size = measure_frame(self.version, self.mode, heading, given);
         size_check(self.version, size)?;
         self.append(buffer, heading, given, size)
+    }
+
+    // Adds a record as a frame: how many bytes it took, with the next writer; 0 where an altered file loses it. A refused call
+    // changes nothing. It also tells that the heading's numbers are of their types, which a caller cannot see inside an enum.
+    pub fn add(
+        self,
+        buffer: &mut [u8],
+        heading: Heading,
+        given: &Given<'_>,
+    ) -> (Result<usize, Refusal>, Writer)
+        ensures added { (result, buffer.new) ≡ add_of self (given_rec heading given.now) buffer.old }
+        ensures fits { Fits (given_content heading.fields given.now) }
+    {
+        let mut next = self;
+        let taken = next.take(buffer, heading, given);
+        (taken, next)
     }
 }

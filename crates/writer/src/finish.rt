@@ -110,17 +110,24 @@ fn put_tag(
 }
 
 impl Writer {
-    // Finishes a tag at the front of the output, and answers its length. A refused call leaves the output as it was.
-    #[tactic(auto, using(crate::proofs::Finishes::finish_long, crate::proofs::Finishes::finish_missing, crate::proofs::Finishes::finish_put))]
-    pub fn finish(&self, output: &mut [u8], buffer: &[u8], padding: usize) -> Result<usize, Refusal>
-        ensures { (result, output.new) ≡ finish_of self.now padding buffer.now output.old }
+    // Finishes a tag at the front of the output: its length, with the writer, which stays as it was. A refused call leaves the
+    // output as it was.
+    #[tactic(auto, using(crate::proofs::Finishes::finish_long, crate::proofs::Finishes::finish_missing))]
+    pub fn finish(
+        self,
+        output: &mut [u8],
+        buffer: &[u8],
+        padding: usize,
+    ) -> (Result<usize, Refusal>, Writer)
+        ensures { (result, output.new) ≡ finish_of self padding buffer.now output.old }
     {
         if is_too_long(buffer, self.used, self.version, self.mode, padding) {
-            return Err(TOO_LONG);
+            return (Err(TOO_LONG), self);
         }
         if buffer.len() < self.used {
-            return Err(NO_ROOM);
+            return (Err(NO_ROOM), self);
         }
-        put_tag(output, buffer, self.used, self.version, self.mode, padding)
+        let put = put_tag(output, buffer, self.used, self.version, self.mode, padding);
+        (put, self)
     }
 }

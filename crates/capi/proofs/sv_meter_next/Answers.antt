@@ -6,4 +6,4 @@ use Rattle.capi.proofs.sv_meter_next.Goals as goal
 pub returns : goal.returns
 returns c =
     next_then _ _ _ _ c.if-meter-metered.false (sym c.try_from.ensures ∙ c.in-Ok.is) (sym c.is_running.ensures ∙ c.if-not-is_running.false)
-    c.running-moved.ensures c.next-next.ensures c.answered.ensures
+    c.running.ensures c.next-next.ensures c.answered.ensures

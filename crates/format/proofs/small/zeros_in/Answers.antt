@@ -1,12 +1,23 @@
--- The bytes that the test keeps are the zeros.
-use Rattle.std.proofs.Common.{◌∙◌, eqb, rules, tests}
-use Rattle.std.proofs.lemmas.Iterator.{YieldsList-from_slice}
-use Rattle.std.proofs.lemmas.Iterator.Consumers.{YieldsList-from_filter, count_from_yields_List}
-use Rattle.format.proofs.Zeros.{zeros_kept}
+-- A zero counts, and another byte does not.
+use Rattle.std.proofs.Common.{◌≡◌, ◌+◌, ap, arith}
+use Rattle.laws.proofs.Pieces.{drop_none}
+use Rattle.format.specs.Bytes.{zeros_in}
+use Rattle.format.proofs.Zeros.{zero_counts, other_counts_not}
 use Rattle.format.proofs.small.zeros_in.Goals as goal
+use Rattle.format.proofs.small.zeros_in.Goals.{then-x-eq0, else-x-eq0}
+
+pub loop-x-preserved : goal.loop-x-preserved
+loop-x-preserved c =
+    let s = c.args.s.now in
+    let i = c.loop-x.x-index in
+    let there = c.loop-x-test.true in
+    elim c.if-x-eq0.branch [
+      | then-x-eq0 w ↦ record { few = omega arith; counted = omega (arith, zero_counts s i there w.if-x-eq0.true) }
+      | else-x-eq0 w ↦ record { few = omega arith; counted = omega (arith, other_counts_not s i there w.if-x-eq0.false) }
+    ]
 
 pub returns : goal.returns
+unfolding zeros_in
 returns c =
-    let s = c.args.s.now in
-    count_from_yields_List _ _ c.count.ensures.ran (YieldsList-from_filter _ (λ x. eqb x 0) (YieldsList-from_slice s cc) c.filter.ensures.closure (λ x r q k. search (rules, tests)))
-    ∙ zeros_kept s
+    let e = ap zeros_in (drop_none c.args.s.now c.loop-x.x-index c.loop-x-test.false) in
+    omega (arith, e, c.loop-x.invariant.counted)

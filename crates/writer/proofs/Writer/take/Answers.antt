@@ -6,10 +6,10 @@ use Rattle.format.specs.Refusals.{passed}
 use Rattle.writer.proofs.Layouts.{puttable}
 use Rattle.writer.proofs.Lengths.{size_refusal_lem, exact_size}
 use Rattle.writer.proofs.Adds.{refused, too_long}
-use Rattle.writer.proofs.Writer.add.Goals as goal
+use Rattle.writer.proofs.Writer.take.Goals as goal
 
-pub returns-in_err-record_check-clause-added : goal.returns-in_err-record_check-clause-added
-returns-in_err-record_check-clause-added c =
+pub returns-in_err-record_check-clause-taken : goal.returns-in_err-record_check-clause-taken
+returns-in_err-record_check-clause-taken c =
     let a = c.args in
     let r = given_rec a.heading a.given.now in
     let p = err_from_is_err_and c.from_residual.result c.from_residual.ensures.1 in
@@ -21,8 +21,8 @@ measure_frame-size-requires c =
     let r = given_rec a.heading a.given.now in
     puttable a.self.now.version r c.in_ok-record_check.ensures
 
-pub returns-in_err-size_check-clause-added : goal.returns-in_err-size_check-clause-added
-returns-in_err-size_check-clause-added c =
+pub returns-in_err-size_check-clause-taken : goal.returns-in_err-size_check-clause-taken
+returns-in_err-size_check-clause-taken c =
     let a = c.args in
     let w = a.self.now in
     let r = given_rec a.heading a.given.now in
