@@ -1,26 +1,21 @@
 -- Where a text or a name ends, at places of a slice. Assumes nothing.
 use mathlib.Core.Path.{◌≡◌, refl, sym, ap, ◌∙◌}
-use Prim.Native.Nat.{ℕ, zero, suc, ◌+◌, ◌*◌, ◌/◌, ◌%◌, ◌≤◌, ◌<◌}
+use Prim.Native.Nat.{ℕ, zero, suc, ◌+◌, ◌-◌, ◌*◌, ◌/◌, ◌%◌, ◌≤◌, ◌<◌, min}
 use native.Mathlib.Omega.{arith}
-use mathlib.Core.Bool.{Bool, true, false, not, ◌&&◌}
-use mathlib.Core.List.{List, [], ◌∷◌, ◌++◌}
-use lib.ListN.{length, drop, get_or, length-drop, length-append}
+use mathlib.Core.Bool.{Bool, true, false, ◌&&◌}
+use mathlib.Core.List.{List, [], ◌∷◌}
+use lib.ListN.{length, drop, get_or, length-drop}
 use native.Mathlib.Numerals.{add-one}
-use native.Mathlib.Nat.{add-zero, add-suc}
+use native.Mathlib.Nat.{add-zero}
 use Rattle.std.proofs.lemmas.List.{get_or-drop}
-use lib.Dec.{eqb, leb, eqb-suc-zero}
-use denote.Ref.{Bor}
-use denote.Param.Members.{Mut, Called}
-use borrow.Author.Tests.{eq-eqb, ne_eqb, le-leb, lt-leb}
-use Rattle.std.specs.Slice.Iter.{chunks_exact_size, chunks_exact_rest}
-use Rattle.std.specs.Slice.Exact.{chunks_exact_steps_back}
-use Rattle.std.specs.Iterator.{Yields, YieldsThen}
-use Rattle.std.specs.List.{IsSubsliceAt, FoldsTo}
-use Rattle.std.specs.Prelude.{Option, Some, None, IsSomeAnd, IfSome, MatchOption}
+use lib.Dec.{eqb, eqb-suc-zero}
+use borrow.Author.Tests.{eq-eqb, ne_eqb}
+use Rattle.std.specs.List.{IsSubsliceAt}
+use Rattle.std.specs.Prelude.{Option, Some, None, IsSomeAnd, IfSome}
 use Rattle.std.specs.Option.{option_map}
 use Rattle.laws.proofs.Bools.{and_false}
-use Rattle.laws.proofs.Cuts.{drop_next}
-use Rattle.format.specs.Bytes.{pick, zero_at}
+use Rattle.laws.proofs.Cuts.{drop_next, drop_pair}
+use Rattle.format.specs.Bytes.{zero_at}
 use Rattle.format.specs.Text.{zero_pair_at, trimmed, trimmed_pairs, closing, closing_pairs}
 
 -- ---- items that are there
@@ -143,92 +138,55 @@ pairs_none [] h = refl
 pairs_none (x ∷ []) h = refl
 pairs_none (x ∷ y ∷ s) h = absurd (omega arith)
 
--- whether both bytes of a chunk are zero
-abbrev pub is_zero_pair : List ℕ → Bool
-is_zero_pair x = eqb (get_or x 0 0) 0 && eqb (get_or x 1 0) 0
-
--- the last pair of a list, after an even number of bytes and before one byte at most
-trim_pair : (r x after : List ℕ) → length r % 2 ≡ 0 → length x ≡ 2 → length after < 2
-    → trimmed_pairs ((r ++ x) ++ after) ≡ pick (is_zero_pair x) (trimmed_pairs r) (length r + 2)
+-- one zero pair more
+pub pairs_zero : (i : ℕ) (s : List ℕ) → 1 < i → i ≤ length s → trimmed_pairs (drop i s) ≡ 0
+    → true ≡ (eqb (get_or s (i - 2) 0) 0 && eqb (get_or s (i - 1) 0) 0) → trimmed_pairs (drop (i - 2) s) ≡ 0
 unfolding trimmed_pairs
-trim_pair [] [] after even two few = absurd (omega arith)
-trim_pair [] (a ∷ []) after even two few = absurd (omega arith)
-trim_pair [] (a ∷ b ∷ []) after even two few =
-    rw (pairs_none after few) (elim (eqb a 0 && eqb b 0) as (λ (z : Bool). ◌≡◌ {A = ℕ} (pick (z && true) 0 2) (pick z 0 2)) [ true ↦ refl | false ↦ refl ])
-trim_pair [] (a ∷ b ∷ c ∷ x) after even two few = absurd (omega arith)
-trim_pair (c ∷ []) x after even two few = absurd (omega arith)
-trim_pair (c ∷ d ∷ r) x after even two few =
-    let e = trim_pair r x after (omega arith) two few in
-    rw e
-    (elim (is_zero_pair x) as (λ (b : Bool). let n = pick b (trimmed_pairs r) (length r + 2) in
-    pick ((eqb c 0 && eqb d 0) && eqb n 0) 0 (suc (suc n)) ≡ pick b (trimmed_pairs (c ∷ d ∷ r)) (suc (suc (length r)) + 2)) [
-      | true ↦ refl
-      | false ↦ rw (add-suc, eqb-suc-zero, and_false) (omega arith)
-    ])
+pairs_zero i s pos le rest z =
+    let lt : i - 2 + 1 < length s = omega arith in
+    let e : i - 2 + 2 ≡ i = omega arith in
+    let f : i - 2 + 1 ≡ i - 1 = omega arith in
+    rw (drop_pair s (i - 2) lt, f, ← z, e, rest)
 
--- it is the place after the last pair that is not zero, unless that is the first pair, or none
-closing_pairs_is : (s : List ℕ) → closing_pairs s ≡ pick (leb (trimmed_pairs s) 2) (length s) (trimmed_pairs s)
-unfolding closing_pairs trimmed_pairs
-closing_pairs_is [] = refl
-closing_pairs_is (x ∷ []) = refl
-closing_pairs_is (x ∷ y ∷ s) =
-    elim (trimmed_pairs s) as (λ (n : ℕ). pick (eqb n 0) (suc (suc (length s))) (suc (suc n)) ≡ pick (leb (pick ((eqb x 0 && eqb y 0) && eqb n 0) 0 (suc (suc n))) 2) (suc (suc (length s))) (pick ((eqb x 0 && eqb y 0) && eqb n 0) 0 (suc (suc n)))) [
-      | zero ↦
-          elim (eqb x 0 && eqb y 0) as (λ (z : Bool). suc (suc (length s)) ≡ pick (leb (pick (z && true) 0 2) 2) (suc (suc (length s))) (pick (z && true) 0 2)) [
-            | true ↦ refl
-            | false ↦ refl
-          ]
-      | suc n ↦ rw (eqb-suc-zero, and_false, lt-leb (suc (suc (suc n))) 2 (omega arith))
-    ]
+-- an even place, as pairs are counted
+abbrev twice : ℕ → ℕ
+twice zero = zero
+twice (suc k) = suc (suc (twice k))
 
-pub closing_pairs_kept : (s : List ℕ) (n : ℕ) → trimmed_pairs s ≡ n → 2 < n → n ≡ closing_pairs s
-closing_pairs_kept s n e more = sym (rw (closing_pairs_is, e, lt-leb n 2 more))
+twice_half : (k : ℕ) → twice k ≡ k * 2
+twice_half zero = refl
+twice_half (suc k) = omega (arith, twice_half k)
 
-pub closing_pairs_none : (s : List ℕ) → trimmed_pairs s ≤ 2 → length s ≡ closing_pairs s
-closing_pairs_none s few = rw (closing_pairs_is, le-leb (trimmed_pairs s) 2 few)
+-- the last pair that is not zero
+pairs_kept : (k : ℕ) (s : List ℕ) → suc (twice k) < length s → trimmed_pairs (drop (twice (suc k)) s) ≡ 0
+    → false ≡ (eqb (get_or s (twice k) 0) 0 && eqb (get_or s (suc (twice k)) 0) 0) → trimmed_pairs s ≡ twice (suc k)
+unfolding trimmed_pairs
+pairs_kept k [] lt rest z = absurd (omega arith)
+pairs_kept k (x ∷ []) lt rest z = absurd (omega arith)
+pairs_kept zero (x ∷ y ∷ s) lt rest z = rw (← z, rest)
+pairs_kept (suc k) (x ∷ y ∷ s) lt rest z = rw (pairs_kept k s (omega arith) rest z, eqb-suc-zero, and_false)
 
--- `rposition` over chunks of two bytes: from the back, until one is no zero pair
-one_off : (s : _) (x : Bor (List ℕ)) (t : _) → chunks_exact_size {T = ℕ} s ≡ 2 → chunks_exact_steps_back s (Some x) t
-    → (trimmed_pairs (chunks_exact_rest s) ≡ pick (is_zero_pair x.now) (trimmed_pairs (chunks_exact_rest t)) (2 * (length (chunks_exact_rest s) / 2)))
-    × (length (chunks_exact_rest t) / 2 + 1 ≡ length (chunks_exact_rest s) / 2)
-one_off s x t two y =
-    let two_long : length x.now ≡ 2 = y.2.2 ∙ two in
-    let few : length y.2.0 ≡ length (chunks_exact_rest s) % 2 = rw two at y.2.3 in
-    let long : length (chunks_exact_rest s) ≡ length (chunks_exact_rest t) + 2 + length y.2.0 = ap length y.2.1 ∙ simp (length-append, two_long) in
-    let half : length (chunks_exact_rest t) + 2 ≡ 2 * (length (chunks_exact_rest s) / 2) = omega arith in (
-      ap trimmed_pairs y.2.1
-          ∙ trim_pair (chunks_exact_rest t) x.now y.2.0 (omega arith) two_long (omega arith)
-          ∙ ap (pick (is_zero_pair x.now) (trimmed_pairs (chunks_exact_rest t))) half,
-      omega arith,
-    )
+closing_pairs_at : (k : ℕ) (s : List ℕ) → suc (twice (suc k)) < length s → trimmed_pairs (drop (twice (suc (suc k))) s) ≡ 0
+    → false ≡ (eqb (get_or s (twice (suc k)) 0) 0 && eqb (get_or s (suc (twice (suc k))) 0) 0) → closing_pairs s ≡ twice (suc (suc k))
+unfolding closing_pairs
+closing_pairs_at k [] lt rest z = absurd (omega arith)
+closing_pairs_at k (x ∷ []) lt rest z = absurd (omega arith)
+closing_pairs_at k (x ∷ y ∷ s) lt rest z = rw (pairs_kept k s (omega arith) rest z, eqb-suc-zero)
 
-module _ {F : Type 0} (g : Mut F (Bor (List ℕ) × Unit {0}) Bool) (calls : (p : F) (x : Bor (List ℕ)) (b : Bool) (q : F) → Called g p (x, tt) b q → is_zero_pair x.now ≡ not b) where
-  zeros_off : (xs : List (Bor (List ℕ))) (s t : _) (f j : F) → chunks_exact_size {T = ℕ} s ≡ 2 → Yields chunks_exact_steps_back s xs t → FoldsTo (λ p x q. Called g p (x, tt) false q) f xs j
-      → (chunks_exact_size t ≡ 2) × (trimmed_pairs (chunks_exact_rest s) ≡ trimmed_pairs (chunks_exact_rest t)) × (length (chunks_exact_rest t) / 2 + length xs ≡ length (chunks_exact_rest s) / 2)
-  zeros_off [] s t f j two y folds = (ap chunks_exact_size (sym y) ∙ two, ap (λ (s : _). trimmed_pairs (chunks_exact_rest {T = ℕ} s)) y, omega (arith, ap (λ (s : _). length (chunks_exact_rest {T = ℕ} s)) y))
-  zeros_off (x ∷ xs) s t f j two y folds =
-      let off = one_off s x y.0 two y.1 in
-      let more = zeros_off xs y.0 t folds.0 j (y.1.0 ∙ two) y.2 folds.2 in
-      (more.0, off.0 ∙ rw (calls f x false folds.0 folds.1) more.1, omega (arith, off.1, more.2))
+pub closing_pairs_kept : (i : ℕ) (s : List ℕ) → 2 < i → i % 2 ≡ 0 → i ≤ length s → trimmed_pairs (drop i s) ≡ 0
+    → false ≡ (eqb (get_or s (i - 2) 0) 0 && eqb (get_or s (i - 1) 0) 0) → closing_pairs s ≡ i
+closing_pairs_kept i s pos even le rest z =
+    let k : ℕ = (i - 4) / 2 in
+    let e : twice (suc (suc k)) ≡ i = omega (arith, twice_half k) in
+    let f : i - 2 ≡ twice (suc k) = omega (arith, twice_half k) in
+    let g : i - 1 ≡ suc (twice (suc k)) = omega (arith, twice_half k) in
+    closing_pairs_at k s (omega arith) (ap (λ (n : ℕ). trimmed_pairs (drop n s)) e ∙ rest) (rw (f, g) at z) ∙ e
 
-module _ {F : Type 0} {g : Mut F (Bor (List ℕ) × Unit {0}) Bool} (s u : _) (f : F) (two : chunks_exact_size {T = ℕ} s ≡ 2) where
-  pub trim_found : (k : ℕ)
-      → (xs : List (Bor (List ℕ))) × (o : Option (Bor (List ℕ))) × (j : F) × YieldsThen chunks_exact_steps_back s xs o u × FoldsTo (λ p x q. Called g p (x, tt) false q) f xs j
-      × MatchOption o (Some k ≡ None) (λ x. (k + 1 + length xs ≡ length (chunks_exact_rest s) / chunks_exact_size s) × ((h : F) × Called g j (x, tt) true h))
-      → ((p : F) (x : Bor (List ℕ)) (b : Bool) (q : F) → Called g p (x, tt) b q → is_zero_pair x.now ≡ not b)
-      → trimmed_pairs (chunks_exact_rest s) ≡ 2 * k + 2
-  trim_found k (xs, None, j, y, folds, end) calls = absurd cc
-  trim_found k (xs, Some x, j, y, folds, end) calls =
-      let all = zeros_off g calls xs s y.0 f j two y.1 folds in
-      let off = one_off y.0 x u all.0 y.2 in
-      let place = rw two at end.0 in
-      all.1 ∙ off.0 ∙ rw (calls j x true end.1.0 end.1.1) (omega (arith, all.2, place))
-
-  pub trim_lost : (xs : List (Bor (List ℕ))) × (o : Option (Bor (List ℕ))) × (j : F) × YieldsThen chunks_exact_steps_back s xs o u × FoldsTo (λ p x q. Called g p (x, tt) false q) f xs j
-      × MatchOption o (◌≡◌ {A = Option ℕ} None None) (λ x. ⊥ × ((h : F) × Called g j (x, tt) true h))
-      → ((p : F) (x : Bor (List ℕ)) (b : Bool) (q : F) → Called g p (x, tt) b q → is_zero_pair x.now ≡ not b)
-      → trimmed_pairs (chunks_exact_rest s) ≡ 0
-  trim_lost (xs, Some x, j, y, folds, end) calls = absurd end.0
-  trim_lost (xs, None, j, y, folds, end) calls =
-      let all = zeros_off g calls xs s y.0 f j two y.1 folds in
-      all.1 ∙ pairs_none (chunks_exact_rest y.0) (rw all.0 at y.2.2.0)
+pub closing_pairs_none : (i : ℕ) (s : List ℕ) → i ≤ 2 → i % 2 ≡ 0 → min 2 (length s) ≤ i + 1 → trimmed_pairs (drop i s) ≡ 0 → closing_pairs s ≡ length s
+unfolding closing_pairs
+closing_pairs_none i [] small even le rest = refl
+closing_pairs_none i (x ∷ []) small even le rest = refl
+closing_pairs_none i (x ∷ y ∷ s) small even le rest =
+    let e : 2 ≡ i = omega arith in
+    let none : trimmed_pairs s ≡ 0 = ap (λ (n : ℕ). trimmed_pairs (drop n (x ∷ y ∷ s))) e ∙ rest in
+    rw none

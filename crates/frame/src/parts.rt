@@ -22,7 +22,10 @@ pub fn zero_at(s: &[u8]) -> usize
 {
     // Kept: with position a popularimeter's parse is called and not put in; the meter misses 700 in 2.2 off (docs/SPEED.md).
     let mut i = 0;
-    while i < s.len() && s[i] != 0 {
+    while i < s.len() {
+        if s[i] == 0 {
+            return i;
+        }
         i += 1;
     }
     i

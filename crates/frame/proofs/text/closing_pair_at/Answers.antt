@@ -1,27 +1,30 @@
--- Only zero pairs come after the pair found, and perhaps an odd byte.
-use Rattle.std.proofs.Common.{◌≡◌, ◌+◌, ◌*◌, ◌∙◌, sym, ap, rules, tests, arith}
-use Rattle.format.specs.Text.{trimmed_pairs}
-use Rattle.frame.proofs.Ends.{trim_found, trim_lost, closing_pairs_kept, closing_pairs_none}
+-- The last pair that is not zero, or one zero pair more.
+use Rattle.std.proofs.Common.{ℕ, ◌-◌, ◌%◌, ◌∙◌, sym, length, drop, length-drop, arith}
+use Rattle.frame.proofs.Ends.{pairs_none, pairs_zero, closing_pairs_kept, closing_pairs_none}
 use Rattle.frame.proofs.text.closing_pair_at.Goals as goal
 
-pub returns-in-Some : goal.returns-in-Some
-returns-in-Some c =
-    let k = c.in-Some.k in
-    let chunks = c.chunks_exact.ensures in
-    let last = trim_found c.chunks_exact.result _ _ chunks.size k c.in-Some.ensures.ran (λ p x b q h. search (rules, tests)) in
-    closing_pairs_kept c.args.s.now (2 * k + 2) (ap trimmed_pairs (sym chunks.rest) ∙ last) (omega arith)
+pub loop-i-init : goal.loop-i-init
+loop-i-init c =
+    let s = c.args.s.now in
+    let i : ℕ = length s - length s % 2 in
+    record { within = omega arith; even = omega arith; least = omega arith; rest = pairs_none (drop i s) (omega (arith, length-drop i s)) }
 
-pub returns-in_default : goal.returns-in_default
-returns-in_default c =
-    let k = c.in-Some.k in
-    let chunks = c.chunks_exact.ensures in
-    let last = trim_found c.chunks_exact.result _ _ chunks.size k c.in-Some.ensures.ran (λ p x b q h. search (rules, tests)) in
-    let few : trimmed_pairs c.args.s.now ≡ 2 * k + 2 = ap trimmed_pairs (sym chunks.rest) ∙ last in
-    closing_pairs_none c.args.s.now (omega arith)
+pub returns-then-not-zero_pair : goal.returns-then-not-zero_pair
+returns-then-not-zero_pair c =
+    let v = c.loop-i.invariant in
+    sym (closing_pairs_kept c.loop-i.i c.args.s.now c.loop-i-test.true v.even v.within v.rest c.if-not-zero_pair.ensures)
 
-pub returns-in_default-2 : goal.returns-in_default-2
-returns-in_default-2 c =
-    let chunks = c.chunks_exact.ensures in
-    let last = trim_lost c.chunks_exact.result _ _ chunks.size c.in_default.ensures.ran (λ p x b q h. search (rules, tests)) in
-    let few : trimmed_pairs c.args.s.now ≡ 0 = ap trimmed_pairs (sym chunks.rest) ∙ last in
-    closing_pairs_none c.args.s.now (omega arith)
+pub loop-i-preserved : goal.loop-i-preserved
+loop-i-preserved c =
+    let v = c.loop-i.invariant in
+    record {
+      within = omega arith;
+      even = omega arith;
+      least = omega arith;
+      rest = pairs_zero c.loop-i.i c.args.s.now (omega arith) v.within v.rest (sym c.if-not-zero_pair.false ∙ c.zero_pair.ensures);
+    }
+
+pub returns : goal.returns
+returns c =
+    let v = c.loop-i.invariant in
+    sym (closing_pairs_none c.loop-i.i c.args.s.now c.loop-i-test.false v.even v.least v.rest)

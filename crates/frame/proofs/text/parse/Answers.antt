@@ -27,4 +27,4 @@ pub returns : goal.returns
 returns c =
     let b = c.part-b in
     accepted c.args.version Kind.Text c.args.from b.result.now _ b.ensures _ (text_known b.result.now (eqb-false _ 0 (sym c.is_empty.ensures ∙ c.if-is_empty.false)) (omega arith))
-    (text_parts c.args.version c.args.from b.result.now c.text_end.result c.nowhere-none.result c.text_end.ensures c.nowhere-none.ensures)
+    (text_parts c.args.version c.args.from b.result.now c.text_end-len.result c.nowhere-none.result c.text_end-len.ensures c.nowhere-none.ensures)
