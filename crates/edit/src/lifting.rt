@@ -89,9 +89,9 @@ pub(crate) fn lift_found(
 ) -> Result<u64, Refusal>
     ensures { (result, tag.new) ≡ lifted_at found.begin found.start found.stop found.counter found.last user.now amount tag.old }
 {
-    let raised = raise_at(tag, found.start, found.stop, found.counter, amount);
-    if raised != Err(COUNTER_TOO_SHORT) {
-        return raised;
+    match raise_at(tag, found.start, found.stop, found.counter, amount) {
+        Ok(value) => Ok(value),
+        Err(k) if k == COUNTER_TOO_SHORT => outgrow(tag, user, found, found.counter + amount),
+        Err(k) => Err(k),
     }
-    outgrow(tag, user, found, found.counter + amount)
 }

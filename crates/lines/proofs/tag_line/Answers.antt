@@ -7,3 +7,8 @@ pub whole-requires : goal.whole-requires
 whole-requires c =
     let a = c.args in
     (tag_line a.edition a.size a.flags a.ext, omega (arith, tag_length a.edition a.size a.flags a.ext), record { may = λ o p h. search rules; puts = λ o p r o' h. search rules })
+
+pub returns : goal.returns
+returns c =
+    let a = c.args in
+    c.whole.ensures (tag_line a.edition a.size a.flags a.ext) (record { may = λ o p h. search rules; puts = λ o p r o' h. search rules })
